@@ -1,0 +1,10 @@
+pub mod WellFounded
+pub mod Closure
+pub mod Trans
+pub mod Decide
+pub mod Clauses
+pub mod Fast
+pub mod Plain
+pub mod Examples
+pub mod Steps
+pub mod PathOrder
