@@ -1,0 +1,8 @@
+pub mod Disagree
+pub mod Correct
+pub mod More
+pub mod Unique
+pub mod Solver
+pub mod Common
+pub mod Examples
+pub mod Limits
