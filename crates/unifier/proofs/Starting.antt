@@ -1,0 +1,240 @@
+-- How unification begins: where subterms end, the first classes, no sizes. Assumes nothing.
+use mathlib.Core.Path.{_≡_, refl, sym, ap, ap₂, subst, subst₂, _∙_}
+use mathlib.Core.Bool.{Bool, true, false}
+use mathlib.Core.Logic.{_⊎_, inl, inr, ⊎-elim}
+use mathlib.Core.List.{List, [], _∷_, _++_, append-assoc, append-nil}
+use Prim.Native.Nat.{ℕ, zero, suc, _+_, _-_, _≤_, _<_}
+use native.Mathlib.Omega.{arith}
+use native.Mathlib.Decide.{decLt}
+use native.Mathlib.Numerals.{add-one}
+use lib.ListN.{length, getD, take, drop, set, length-set, length-append}
+use lib.Seq.{drop-cons, drop-at, drop-nil}
+use native.Mathlib.Nat.{zero-add, suc-add}
+use mathlib.Core.Option.{Option, none as none′, some}
+use lib.Dec.{ltb}
+use Rattle.terms.specs.Base.{if_then_else_}
+use Rattle.terms.specs.Term.{Term, var, node, Terms, nil, cons, size, sizes, term-bytes, terms-bytes, subst-term, subterm-at, subterm-in}
+use Rattle.terms.specs.Scan.{arity, owes, skip, count}
+use Rattle.terms.specs.Flat.{Wf, Wfs}
+use Rattle.terms.proofs.Scans.{owes-symbol}
+use Rattle.terms.proofs.Flats.{skip-term}
+use Rattle.terms.proofs.Bytes.{length-bytes, length-bytes-all, around-in}
+use Rattle.terms.proofs.Subst.{Subst}
+use Rattle.terms.proofs.Places.{place}
+use Rattle.terms.proofs.Positions.{subterm-is}
+use Rattle.unifier.specs.Arena.{Arena, Spells, free, made, SpellsAll, none, more, same, Whole, Joins, Classes, Never}
+use Rattle.unifier.specs.Steps.{at, arena, Ready}
+use Rattle.unifier.specs.Sizes.{Sized}
+use Rattle.unifier.specs.Result.{Laid, EndAt, FirstLike, FirstClass, Each}
+use Rattle.unifier.proofs.Arena.{spells-within, spells-one, unfree}
+use Rattle.unifier.proofs.Sizing.{at-set, at-other}
+
+-- a loop that fills a list
+pub record Filled (P : ℕ → ℕ → Type 0) (d₀ d : List ℕ) (n : ℕ) : Type 0 where
+  pub long : length d ≡ length d₀
+  pub each : Each P d n
+
+pub filled-start : (P : ℕ → ℕ → Type 0) (d : List ℕ) → Filled P d d 0
+filled-start P d = record { long = refl; each = λ i h. absurd (omega arith) }
+
+filled-at : (P : ℕ → ℕ → Type 0) (d : List ℕ) (n v i : ℕ) → Each P d n → P n v → n < length d → i < n + 1 → Dec (i < n) → P i (at (set d n v) i)
+filled-at P d n v i f p h q (yes l) = subst (λ x. P i x) (sym (at-other d n i v (λ e. omega arith))) (f i l)
+filled-at P d n v i f p h q (no l) = let e : n ≡ i = omega arith in subst (λ x. P x (at (set d n v) x)) e (subst (λ x. P n x) (sym (at-set d n v h)) p)
+
+pub filled-more : (P : ℕ → ℕ → Type 0) (d₀ d : List ℕ) (n v : ℕ) → Filled P d₀ d n → n < length d₀ → P n v → Filled P d₀ (set d n v) (n + 1)
+filled-more P d₀ d n v f h p =
+    record {
+      long = length-set d n v ∙ f .long;
+      each = λ i q. filled-at P d n v i (f .each) p (omega (arith, f .long)) q (decLt i n);
+    }
+
+pub filled-end : (P : ℕ → ℕ → Type 0) (d₀ d : List ℕ) (n k : ℕ) → Filled P d₀ d n → k ≤ n → (length d ≡ length d₀) × Each P d k
+filled-end P d₀ d n k f h = (f .long, λ i q. f .each i (omega arith))
+
+-- a search for the first node with a byte
+pub first-found : (l : List ℕ) (i j : ℕ) → j < i → ((k : ℕ) → k < j → at l k ≡ at l i → ⊥) → at l j ≡ at l i → FirstLike l i j
+first-found l i j h f e = record { within = omega arith; alike = e; first = f }
+
+pub first-self : (l : List ℕ) (i j : ℕ) → i ≤ j → ((k : ℕ) → k < j → at l k ≡ at l i → ⊥) → FirstLike l i i
+first-self l i j h f = record { within = omega arith; alike = refl; first = λ k q. f k (omega arith) }
+
+pub first-next : (l : List ℕ) (i j : ℕ) → ((k : ℕ) → k < j → at l k ≡ at l i → ⊥) → (at l j ≡ at l i → ⊥) → (k : ℕ) → k < j + 1 → at l k ≡ at l i → ⊥
+first-next l i j f n k h e = go (decLt k j)
+  where
+    go : Dec (k < j) → ⊥
+    go (yes q) = f k q e
+    go (no q) = let r : j ≡ k = omega arith in n (ap (at l) r ∙ e)
+
+pub class-symbol : (l : List ℕ) (i : ℕ) → at l i < 128 → FirstClass l i i
+class-symbol l i h = record { symbol = λ x. refl; variable = λ x. absurd (omega arith) }
+
+pub class-variable : (l : List ℕ) (i r : ℕ) → 128 ≤ at l i → FirstLike l i r → FirstClass l i r
+class-variable l i r h f = record { symbol = λ x. absurd (omega arith); variable = λ x. f }
+
+pub class-below : (l : List ℕ) (i r : ℕ) → 128 ≤ at l i → FirstLike l i r → FirstClass l i r × (r ≤ i)
+class-below l i r h f = (class-variable l i r h f, f .within)
+
+-- the first classes are right
+first-same : (l : List ℕ) (i j r q : ℕ) → at l i ≡ at l j → FirstLike l i r → FirstLike l j q → r ≡ q
+first-same l i j r q e f g = go (decLt r q) (decLt q r)
+  where
+    go : Dec (r < q) → Dec (q < r) → r ≡ q
+    go (yes h) d = absurd (g .first r h (f .alike ∙ e))
+    go (no h) (yes k) = absurd (f .first q k (g .alike ∙ sym e))
+    go (no h) (no k) = omega arith
+
+module _ (l tab ends cs : List ℕ) (f : Each (FirstClass l) cs (length l)) where
+  start-within : (i : ℕ) → i < length l → Dec (at l i < 128) → at cs i < length l
+  start-within i h (yes s) = omega (arith, f i h .symbol s)
+  start-within i h (no s) = omega (arith, f i h .variable (omega arith) .within)
+
+  pub first-within : (i : ℕ) → i < length l → at cs i < length l
+  first-within i h = start-within i h (decLt (at l i) 128)
+
+  start-shared : (i j : ℕ) → i < length l → j < length l → 128 ≤ at l i → at l i ≡ at l j → at cs i ≡ at cs j
+  start-shared i j hi hj b e = first-same l i j (at cs i) (at cs j) e (f i hi .variable b) (f j hj .variable (omega arith))
+
+  start-rooted : (i : ℕ) → i < length l → Dec (at l i < 128) → at cs (at cs i) ≡ at cs i
+  start-rooted i h (yes s) = ap (at cs) (f i h .symbol s)
+  start-rooted i h (no s) =
+      let g = f i h .variable (omega arith) in
+      start-shared (at cs i) i (first-within i h) h (omega (arith, g .alike)) (g .alike)
+
+  start-joins : (τ : Subst) (i : ℕ) → i < length l → Dec (at l i < 128) → Joins (arena l tab ends) τ i (at cs i)
+  start-joins τ i h (yes b) s t x y =
+      ap (subst-term τ) (spells-one (arena l tab ends) x (subst (λ z. Spells (arena l tab ends) same z t) (f i h .symbol b) y))
+  start-joins τ i h (no b) s t x y =
+      let g = f i h .variable (omega arith) in
+      let e : at l i ≡ 128 + (at l i - 128) = omega arith in
+      ap (subst-term τ) (unfree (arena l tab ends) (at l i - 128) x e ∙ sym (unfree (arena l tab ends) (at l i - 128) y (g .alike ∙ e)))
+
+  pub start-classes : (n₁ n₂ : ℕ) → Classes (arena l tab ends) n₁ n₂ (at cs)
+  start-classes n₁ n₂ =
+      record {
+        within = first-within;
+        rooted = λ i h. start-rooted i h (decLt (at l i) 128);
+        shared = start-shared;
+        headed = λ i h s. subst (λ z. at l z < 128) (sym (f i h .symbol s)) s;
+        respects = λ τ j i s t x y. start-joins τ i (spells-within (arena l tab ends) x) (decLt (at l i) 128) s t x y;
+      }
+
+-- a subterm of a well-formed term is well-formed
+no-some : {A : Type 0} {a : A} → none′ ≡ some a → ⊥
+no-some e = let h : _≡_ {A = ℕ} 0 1 = cc in omega arith
+
+some-same : (m : ℕ) (tab : List ℕ) (t u : Term) → Wf m tab t → some t ≡ some u → Wf m tab u
+some-same m tab t u w e = let h : t ≡ u = cc in subst (λ x. Wf m tab x) h w
+
+split-wf : (m : ℕ) (tab : List ℕ) (t : Term) (ts : Terms) (p : ℕ) (u : Term) (b : Bool) → ltb p (size t) ≡ b → (subterm-at t p ≡ some u → Wf m tab u) → (subterm-in ts (p - size t) ≡ some u → Wf m tab u) →
+    subterm-in (cons t ts) p ≡ some u → Wf m tab u
+unfolding subterm-at if_then_else_
+split-wf m tab t ts p u true h f g e = f (rw h at e)
+split-wf m tab t ts p u false h f g e = g (rw h at e)
+
+mutual
+  unfolding Wf Wfs subterm-at subterm-in
+
+  pub subterm-wf : (m : ℕ) (tab : List ℕ) (t : Term) → Wf m tab t → (p : ℕ) (u : Term) → subterm-at t p ≡ some u → Wf m tab u
+  subterm-wf m tab (var x) w zero u e = some-same m tab (var x) u w e
+  subterm-wf m tab (var x) w (suc p) u e = absurd (no-some e)
+  subterm-wf m tab (node f ts) w zero u e = some-same m tab (node f ts) u w e
+  subterm-wf m tab (node f ts) w (suc p) u e = subterms-wf m tab ts (w .2) p u e
+
+  pub subterms-wf : (m : ℕ) (tab : List ℕ) (ts : Terms) → Wfs m tab ts → (p : ℕ) (u : Term) → subterm-in ts p ≡ some u → Wf m tab u
+  subterms-wf m tab nil w p u e = absurd (no-some e)
+  subterms-wf m tab (cons t ts) w p u e =
+      split-wf m tab t ts p u (ltb p (size t)) refl (λ h. subterm-wf m tab t (w .0) p u h) (λ h. subterms-wf m tab ts (w .1) (p - size t) u h) e
+
+-- at each place a subterm begins
+pub subterms-there : (ts : Terms) (p : ℕ) → p < sizes ts → (u : Term) × (subterm-in ts p ≡ some u)
+unfolding subterm-at size
+subterms-there ts p h = (place (node 0 ts) (suc p) (omega arith) .s, subterm-is (node 0 ts) (suc p) (omega arith))
+
+-- where the ends are right, the bytes of a term spell it, and each of its nodes spells a term
+module _ (l tab ends : List ℕ) (f : Each (EndAt l tab) ends (length l)) where
+  drop-head : (p b : ℕ) (r : List ℕ) → drop p l ≡ b ∷ r → (p < length l) × (at l p ≡ b) × (drop (suc p) l ≡ r)
+  drop-head p b r e = head l p e
+    where
+      head : (d : List ℕ) (p : ℕ) → drop p d ≡ b ∷ r → (p < length d) × (at d p ≡ b) × (drop (suc p) d ≡ r)
+      head [] zero e = absurd (let z : _≡_ {A = ℕ} 0 1 = cc in omega arith)
+      head [] (suc p) e = absurd (let z : _≡_ {A = ℕ} 0 1 = cc in omega arith)
+      head (x ∷ d) zero e = (omega arith, cc, cc)
+      head (x ∷ d) (suc p) e = let h = head d p e in (omega (arith, h .0), h .1, h .2)
+
+  dropped : (d : List ℕ) (p n : ℕ) → drop (p + n) d ≡ drop n (drop p d)
+  dropped d zero n = rw (zero-add n) refl
+  dropped [] (suc p) n = rw (suc-add p n) (sym (drop-nil n))
+  dropped (x ∷ d) (suc p) n = rw (suc-add p n) (dropped d p n)
+
+  drop-more : (d : List ℕ) (p n : ℕ) (u v : List ℕ) → drop p d ≡ u ++ v → length u ≡ n → drop (p + n) d ≡ v
+  drop-more d p n u v e q = dropped d p n ∙ ap (drop n) e ∙ drop-at u v n q
+
+  end-is : (p : ℕ) (t : Term) (rest : List ℕ) → p < length l → Wf 128 tab t → drop p l ≡ term-bytes t ++ rest → at ends p ≡ p + size t
+  end-is p t rest h w e = let k : skip tab (drop p l) 1 ≡ size t = rw e (skip-term 128 tab t w rest) in omega (arith, f p h)
+
+  mutual
+    unfolding term-bytes terms-bytes size sizes Wf Wfs count
+
+    pub spelt : (t : Term) → Wf 128 tab t → (p : ℕ) (rest : List ℕ) → drop p l ≡ term-bytes t ++ rest → Spells (arena l tab ends) same p t
+    spelt (var x) w p rest e = let h = drop-head p (128 + x) rest e in free (h .0) (h .1)
+    spelt (node g ts) w p rest e =
+        let h = drop-head p g (terms-bytes ts ++ rest) e in
+        made (h .0) (h .1) (omega (arith, w .0))
+        (subst (λ k. SpellsAll (arena l tab ends) same (suc p) k ts) (w .1 ∙ sym (owes-symbol tab g (w .0))) (spelts ts (w .2) (suc p) rest (h .2)))
+
+    pub spelts : (ts : Terms) → Wfs 128 tab ts → (p : ℕ) (rest : List ℕ) → drop p l ≡ terms-bytes ts ++ rest → SpellsAll (arena l tab ends) same p (count ts) ts
+    spelts nil w p rest e = none
+    spelts (cons t ts) w p rest e =
+        let e′ : drop p l ≡ term-bytes t ++ (terms-bytes ts ++ rest) = e ∙ append-assoc (term-bytes t) (terms-bytes ts) rest in
+        let s = spelt t (w .0) p (terms-bytes ts ++ rest) e′ in
+        let q = end-is p t (terms-bytes ts ++ rest) (spells-within (arena l tab ends) s) (w .0) e′ in
+        more s
+        (subst (λ k. SpellsAll (arena l tab ends) same k (count ts) ts) (sym q)
+        (spelts ts (w .1) (p + size t) rest (drop-more l p (size t) (term-bytes t) (terms-bytes ts ++ rest) e′ (length-bytes t))))
+
+  abbrev Some : ℕ → Type 0
+  Some i = (u : Term) × Spells (arena l tab ends) same i u
+
+  node-some : (p i n : ℕ) → Some p → ((j : ℕ) → suc p ≤ j → j < suc p + n → Some j) → p ≤ i → i < p + suc n → Dec (p < i) → Some i
+  node-some p i n s g h k (yes q) = g i q (omega arith)
+  node-some p i n s g h k (no q) = let e : p ≡ i = omega arith in subst (λ z. Some z) e s
+
+  cons-some : (p i a b : ℕ) → ((j : ℕ) → p ≤ j → j < p + a → Some j) → ((j : ℕ) → p + a ≤ j → j < p + a + b → Some j) → p ≤ i → i < p + (a + b) → Dec (i < p + a) → Some i
+  cons-some p i a b g h k q (yes r) = g i k r
+  cons-some p i a b g h k q (no r) = h i (omega arith) (omega arith)
+
+  mutual
+    unfolding term-bytes terms-bytes size sizes Wf Wfs count
+
+    inside : (t : Term) → Wf 128 tab t → (p : ℕ) (rest : List ℕ) → drop p l ≡ term-bytes t ++ rest → (i : ℕ) → p ≤ i → i < p + size t → Some i
+    inside (var x) w p rest e i h k =
+        node-some p i 0 ((var x, spelt (var x) w p rest e)) (λ j a b. absurd (omega arith)) h k (decLt p i)
+    inside (node g ts) w p rest e i h k =
+        node-some p i (sizes ts) ((node g ts, spelt (node g ts) w p rest e))
+        (λ j a b. insides ts (w .2) (suc p) rest (drop-head p g (terms-bytes ts ++ rest) e .2) j a b) h k (decLt p i)
+
+    insides : (ts : Terms) → Wfs 128 tab ts → (p : ℕ) (rest : List ℕ) → drop p l ≡ terms-bytes ts ++ rest → (i : ℕ) → p ≤ i → i < p + sizes ts → Some i
+    insides nil w p rest e i h k = absurd (omega arith)
+    insides (cons t ts) w p rest e i h k =
+        let e′ : drop p l ≡ term-bytes t ++ (terms-bytes ts ++ rest) = e ∙ append-assoc (term-bytes t) (terms-bytes ts) rest in
+        cons-some p i (size t) (sizes ts)
+        (λ j a b. inside t (w .0) p (terms-bytes ts ++ rest) e′ j a b)
+        (λ j a b. insides ts (w .1) (p + size t) rest (drop-more l p (size t) (term-bytes t) (terms-bytes ts ++ rest) e′ (length-bytes t)) j a b)
+        h k (decLt i (p + size t))
+
+  module _ (ts : Terms) (d : Laid l tab ts) where
+    laid-all : drop 0 l ≡ terms-bytes ts ++ []
+    laid-all = d .bytes ∙ sym (append-nil (terms-bytes ts))
+
+    laid-length : length l ≡ sizes ts
+    laid-length = ap length (d .bytes) ∙ length-bytes-all ts
+
+    pub laid-whole : Whole (arena l tab ends)
+    laid-whole i h = insides ts (d .wf) 0 [] laid-all i (omega arith) (omega (arith, laid-length))
+
+    -- a node stands for the subterm that begins there
+    pub laid-at : (i : ℕ) (u : Term) → subterm-in ts i ≡ some u → Spells (arena l tab ends) same i u
+    laid-at i u e =
+        let a = around-in ts i u e in
+        spelt u (subterms-wf 128 tab ts (d .wf) i u e) i (a .after)
+        (ap (drop i) (d .bytes ∙ a .holds) ∙ drop-at (a .before) (term-bytes u ++ a .after) i (a .begins))

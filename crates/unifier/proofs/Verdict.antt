@@ -1,0 +1,139 @@
+-- The answer of unification, and what it leaves behind: the classes give the most general unifier, the sizes those of its instances. Assumes nothing.
+use mathlib.Core.Path.{_≡_, refl, sym, ap, ap₂, subst, _∙_}
+use mathlib.Core.Bool.{Bool, true, false}
+use mathlib.Core.Option.{Option, none, some}
+use mathlib.Core.List.{List, [], _∷_, _++_}
+use Prim.Native.Nat.{ℕ, zero, suc, _+_, _≤_, _<_}
+use native.Mathlib.Omega.{arith}
+use lib.ListN.{length}
+use Rattle.terms.specs.Base.{is-some}
+use Rattle.terms.specs.Term.{Term, Terms, size, sizes, subst-term, subst-terms, term-bytes, terms-bytes, subterm-in, Pair, renamed}
+use Rattle.terms.proofs.Subst.{Subst}
+use Rattle.terms.proofs.Rename.{rename, renames}
+use Rattle.unify.specs.Unify.{Binding, mgu, under}
+use Rattle.unifier.specs.Arena.{Arena, Spells, SpellsAll, same, Whole, Joins, Classes, Closed, Never, Descends, cap}
+use Rattle.unifier.specs.Steps.{at, arena, Ready, Grown, ClosedTo, joined}
+use Rattle.unifier.specs.Sizes.{Sized, Unknown, Known}
+use Rattle.unifier.specs.Result.{LaidOut, EndAt, FirstClass, Each, Solved, Outcome, Decided}
+use Rattle.unify.proofs.Correct.{Unifies, Mgu, unifier, mgu-right, mgu-none}
+use Rattle.unify.proofs.Unique.{most-general, mgu-unique, mgu-unique-pair}
+use Rattle.unifier.proofs.Arena.{spells-one, spells-within, spells-move, solution, solution-mgu, image, never-circle}
+use Rattle.unifier.proofs.Joining.{join-ready, join-classes, join-joins, joined-length}
+use Rattle.unifier.proofs.Starting.{first-within, start-classes, laid-at, laid-whole}
+
+unifier-joins : (A : Arena) (τ : Subst) (n₁ n₂ : ℕ) (s t : Term) → Spells A same n₁ s → Spells A same n₂ t → Unifies τ s t → Joins A τ n₁ n₂
+unifier-joins A τ n₁ n₂ s t p q h s′ t′ p′ q′ = ap (subst-term τ) (spells-one A p′ p) ∙ h ∙ ap (subst-term τ) (spells-one A q q′)
+
+never-none : (A : Arena) (n₁ n₂ : ℕ) (s t : Term) → Spells A same n₁ s → Spells A same n₂ t → Never A n₁ n₂ → (o : Option (List Binding)) → mgu s t ≡ o → false ≡ is-some o
+unfolding is-some
+never-none A n₁ n₂ s t p q n none e = refl
+never-none A n₁ n₂ s t p q n (some b) e = absurd (n (unifier b) (unifier-joins A (unifier b) n₁ n₂ s t p q (mgu-right s t b e .unifies)))
+
+pub never-decided : (l tab : List ℕ) (n₁ n₂ : ℕ) (ends : List ℕ) → Each (EndAt l tab) ends (length l) → Never (arena l tab ends) n₁ n₂ → Decided l tab n₁ n₂ false
+never-decided l tab n₁ n₂ ends f n ts d s t p q =
+    never-none (arena l tab ends) n₁ n₂ s t (laid-at l tab ends f ts d n₁ s p) (laid-at l tab ends f ts d n₂ t q) n (mgu s t) refl
+
+-- every node stands for a term
+pub solved-spells : (l tab : List ℕ) (n₁ n₂ : ℕ) (ends cs zs : List ℕ) → Solved l tab n₁ n₂ ends cs zs → (i : ℕ) → i < length l → (u : Term) × Spells (arena l tab ends) (at cs) i u
+solved-spells l tab n₁ n₂ ends cs zs k i h = let w = k .sized .measured i h (k .known i h) in (w .0, w .1)
+
+module _ (l tab : List ℕ) (n₁ n₂ : ℕ) (ends cs zs : List ℕ) (k : Solved l tab n₁ n₂ ends cs zs) where
+  pub the-mgu : Subst
+  the-mgu = solution (arena l tab ends) n₁ n₂ (at cs) (k .sized .ready .whole) (k .classes) (k .closed) (solved-spells l tab n₁ n₂ ends cs zs k)
+
+  -- what a node stands for is the instance of its term
+  pub solved-image : (i : ℕ) (t u : Term) → Spells (arena l tab ends) same i t → Spells (arena l tab ends) (at cs) i u → subst-term the-mgu t ≡ u
+  unfolding the-mgu
+  solved-image i t u p q = image (arena l tab ends) n₁ n₂ (at cs) (k .sized .ready .whole) (k .classes) (k .closed) (solved-spells l tab n₁ n₂ ends cs zs k) p q
+
+  -- and its size is the one found
+  pub solved-size : (i : ℕ) (t : Term) → Spells (arena l tab ends) same i t → at zs i ≡ cap (size (subst-term the-mgu t))
+  solved-size i t p =
+      let h = spells-within (arena l tab ends) p in
+      let w = k .sized .measured i h (k .known i h) in
+      w .2 ∙ ap (λ x. cap (size x)) (sym (solved-image i t (w .0) p (w .1)))
+
+  module _ (s t : Term) (p : Spells (arena l tab ends) same n₁ s) (q : Spells (arena l tab ends) same n₂ t) where
+    pub solved-mgu : Mgu s t the-mgu
+    unfolding the-mgu
+    solved-mgu = solution-mgu (arena l tab ends) n₁ n₂ (at cs) (k .sized .ready .whole) (k .classes) (k .closed) (solved-spells l tab n₁ n₂ ends cs zs k) s t p q (k .started)
+
+    some-there : (o : Option (List Binding)) → mgu s t ≡ o → true ≡ is-some o
+    unfolding is-some
+    some-there none e = absurd (mgu-none s t e the-mgu (solved-mgu .unifies))
+    some-there (some b) e = refl
+
+    -- after renaming, an instance is that of the unifier that the definition finds
+    pub solved-renames : (b : List Binding) → mgu s t ≡ some b → (w : Term) → rename (under b w) ≡ rename (subst-term the-mgu w)
+    solved-renames b e w = mgu-unique s t b the-mgu e (most-general solved-mgu) w
+
+    -- and so is a pair of instances
+    pub solved-renamed : (b : List Binding) → mgu s t ≡ some b → (e : Pair) →
+        renamed (record { left = under b (e .left); right = under b (e .right) })
+        ≡ renamed (record { left = subst-term the-mgu (e .left); right = subst-term the-mgu (e .right) })
+    solved-renamed b e w = mgu-unique-pair s t b the-mgu e (most-general solved-mgu) w
+
+pub solved-decided : (l tab : List ℕ) (n₁ n₂ : ℕ) (ends cs zs : List ℕ) → Solved l tab n₁ n₂ ends cs zs → Decided l tab n₁ n₂ true
+solved-decided l tab n₁ n₂ ends cs zs k ts d s t p q =
+    some-there l tab n₁ n₂ ends cs zs k s t (laid-at l tab ends (k .ended) ts d n₁ s p) (laid-at l tab ends (k .ended) ts d n₂ t q) (mgu s t) refl
+
+-- the classes when the two terms have been joined
+pub record Begun (l tab : List ℕ) (n₁ n₂ : ℕ) (ends cs : List ℕ) : Type 0 where
+  pub ended : Each (EndAt l tab) ends (length l)
+  pub ready : Ready l tab ends cs
+  pub classes : Classes (arena l tab ends) n₁ n₂ (at cs)
+  pub started : at cs n₁ ≡ at cs n₂
+
+module _ (l tab : List ℕ) (n₁ n₂ : ℕ) (o : LaidOut l tab) (h : n₁ < length l) (k : n₂ < length l)
+    (ends cs : List ℕ) (f : Each (EndAt l tab) ends (length l)) (g : Each (FirstClass l) cs (length l)) where
+  pub begin-requires : length l ≤ 600 → length l ≤ length cs →
+      ((n₁ < length l) × (n₂ < length l) × (length l ≤ 600) × (length l ≤ length cs)) × ((at cs n₁ < length l) × (at cs n₂ < length l))
+  begin-requires a b = ((h, k, a, b), (first-within l tab ends cs g n₁ h, first-within l tab ends cs g n₂ k))
+
+  begin-ready : length l ≤ 600 → length l ≤ length ends → length l ≤ length cs → Ready l tab ends cs
+  begin-ready a p q = record { small = a; ended = p; classed = q; whole = laid-whole l tab ends f (o .0) (o .1); within = first-within l tab ends cs g }
+
+  pub begun : length l ≤ 600 → length l ≤ length ends → length l ≤ length cs → (ds : List ℕ) → ds ≡ joined l cs n₁ n₂ → Begun l tab n₁ n₂ ends ds
+  begun a p q ds e =
+      let y = begin-ready a p q in
+      record {
+        ended = f;
+        ready = join-ready l tab ends cs y n₁ n₂ h k ds e;
+        classes = join-classes l tab ends cs y n₁ n₂ h k ds e n₁ n₂ (start-classes l tab ends cs g n₁ n₂) (λ τ j. j);
+        started = join-joins l tab ends cs y n₁ n₂ h k ds e;
+      }
+
+module _ (l tab : List ℕ) (n₁ n₂ : ℕ) (h : n₁ < length l) (h′ : n₂ < length l) (ends cs : List ℕ) (g : Begun l tab n₁ n₂ ends cs) (ds : List ℕ) where
+  pub begun-never : (zs : List ℕ) (r : Bool) → ClosedTo (arena l tab ends) (at cs) (at ds) r → r ≡ false → Decided l tab n₁ n₂ false × Outcome l tab n₁ n₂ ends ds zs false
+  begun-never zs r n e = (never (subst (λ x. ClosedTo (arena l tab ends) (at cs) (at ds) x) e n), tt)
+    where
+      never : ClosedTo (arena l tab ends) (at cs) (at ds) false → Decided l tab n₁ n₂ false
+      never n = never-decided l tab n₁ n₂ ends (g .ended) (n n₁ n₂ (g .classes))
+
+  -- no sizes at first
+  pub begun-sized : Ready l tab ends ds → (zs : List ℕ) (n : ℕ) → length zs ≡ n → length l ≤ n → Each (λ i b. b ≡ 0) zs n → Sized l tab ends ds zs
+  begun-sized y zs n e h z = record { ready = y; long = omega arith; measured = λ i q r. absurd (r (z i (omega arith))) }
+
+  module _ (u : ClosedTo (arena l tab ends) (at cs) (at ds) true) (zs : List ℕ) (y : Sized l tab ends ds zs) (q : Descends (arena l tab ends) (at ds) (Unknown (at zs))) where
+    begun-solved : Known (arena l tab ends) (at zs) true → Solved l tab n₁ n₂ ends ds zs
+    begun-solved w =
+        record {
+          ended = g .ended;
+          sized = y;
+          classes = u .0 .classes n₁ n₂ (g .classes);
+          closed = u .1;
+          started = u .0 .keeps n₁ n₂ h h′ (g .started);
+          known = w;
+        }
+
+    circle : Known (arena l tab ends) (at zs) false → Never (arena l tab ends) n₁ n₂
+    circle (i, b, e) = never-circle (arena l tab ends) n₁ n₂ (at ds) (y .ready .whole) (u .0 .classes n₁ n₂ (g .classes)) (Unknown (at zs)) q i b e
+
+    begun-outcome : (r : Bool) → Known (arena l tab ends) (at zs) r → Decided l tab n₁ n₂ r × Outcome l tab n₁ n₂ ends ds zs r
+    begun-outcome true w = let k = begun-solved w in (solved-decided l tab n₁ n₂ ends ds zs k, k)
+    begun-outcome false w = (never-decided l tab n₁ n₂ ends (g .ended) (circle w), tt)
+
+  -- from what the calls answer
+  pub begun-answer : (b : Bool) → ClosedTo (arena l tab ends) (at cs) (at ds) b → b ≡ true → (zs : List ℕ) → Sized l tab ends ds zs →
+      Descends (arena l tab ends) (at ds) (Unknown (at zs)) → (r : Bool) → Known (arena l tab ends) (at zs) r → Decided l tab n₁ n₂ r × Outcome l tab n₁ n₂ ends ds zs r
+  begun-answer b u e zs y q r w = begun-outcome (subst (λ x. ClosedTo (arena l tab ends) (at cs) (at ds) x) e u) zs y q r w

@@ -1,0 +1,33 @@
+use borrow.Author.Needs.{needs}
+use Prim.Native.Nat.{ℕ, _<_, _≤_, _-_}
+use mathlib.Core.Path.{_≡_, refl}
+use native.Mathlib.Omega.{arith}
+use lib.ListN.{length, getD, take}
+use Rattle.unifier.proofs.Naming.{add-symbol, add-old, add-new}
+use Rattle.unifier.proofs.add_name.Statement.{statement}
+use Rattle.unifier.proofs.add_name.Tie as tie
+use Rattle.unifier.proofs.add_name.Reads as reads
+use Rattle.unifier.proofs.add_name.Lts as lts
+use Rattle.unifier.proofs.place_of.Reads as place-of-reads
+
+returns : tie.Need-returns
+returns c = let a = add-symbol (c .before .before .args .names .now) _ _ (c .if1 .taken) in (a .long, a .names, a .few)
+
+returns-2 : tie.Need-returns-2
+returns-2 c = let a = add-old (c .before .before .before .before .before .args .names .now) _ _ _ (c .before .before .before .before .before .pre) (c .before .before .before .if1 .left) (c .before .place-of .ensures .0) (c .if2 .taken) in (a .long, a .names, a .few)
+
+returns-3 : tie.Need-returns-3
+returns-3 c = let a = add-new (c .before .before .before .before .before .args .names .now) _ _ _ (c .before .before .before .before .before .pre) (c .before .before .before .if1 .left) (c .before .place-of .ensures .0) (c .if2 .left) in (a .long, a .names, a .few)
+
+pub add-name-spec : {M : Type 1} → statement M
+add-name-spec =
+    tie.close
+    (tie.spec
+    returns
+    (λ c κs. search needs)
+    (λ c. search needs)
+    returns-2
+    (λ c. search needs)
+    (λ c. search needs)
+    (λ c. search needs)
+    returns-3)

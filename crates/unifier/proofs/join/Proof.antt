@@ -1,0 +1,31 @@
+use borrow.Author.Needs.{needs}
+use Rattle.unifier.proofs.Joining.{joined-first, joined-second}
+use Rattle.unifier.proofs.join.Statement.{statement}
+use Rattle.unifier.proofs.join.Tie as tie
+use Rattle.unifier.proofs.join.Reads as reads
+use Rattle.unifier.proofs.join.Lts as lts
+use Rattle.unifier.proofs.key.Reads as key-reads
+use Rattle.unifier.proofs.relabel.Reads as relabel-reads
+
+returns : tie.Need-returns
+returns c = joined-first _ _ _ _ _ _ _ (c .before .before .before .before .before .before .key .ensures) (c .before .before .before .before .before .key2 .ensures) (c .before .before .before .before .if1 .taken) (c .before .before .relabel .ensures)
+
+returns-2 : tie.Need-returns-2
+returns-2 c = joined-second _ _ _ _ _ _ _ (c .before .before .before .before .before .before .key .ensures) (c .before .before .before .before .before .key2 .ensures) (c .before .before .before .before .if1 .left) (c .before .before .relabel2 .ensures)
+
+pub join-spec : {M : Type 1} → statement M
+join-spec =
+    tie.close
+    (tie.spec
+    (λ c. search needs)
+    (λ c. search needs)
+    (λ c. search needs)
+    (λ c. search needs)
+    (λ c κs. search needs)
+    (λ c κs. search needs)
+    (λ c κs. search needs)
+    (λ c. search needs)
+    returns
+    (λ c κs. search needs)
+    (λ c. search needs)
+    returns-2)

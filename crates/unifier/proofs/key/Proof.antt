@@ -1,0 +1,16 @@
+use borrow.Author.Needs.{needs}
+use Rattle.unifier.proofs.Joining.{key-first, key-second}
+use Rattle.unifier.proofs.key.Statement.{statement}
+use Rattle.unifier.proofs.key.Tie as tie
+use Rattle.unifier.proofs.key.Reads as reads
+use Rattle.unifier.proofs.key.Lts as lts
+use Rattle.unifier.proofs.wide.Reads as wide-reads
+
+returns : tie.Need-returns
+returns c = key-first _ _ _ (c .before .before .wide .ensures .0) (c .if1 .taken)
+
+returns-2 : tie.Need-returns-2
+returns-2 c = key-second _ _ _ (c .before .before .wide .ensures .0) (c .if1 .left)
+
+pub key-spec : {M : Type 1} → statement M
+key-spec = tie.close (tie.spec (λ c κs. search needs) (λ c. search needs) returns (λ c. search needs) returns-2)

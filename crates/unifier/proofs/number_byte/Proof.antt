@@ -1,0 +1,20 @@
+use borrow.Author.Needs.{needs}
+use Prim.Native.Nat.{ℕ, _<_, _≤_, _-_}
+use mathlib.Core.Path.{_≡_, refl}
+use native.Mathlib.Omega.{arith}
+use lib.ListN.{length, getD, take}
+use Rattle.unifier.proofs.Naming.{number-symbol, number-variable}
+use Rattle.unifier.proofs.number_byte.Statement.{statement}
+use Rattle.unifier.proofs.number_byte.Tie as tie
+use Rattle.unifier.proofs.number_byte.Reads as reads
+use Rattle.unifier.proofs.number_byte.Lts as lts
+use Rattle.unifier.proofs.place_of.Reads as place-of-reads
+
+returns : tie.Need-returns
+returns c = number-symbol (c .before .before .args .names .now) (c .before .before .args .n) _ (c .if1 .taken)
+
+returns-2 : tie.Need-returns-2
+returns-2 c = number-variable (c .before .before .before .args .names .now) (c .before .before .before .args .n) _ _ (c .before .if1 .left) (c .place-of .ensures .0)
+
+pub number-byte-spec : {M : Type 1} → statement M
+number-byte-spec = tie.close (tie.spec returns (λ c κs. search needs) (λ c. search needs) (λ c. search needs) returns-2)

@@ -1,0 +1,42 @@
+use borrow.Author.Needs.{needs}
+use Prim.Native.Nat.{ℕ, _<_, _≤_, _-_}
+use mathlib.Core.Path.{_≡_, refl}
+use native.Mathlib.Omega.{arith}
+use lib.ListN.{length, getD, take}
+use Rattle.unifier.proofs.Naming.{place-hit, place-miss, place-next}
+use Rattle.unifier.proofs.place_of.Statement.{statement}
+use Rattle.unifier.proofs.place_of.Tie as tie
+use Rattle.unifier.proofs.place_of.Reads as reads
+use Rattle.unifier.proofs.place_of.Lts as lts
+
+abbrev Inv-loop : tie.InvT-loop
+Inv-loop names n b i₀ i = (j : ℕ) → j < i → getD names j 0 ≡ b → ⊥
+
+abbrev μ-loop : tie.MeasureT-loop
+μ-loop names n b i₀ i = n - i
+
+loop-holds : tie.Need-loop-holds Inv-loop μ-loop
+loop-holds c = λ j h e. omega arith
+
+returns : tie.Need-returns Inv-loop μ-loop
+returns c = place-hit (c .before .before .before .before .args .names .now) _ _ _ (c .before .before .before .before .pre) (c .before .before .loop-test .taken) (c .before .before .before .loop .inv) (c .if1 .taken)
+
+loop-again : tie.Need-loop-again Inv-loop μ-loop
+loop-again c = place-next (c .before .before .before .before .args .names .now) _ _ (c .before .before .before .loop .inv) (c .if1 .left)
+
+returns-2 : tie.Need-returns-2 Inv-loop μ-loop
+returns-2 c = place-miss (c .before .before .args .names .now) _ _ _ (c .before .before .pre) (c .loop-test .left) (c .before .loop .inv)
+
+pub place-of-spec : {M : Type 1} → statement M
+place-of-spec =
+    tie.close
+    (tie.spec
+    Inv-loop
+    μ-loop
+    loop-holds
+    (λ c. search needs)
+    returns
+    (λ c. search needs)
+    (λ c. search needs)
+    loop-again
+    returns-2)

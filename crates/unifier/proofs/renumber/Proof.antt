@@ -1,0 +1,52 @@
+use borrow.Author.Needs.{needs}
+use Prim.Native.Nat.{ℕ, _<_, _≤_, _-_}
+use mathlib.Core.Path.{_≡_, refl}
+use native.Mathlib.Omega.{arith}
+use lib.ListN.{length, getD, take}
+use Rattle.unifier.specs.Names.{named}
+use Rattle.unifier.proofs.Filling.{Mapped, mapped-start, mapped-more, mapped-end}
+use Rattle.unifier.proofs.renumber.Statement.{statement}
+use Rattle.unifier.proofs.renumber.Tie as tie
+use Rattle.unifier.proofs.renumber.Reads as reads
+use Rattle.unifier.proofs.renumber.Lts as lts
+use Rattle.unifier.proofs.number_byte.Reads as number-byte-reads
+
+abbrev Inv-loop : tie.InvT-loop
+Inv-loop bytes₀ names n m i₀ bytes i = Mapped (named (take n names)) bytes₀ bytes i
+
+abbrev μ-loop : tie.MeasureT-loop
+μ-loop bytes₀ names n m i₀ bytes i = m - i
+
+loop-holds : tie.Need-loop-holds Inv-loop μ-loop
+loop-holds c = mapped-start _ _
+
+slice-read-b : tie.Need-slice-read-b Inv-loop μ-loop
+slice-read-b c = omega (arith, c .before .before .loop .inv .long)
+
+slice-write-bytes : tie.Need-slice-write-bytes Inv-loop μ-loop
+slice-write-bytes c = omega (arith, c .before .before .before .loop .inv .long)
+
+loop-again : tie.Need-loop-again Inv-loop μ-loop
+loop-again c = mapped-more _ _ _ _ _ (c .before .before .before .loop .inv) (c .before .before .loop-test .taken) (c .number-byte .ensures)
+
+same-length : tie.Need-same-length Inv-loop μ-loop
+same-length c = c .before .loop .inv .long
+
+returns : tie.Need-returns Inv-loop μ-loop
+returns c = mapped-end _ _ _ _ (c .before .loop .inv) (c .loop-test .left)
+
+pub renumber-spec : {M : Type 1} → statement M
+renumber-spec =
+    tie.close
+    (tie.spec
+    Inv-loop
+    μ-loop
+    loop-holds
+    slice-read-b
+    (λ c κs. search needs)
+    slice-write-bytes
+    (λ c. search needs)
+    (λ c. search needs)
+    loop-again
+    same-length
+    returns)

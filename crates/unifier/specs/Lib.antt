@@ -1,0 +1,6 @@
+pub mod Arena
+pub mod Steps
+pub mod Sizes
+pub mod Result
+pub mod Written
+pub mod Names

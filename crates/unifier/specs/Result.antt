@@ -1,0 +1,68 @@
+-- What unification is given, begins with and leaves behind. Assumes nothing.
+use mathlib.Core.Path.{_≡_}
+use mathlib.Core.Bool.{Bool, true, false}
+use mathlib.Core.List.{List, [], _∷_, _++_}
+use mathlib.Core.Option.{Option, none, some}
+use Prim.Native.Nat.{ℕ, zero, suc, _+_, _<_, _≤_}
+use lib.ListN.{length, drop}
+use Rattle.terms.specs.Base.{is-some}
+use Rattle.terms.specs.Term.{Term, Terms, term-bytes, terms-bytes, subterm-in}
+use Rattle.terms.specs.Scan.{skip, count}
+use Rattle.terms.specs.Flat.{Wf, Wfs}
+use Rattle.unify.specs.Unify.{mgu}
+use Rattle.unifier.specs.Arena.{Arena, Classes, Closed}
+use Rattle.unifier.specs.Steps.{at, arena, Ready}
+use Rattle.unifier.specs.Sizes.{Sized, Known}
+
+-- the arena holds the terms ts, one after the other
+pub record Laid (l tab : List ℕ) (ts : Terms) : Type 0 where
+  pub wf : Wfs 128 tab ts
+  pub bytes : l ≡ terms-bytes ts
+
+abbrev pub LaidOut : List ℕ → List ℕ → Type 0
+LaidOut l tab = (ts : Terms) × Laid l tab ts
+
+-- b and the bytes of `have` terms are those of r terms, or can begin none
+pub record Formed (tab : List ℕ) (b have r : ℕ) : Type 0 where
+  pub most : r ≤ have + 1
+  pub more : (r ≡ 0 → ⊥) → (ts : Terms) → Wfs 32 tab ts → count ts ≡ have → (us : Terms) × Wfs 32 tab us × (count us ≡ r) × (b ∷ terms-bytes ts ≡ terms-bytes us)
+  pub none : r ≡ 0 → (ts : Terms) → Wfs 32 tab ts → count ts ≡ have → (u : Term) (rest : List ℕ) → Wf 32 tab u → b ∷ terms-bytes ts ≡ term-bytes u ++ rest → ⊥
+
+-- whether the bytes are those of terms with variables below 32
+pub record Tested (l tab : List ℕ) (r : Bool) : Type 0 where
+  pub sound : r ≡ true → (ts : Terms) × (Wfs 32 tab ts × (l ≡ terms-bytes ts))
+  pub complete : (ts : Terms) → Wfs 32 tab ts → l ≡ terms-bytes ts → r ≡ true
+
+abbrev pub EndAt : List ℕ → List ℕ → ℕ → ℕ → Type 0
+EndAt l tab i e = e ≡ i + skip tab (drop i l) 1
+
+-- r is the first node with the byte of node i
+pub record FirstLike (l : List ℕ) (i r : ℕ) : Type 0 where
+  pub within : r ≤ i
+  pub alike : at l r ≡ at l i
+  pub first : (j : ℕ) → j < r → at l j ≡ at l i → ⊥
+
+pub record FirstClass (l : List ℕ) (i r : ℕ) : Type 0 where
+  pub symbol : at l i < 128 → r ≡ i
+  pub variable : 128 ≤ at l i → FirstLike l i r
+
+-- every entry below n has the property
+abbrev pub Each : (ℕ → ℕ → Type 0) → List ℕ → ℕ → Type 0
+Each P d n = (i : ℕ) → i < n → P i (at d i)
+
+-- the terms at nodes n₁ and n₂ are unified
+pub record Solved (l tab : List ℕ) (n₁ n₂ : ℕ) (ends cs zs : List ℕ) : Type 0 where
+  pub ended : Each (EndAt l tab) ends (length l)
+  pub sized : Sized l tab ends cs zs
+  pub classes : Classes (arena l tab ends) n₁ n₂ (at cs)
+  pub closed : Closed (arena l tab ends) (at cs)
+  pub started : at cs n₁ ≡ at cs n₂
+  pub known : Known (arena l tab ends) (at zs) true
+
+abbrev pub Outcome : List ℕ → List ℕ → ℕ → ℕ → List ℕ → List ℕ → List ℕ → Bool → Type 0
+Outcome l tab n₁ n₂ ends cs zs true = Solved l tab n₁ n₂ ends cs zs
+Outcome l tab n₁ n₂ ends cs zs false = Unit {0}
+
+-- the answer is whether the terms at n₁ and n₂ have a unifier
+abbrev pub Decided : List ℕ → List ℕ → ℕ → ℕ → Bool → Type 0
+Decided l tab n₁ n₂ r = (ts : Terms) → Laid l tab ts → (s t : Term) → subterm-in ts n₁ ≡ some s → subterm-in ts n₂ ≡ some t → r ≡ is-some (mgu s t)
