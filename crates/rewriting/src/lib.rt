@@ -1,0 +1,1 @@
+// Rewriting: definitions and theory only. The code that rewrites stands in `normaliser`.
