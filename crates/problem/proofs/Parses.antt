@@ -1,0 +1,148 @@
+-- The loop over equation fields, and the problem as a whole: a lemma for each step and each return. Assumes nothing.
+use mathlib.Core.Path.{_≡_, refl, ap, sym, _∙_}
+use mathlib.Core.List.{List, [], _∷_, _++_, append-assoc, append-nil}
+use Prim.Native.Nat.{ℕ, zero, suc, _+_, _-_, _<_, _≤_}
+use native.Mathlib.Omega.{arith}
+use lib.ListN.{length, take, drop, length-append, length-drop, length-take, drop-of-length-le}
+use borrow.Author.Tests.{lt-ltb, le-ltb}
+use Rattle.problem.specs.Problem.{Reading, ok, refused, _>>=_, refuse-if, Field, due, Symbol, symbol-field, budget-field, Equation, equation-fields, Problem, parse}
+use Rattle.problem.specs.Parser.{field-at, symbols-of, SymbolsAt, BudgetAt, FieldAt, IsParsed, parsed-of}
+use Rattle.problem.specs.declared.Input.{Input}
+use Rattle.problem.specs.declared.Input.the-variants.{Fine, Refused as Bad}
+use Rattle.problem.proofs.Fields.{bind-ok, bind-refused}
+use Rattle.problem.proofs.Scanned.{one-more}
+
+unfoldable pub prepend : List Equation → Reading (List Equation) → Reading (List Equation)
+prepend done (ok es) = ok (done ++ es)
+prepend done (refused n p) = refused n p
+
+prepend-none : (r : Reading (List Equation)) → r ≡ prepend [] r
+unfolding prepend
+prepend-none (ok es) = refl
+prepend-none (refused n p) = refl
+
+prepend-one : (done : List Equation) (q : Equation) (r : Reading (List Equation)) → prepend done (r >>= λ es. ok (q ∷ es)) ≡ prepend (done ++ (q ∷ [])) r
+unfolding prepend _>>=_
+prepend-one done q (ok es) = ap ok (sym (append-assoc done (q ∷ []) es))
+prepend-one done q (refused n p) = refl
+
+-- the equations that were read before place i
+pub record SoFar (tab l : List ℕ) (at count i : ℕ) : Type 0 where
+  pub done : List Equation
+  pub number : length done ≡ count
+  pub is : equation-fields (symbols-of tab) 16 at (drop at l) ≡ prepend done (equation-fields (symbols-of tab) (16 - count) i (drop i l))
+
+module _ (tab l : List ℕ) (at : ℕ) where
+  pub fields-start : SoFar tab l at 0 at
+  fields-start = record { done = []; number = refl; is = prepend-none (equation-fields (symbols-of tab) 16 at (drop at l)) }
+
+  module _ (count i : ℕ) (s : SoFar tab l at count i) where
+    pub fields-turn : i < length l → (e : ℕ) → FieldAt tab l i count e → SoFar tab l at (count + 1) e
+    unfolding field-at
+    fields-turn h e f =
+        let z : 16 - count ≡ suc (16 - (count + 1)) = omega (arith, f .more) in
+        let step : equation-fields (symbols-of tab) (16 - count) i (drop i l) ≡
+        (equation-fields (symbols-of tab) (16 - (count + 1)) e (drop e l) >>= λ es. ok (f .equation ∷ es)) =
+        rw z (one-more (symbols-of tab) i (16 - (count + 1)) (drop i l) (field-at 0x03 l i e) (λ q. omega (arith, length-drop i l)) (f .field)
+        ∙ bind-ok _ (f .read)) in
+        record {
+          done = s .done ++ (f .equation ∷ []);
+          number = length-append (s .done) (f .equation ∷ []) ∙ omega (arith, s .number);
+          is = s .is ∙ ap (prepend (s .done)) step ∙ prepend-one (s .done) (f .equation) (equation-fields (symbols-of tab) (16 - (count + 1)) e (drop e l));
+        }
+
+    pub fields-bad : (n p : ℕ) → equation-fields (symbols-of tab) (16 - count) i (drop i l) ≡ refused n p →
+        equation-fields (symbols-of tab) 16 at (drop at l) ≡ refused n p
+    unfolding prepend
+    fields-bad n p e = s .is ∙ rw e refl
+
+    none-behind : (more : ℕ) → equation-fields (symbols-of tab) more i [] ≡ ok []
+    unfolding equation-fields
+    none-behind zero = refl
+    none-behind (suc more) = refl
+
+    pub fields-end : length l ≤ i → (es : List Equation) × (equation-fields (symbols-of tab) 16 at (drop at l) ≡ ok es) × (length es ≡ count)
+    unfolding prepend
+    fields-end h = (s .done ++ [], s .is ∙ rw (drop-of-length-le l h, none-behind (16 - count)) refl, ap length (append-nil (s .done)) ∙ s .number)
+
+-- the problem
+bind-both : {A B C : Type 0} (m : Reading A) (f : A → Reading B) (g : A → B → Reading C) (n p : ℕ) → (m >>= f) ≡ refused n p →
+    (m >>= λ a. f a >>= g a) ≡ refused n p
+unfolding _>>=_
+bind-both (ok a) f g n p h = rw h refl
+bind-both (refused k q) f g n p h = cc
+
+equal-bad : (l : List ℕ) (n p : ℕ) → parse l ≡ refused n p → Bad n p ≡ parsed-of (parse l)
+unfolding parsed-of
+equal-bad l n p h = rw h refl
+
+abbrev Answer : List ℕ → Input → Type 0
+Answer l r = (r ≡ parsed-of (parse l)) × IsParsed l r
+
+module _ (l : List ℕ) where
+  answer-bad : (n p : ℕ) → parse l ≡ refused n p → Answer l (Bad n p)
+  answer-bad n p h = (equal-bad l n p h, h)
+
+  pub parse-1 : 8192 < length l → Answer l (Bad 2 8192)
+  unfolding parse _>>=_ refuse-if
+  parse-1 h = answer-bad 2 8192 (rw (lt-ltb 8192 (length l) h) refl)
+
+  module _ (h : length l ≤ 8192) where
+    rest-of : List Symbol → Field → Reading Problem
+    rest-of Σ s = due 0x02 (s .end) (s .rest) >>= λ b. budget-field b >>= λ budget. equation-fields Σ 16 (b .end) (b .rest) >>= λ es. ok (record { symbols = Σ; budget = budget; equations = es })
+
+    parse-is : parse l ≡ (due 0x01 0 l >>= λ s. symbol-field s >>= λ Σ. rest-of Σ s)
+    unfolding parse _>>=_ refuse-if rest-of
+    parse-is = rw (le-ltb 8192 (length l) h) refl
+
+    pub parse-2 : (n p : ℕ) → (due 0x01 0 l >>= symbol-field) ≡ refused n p → Answer l (Bad n p)
+    parse-2 n p e = answer-bad n p (parse-is ∙ bind-both (due 0x01 0 l) symbol-field (λ s Σ. rest-of Σ s) n p e)
+
+    module _ (e : ℕ) (S : SymbolsAt l e) where
+      abbrev tab : List ℕ
+      tab = take (e - 3) (drop 3 l)
+
+      budget-then : (n p : ℕ) → rest-of (symbols-of tab) (field-at 0x01 l 0 e) ≡ refused n p → parse l ≡ refused n p
+      budget-then n p q = parse-is ∙ bind-ok _ (S .field) ∙ bind-ok _ (S .read) ∙ q
+
+      rest-is : rest-of (symbols-of tab) (field-at 0x01 l 0 e) ≡
+          (due 0x02 e (drop e l) >>= λ b. budget-field b >>= λ budget. equation-fields (symbols-of tab) 16 (b .end) (b .rest) >>= λ es. ok (record { symbols = symbols-of tab; budget = budget; equations = es }))
+      unfolding rest-of field-at
+      rest-is = refl
+
+      pub parse-3 : (n p : ℕ) → (due 0x02 e (drop e l) >>= budget-field) ≡ refused n p → Answer l (Bad n p)
+      parse-3 n p q =
+          answer-bad n p (budget-then n p (rest-is ∙ bind-both (due 0x02 e (drop e l)) budget-field
+          (λ b budget. equation-fields (symbols-of tab) 16 (b .end) (b .rest) >>= λ es. ok (record { symbols = symbols-of tab; budget = budget; equations = es })) n p q))
+
+      module _ (b : ℕ) (B : BudgetAt l e b) where
+        behind : rest-of (symbols-of tab) (field-at 0x01 l 0 e) ≡
+            (equation-fields (symbols-of tab) 16 (e + 7) (drop (e + 7) l) >>= λ es. ok (record { symbols = symbols-of tab; budget = b; equations = es }))
+        unfolding field-at
+        behind = rest-is ∙ bind-ok _ (B .field) ∙ bind-ok _ (B .read)
+
+        pub parse-4 : (n p : ℕ) → equation-fields (symbols-of tab) 16 (e + 7) (drop (e + 7) l) ≡ refused n p → Answer l (Bad n p)
+        parse-4 n p q = answer-bad n p (budget-then n p (behind ∙ bind-refused _ q))
+
+        pub parse-5 : (n : ℕ) → ((es : List Equation) × (equation-fields (symbols-of tab) 16 (e + 7) (drop (e + 7) l) ≡ ok es) × (length es ≡ n)) → Answer l (Fine e b n)
+        unfolding parsed-of
+        parse-5 n q =
+            let P : Problem = record { symbols = symbols-of tab; budget = b; equations = q .0 } in
+            let is : parse l ≡ ok P = parse-is ∙ bind-ok _ (S .field) ∙ bind-ok _ (S .read) ∙ behind ∙ bind-ok _ (q .1) in
+            let z : 3 + (length (symbols-of tab) + length (symbols-of tab)) ≡ e =
+            omega (arith, S .table .even, length-take (e - 3) (drop 3 l), length-drop 3 l, S .low, S .within) in (
+              sym (ap parsed-of is ∙ rw (z, q .2) refl),
+              (
+                P,
+                record {
+                  is = is;
+                  small = h;
+                  table = S;
+                  symbols-are = refl;
+                  budget-is = refl;
+                  within = B .within;
+                  equations-are = q .1;
+                  number = q .2;
+                },
+              ),
+            )

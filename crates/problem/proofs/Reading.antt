@@ -1,0 +1,249 @@
+-- What is read from bytes: a term over the symbols, with variables below 16, whose bytes stand at the front. Assumes nothing.
+use mathlib.Core.Path.{_≡_, refl, sym, ap, subst, subst⁻¹, _∙_}
+use mathlib.Core.Bool.{Bool, true, false, not, _&&_}
+use mathlib.Core.List.{List, [], _∷_, _++_, append-assoc}
+use Prim.Native.Nat.{ℕ, zero, suc, _+_, _-_, _≤_, _<_}
+use native.Mathlib.Omega.{arith}
+use lib.Dec.{T, ltb, leb, ltb→lt, lt→ltb, leb→le, le→leb}
+use lib.ListN.{length, length-append}
+use Rattle.terms.specs.Base.{if_then_else_}
+use Rattle.terms.specs.Term.{Term, var, node, Terms, nil, cons, size, sizes, term-bytes, terms-bytes}
+use Rattle.terms.proofs.Limits.{Made, MadeAll}
+use Rattle.problem.specs.Problem.{Reading, ok, refused, _>>=_, refuse-if, Symbol, arity-of, Byte, symbol, variable, neither, byte-of, Part, read-term, read-terms}
+use Rattle.problem.specs.Over.{Over, OverAll}
+use Rattle.terms.specs.Scan.{count}
+
+pub no-ok : {A : Type 0} {n at : ℕ} {a : A} → refused n at ≡ ok a → ⊥
+no-ok e = let h : _≡_ {A = ℕ} 0 1 = cc in omega arith
+
+pub ok-injective : {A : Type 0} {a b : A} → ok a ≡ ok b → a ≡ b
+ok-injective e = cc
+
+-- A reading that came to its end has read what stands before its last step.
+pub from-bind : {A B C : Type 0} (m : Reading A) (next : A → Reading B) (b : B) → (m >>= next) ≡ ok b →
+    ((a : A) → m ≡ ok a → next a ≡ ok b → C) → C
+unfolding _>>=_
+from-bind (ok a) next b e f = f a refl e
+from-bind (refused n at) next b e f = absurd (no-ok e)
+
+-- What was not refused.
+pub passed : (b : Bool) (n at : ℕ) (u : Unit {0}) → refuse-if b n at ≡ ok u → b ≡ false
+unfolding refuse-if
+passed true n at u e = absurd (no-ok e)
+passed false n at u e = refl
+
+true-is : (b : Bool) → b ≡ true → T b
+true-is b h = subst⁻¹ T h tt
+
+false-is : (b : Bool) → b ≡ false → T (not b)
+false-is b h = subst⁻¹ (λ (b : Bool). T (not b)) h tt
+
+pub both : (a b : Bool) → (a && b) ≡ true → (a ≡ true) × (b ≡ true)
+both true b h = (refl, h)
+both false b h = (cc, cc)
+
+-- What a byte is: a symbol of the table by its number, or a variable from 0 to 15.
+pub ByteIs : List Symbol → ℕ → Byte → Type 0
+ByteIs Σ b (symbol f) = (f ≡ b) × (f < length Σ)
+ByteIs Σ b (variable x) = (b ≡ 0x80 + x) × (x < 16)
+ByteIs Σ b neither = Unit {0}
+
+pub byte-is : (Σ : List Symbol) (b : ℕ) → ByteIs Σ b (byte-of Σ b)
+unfolding ByteIs byte-of if_then_else_
+byte-is Σ b = go (ltb b (length Σ)) (leb 0x80 b && leb b 0x8f) refl refl
+  where
+    go : (p q : Bool) → ltb b (length Σ) ≡ p → (leb 0x80 b && leb b 0x8f) ≡ q →
+        ByteIs Σ b (byte-of Σ b)
+    go true q h k = rw (h, byte-of) (refl, ltb→lt b (length Σ) (true-is _ h))
+    go false true h k =
+        let c = both (leb 0x80 b) (leb b 0x8f) k in
+        let lo : 0x80 ≤ b = leb→le 0x80 b (true-is _ (c .0)) in
+        let hi : b ≤ 0x8f = leb→le b 0x8f (true-is _ (c .1)) in
+        rw (h, byte-of) (rw k (omega arith, omega arith))
+    go false false h k = rw (h, byte-of) (rw k tt)
+
+module _ (Σ : List Symbol) where
+  pub record ReadsTo (at : ℕ) (bytes : List ℕ) (p : Part Term) : Type 0 where
+    pub front : bytes ≡ term-bytes (p .part) ++ p .rest
+    pub ends : p .end ≡ at + size (p .part)
+    pub over : Over Σ (p .part)
+    pub made : Made (λ f. f < length Σ) (λ x. x < 16) (p .part)
+
+  pub record ReadsAll (n at : ℕ) (bytes : List ℕ) (p : Part Terms) : Type 0 where
+    pub front : bytes ≡ terms-bytes (p .part) ++ p .rest
+    pub ends : p .end ≡ at + sizes (p .part)
+    pub over : OverAll Σ (p .part)
+    pub made : MadeAll (λ f. f < length Σ) (λ x. x < 16) (p .part)
+    pub counted : count (p .part) ≡ n
+
+  all-nil : (at : ℕ) (bytes : List ℕ) → ReadsAll zero at bytes (record { part = nil; end = at; rest = bytes })
+  unfolding term-bytes size Over Made count
+  all-nil at bytes = record { front = refl; ends = omega arith; over = tt; made = tt; counted = refl }
+
+  all-cons : (n at : ℕ) (bytes : List ℕ) (t : Part Term) (ts : Part Terms) → ReadsTo at bytes t → ReadsAll n (t .end) (t .rest) ts →
+      ReadsAll (suc n) at bytes (record { part = cons (t .part) (ts .part); end = ts .end; rest = ts .rest })
+  unfolding term-bytes size Over Made count
+  all-cons n at bytes t ts r s =
+      record {
+        front = r .front ∙ ap (λ l. term-bytes (t .part) ++ l) (s .front) ∙ simp append-assoc;
+        ends = omega (arith, r .ends, s .ends);
+        over = (r .over, s .over);
+        made = (r .made, s .made);
+        counted = ap suc (s .counted);
+      }
+
+  one-node : (f at : ℕ) (bytes : List ℕ) (ts : Part Terms) → f < length Σ → ReadsAll (arity-of Σ f) (at + 1) bytes ts →
+      ReadsTo at (f ∷ bytes) (record { part = node f (ts .part); end = ts .end; rest = ts .rest })
+  unfolding term-bytes size Over Made count
+  one-node f at bytes ts h s =
+      record { front = ap (λ l. f ∷ l) (s .front); ends = omega (arith, s .ends); over = (h, s .counted, s .over); made = (h, s .made) }
+
+  one-variable : (x at : ℕ) (bytes : List ℕ) → x < 16 → ReadsTo at ((0x80 + x) ∷ bytes) (record { part = var x; end = at + 1; rest = bytes })
+  unfolding term-bytes size Over Made
+  one-variable x at bytes l = record { front = refl; ends = refl; over = tt; made = l }
+
+  pub reads-all : (one : ℕ → List ℕ → Reading (Part Term)) → ((at : ℕ) (bytes : List ℕ) (p : Part Term) → one at bytes ≡ ok p → ReadsTo at bytes p) →
+      (n at : ℕ) (bytes : List ℕ) (p : Part Terms) → read-terms one n at bytes ≡ ok p → ReadsAll n at bytes p
+  unfolding read-terms
+  reads-all one h zero at bytes p e = subst (ReadsAll zero at bytes) (ok-injective e) (all-nil at bytes)
+  reads-all one h (suc n) at bytes p e =
+      from-bind _ _ p e λ t e₁ k.
+      from-bind _ _ p k λ ts e₂ e₃.
+      subst (ReadsAll (suc n) at bytes) (ok-injective e₃) (all-cons n at bytes t ts (h at bytes t e₁) (reads-all one h n _ _ ts e₂))
+
+  -- A term that is read is a term over the symbols, its bytes are those passed, and its end is the place behind them.
+  pub reads : (depth at : ℕ) (bytes : List ℕ) (p : Part Term) → read-term Σ depth at bytes ≡ ok p → ReadsTo at bytes p
+  unfolding read-term ByteIs
+  reads zero at bytes p e = absurd (no-ok e)
+  reads (suc depth) at [] p e = absurd (no-ok e)
+  reads (suc depth) at (b ∷ bytes) p e = go (byte-of Σ b) refl (byte-is Σ b) (λ at bytes p e. reads depth at bytes p e)
+    where
+      go : (k : Byte) → byte-of Σ b ≡ k → ByteIs Σ b (byte-of Σ b) → ((at : ℕ) (bytes : List ℕ) (p : Part Term) → read-term Σ depth at bytes ≡ ok p → ReadsTo at bytes p) → ReadsTo at (b ∷ bytes) p
+      go (symbol f) k i ih =
+          let j : ByteIs Σ b (symbol f) = rw k at i in
+          from-bind _ _ p (rw (k, read-term) at e) λ ts e₁ e₂.
+          subst⁻¹ (λ (c : ℕ). ReadsTo at (c ∷ bytes) p) (sym (j .0))
+          (subst (ReadsTo at (f ∷ bytes)) (ok-injective e₂) (one-node f at bytes ts (j .1) (reads-all _ ih (arity-of Σ f) (at + 1) bytes ts e₁)))
+      go (variable x) k i ih =
+          let j : ByteIs Σ b (variable x) = rw k at i in
+          subst⁻¹ (λ (c : ℕ). ReadsTo at (c ∷ bytes) p) (j .0)
+          (subst (ReadsTo at ((0x80 + x) ∷ bytes)) (ok-injective (rw (k, read-term) at e)) (one-variable x at bytes (j .1)))
+      go neither k i ih = absurd (no-ok (rw (k, read-term) at e))
+
+  -- What is left behind a term is shorter than what was there.
+  rest-shorter : (at : ℕ) (bytes : List ℕ) (p : Part Term) → ReadsTo at bytes p → length (p .rest) ≤ length bytes
+  rest-shorter at bytes p r = omega (arith, ap length (r .front) ∙ length-append (term-bytes (p .part)) (p .rest))
+
+  agree-all : (one one′ : ℕ → List ℕ → Reading (Part Term)) (bound : ℕ) →
+      ((at : ℕ) (bytes : List ℕ) → length bytes ≤ bound → one at bytes ≡ one′ at bytes) →
+      ((at : ℕ) (bytes : List ℕ) (p : Part Term) → one at bytes ≡ ok p → length (p .rest) ≤ length bytes) →
+      (n at : ℕ) (bytes : List ℕ) → length bytes ≤ bound → read-terms one n at bytes ≡ read-terms one′ n at bytes
+  unfolding read-terms _>>=_
+  agree-all one one′ bound agree shorter zero at bytes h = refl
+  agree-all one one′ bound agree shorter (suc n) at bytes h =
+      rw (← agree at bytes h) (go (one at bytes) refl (λ at bytes h. agree-all one one′ bound agree shorter n at bytes h))
+    where
+      after : (ℕ → List ℕ → Reading (Part Term)) → Part Term → Reading (Part Terms)
+      after f t = read-terms f n (t .end) (t .rest) >>= λ ts. ok (record { part = cons (t .part) (ts .part); end = ts .end; rest = ts .rest })
+
+      go : (m : Reading (Part Term)) → one at bytes ≡ m →
+          ((at : ℕ) (bytes : List ℕ) → length bytes ≤ bound → read-terms one n at bytes ≡ read-terms one′ n at bytes) →
+          (m >>= after one) ≡ (m >>= after one′)
+      go (ok t) e ih =
+          let k = shorter at bytes t e in
+          ap (λ (r : Reading (Part Terms)). r >>= λ ts. ok (record { part = cons (t .part) (ts .part); end = ts .end; rest = ts .rest }))
+          (ih (t .end) (t .rest) (omega arith))
+      go (refused m p) e ih = refl
+
+  -- So a depth above the count of the bytes is enough: the bound of `read-term` is never what refuses.
+  pub depth-enough : (d d′ at : ℕ) (bytes : List ℕ) → length bytes < d → length bytes < d′ → read-term Σ d at bytes ≡ read-term Σ d′ at bytes
+  unfolding read-term
+  depth-enough zero d′ at bytes h k = absurd (omega arith)
+  depth-enough (suc d) zero at bytes h k = absurd (omega arith)
+  depth-enough (suc d) (suc d′) at [] h k = refl
+  depth-enough (suc d) (suc d′) at (b ∷ bytes) h k =
+      ap
+      (λ (m : ℕ → Reading (Part Terms)). elim (byte-of Σ b) as (λ c. Reading (Part Term)) [
+        | symbol f ↦ m f >>= λ ts. ok (record { part = node f (ts .part); end = ts .end; rest = ts .rest })
+        | variable x ↦ ok (record { part = var x; end = at + 1; rest = bytes })
+        | neither ↦ refused 10 at
+      ])
+      (λ j f. agree-all (λ at bytes. read-term Σ d at bytes) (λ at bytes. read-term Σ d′ at bytes) (length bytes)
+      (λ at bs l. depth-enough d d′ at bs (omega arith) (omega arith))
+      (λ at bs p e. rest-shorter at bs p (reads d at bs p e))
+      (arity-of Σ f) (at + 1) bytes (omega arith) j)
+
+-- Terms whose variables are 0 to 15.
+unfoldable mutual
+  pub Named : Term → Type 0
+  Named (var x) = x < 16
+  Named (node f ts) = NamedAll ts
+
+  pub NamedAll : Terms → Type 0
+  NamedAll nil = Unit {0}
+  NamedAll (cons t ts) = Named t × NamedAll ts
+
+is-true : (b : Bool) → T b → b ≡ true
+is-true true t = refl
+is-true false t = absurd t
+
+is-false : (b : Bool) → (T b → ⊥) → b ≡ false
+is-false true f = absurd (f tt)
+is-false false f = refl
+
+module _ (Σ : List Symbol) (few : length Σ ≤ 16) where
+  byte-symbol : (f : ℕ) → f < length Σ → byte-of Σ f ≡ symbol f
+  unfolding byte-of if_then_else_
+  byte-symbol f h = rw (is-true (ltb f (length Σ)) (lt→ltb f (length Σ) h))
+
+  byte-variable : (x : ℕ) → x < 16 → byte-of Σ (0x80 + x) ≡ variable x
+  unfolding byte-of if_then_else_
+  byte-variable x h =
+      let lo : leb 0x80 (0x80 + x) ≡ true = is-true _ (le→leb 0x80 (0x80 + x) (omega arith)) in
+      let hi : leb (0x80 + x) 0x8f ≡ true = is-true _ (le→leb (0x80 + x) 0x8f (omega arith)) in
+      let no : ltb (0x80 + x) (length Σ) ≡ false = is-false _ (λ t. let l = ltb→lt (0x80 + x) (length Σ) t in omega arith) in
+      let back : 0x80 + x - 0x80 ≡ x = omega arith in
+      rw no (rw lo (rw hi (ap variable back)))
+
+  var-step : (x d at end : ℕ) (rest : List ℕ) → x < 16 → end ≡ at + 1 →
+      read-term Σ (suc d) at ((0x80 + x) ∷ rest) ≡ ok (record { part = var x; end = end; rest = rest })
+  unfolding read-term
+  var-step x d at end rest h e = rw (byte-variable x h, read-term) (rw e refl)
+
+  node-step : (f : ℕ) (ts : Terms) (d at end : ℕ) (bytes rest : List ℕ) → f < length Σ → count ts ≡ arity-of Σ f →
+      read-terms (λ at bytes. read-term Σ d at bytes) (count ts) (at + 1) bytes ≡ ok (record { part = ts; end = end; rest = rest }) →
+      read-term Σ (suc d) at (f ∷ bytes) ≡ ok (record { part = node f ts; end = end; rest = rest })
+  unfolding read-term _>>=_
+  node-step f ts d at end bytes rest h c ih = rw (byte-symbol f h, read-term) (rw (← c) (rw ih refl))
+
+  nil-step : (depth at end : ℕ) (rest : List ℕ) → at ≡ end →
+      read-terms (λ at bytes. read-term Σ depth at bytes) zero at rest ≡ ok (record { part = nil; end = end; rest = rest })
+  unfolding read-terms
+  nil-step depth at end rest e = rw e refl
+
+  cons-step : (t : Term) (ts : Terms) (one : ℕ → List ℕ → Reading (Part Term)) (at mid end : ℕ) (bytes more rest : List ℕ) →
+      one at (bytes ++ (more ++ rest)) ≡ ok (record { part = t; end = mid; rest = more ++ rest }) →
+      read-terms one (count ts) mid (more ++ rest) ≡ ok (record { part = ts; end = end; rest = rest }) →
+      read-terms one (suc (count ts)) at ((bytes ++ more) ++ rest) ≡ ok (record { part = cons t ts; end = end; rest = rest })
+  unfolding read-terms _>>=_
+  cons-step t ts one at mid end bytes more rest h k = rw (append-assoc bytes more rest) (rw h (rw k refl))
+
+  -- Every term over the symbols, its variables 0 to 15, is read back from its bytes, whatever stands behind them.
+  mutual
+    unfolding term-bytes size Over count Named
+
+    pub read-back : (t : Term) (depth at end : ℕ) (rest : List ℕ) → Over Σ t → Named t → size t ≤ depth → end ≡ at + size t →
+        read-term Σ depth at (term-bytes t ++ rest) ≡ ok (record { part = t; end = end; rest = rest })
+    read-back (var x) zero at end rest o n h e = absurd (omega arith)
+    read-back (var x) (suc d) at end rest o n h e = var-step x d at end rest n e
+    read-back (node f ts) zero at end rest o n h e = absurd (omega arith)
+    read-back (node f ts) (suc d) at end rest o n h e =
+        node-step f ts d at end (terms-bytes ts ++ rest) rest (o .0) (o .1) (read-back-all ts d (at + 1) end rest (o .2) n (omega arith) (omega arith))
+
+    pub read-back-all : (ts : Terms) (depth at end : ℕ) (rest : List ℕ) → OverAll Σ ts → NamedAll ts → sizes ts ≤ depth → end ≡ at + sizes ts →
+        read-terms (λ at bytes. read-term Σ depth at bytes) (count ts) at (terms-bytes ts ++ rest) ≡ ok (record { part = ts; end = end; rest = rest })
+    read-back-all nil depth at end rest o n h e = nil-step depth at end rest (omega arith)
+    read-back-all (cons t ts) depth at end rest o n h e =
+        cons-step t ts (λ at bytes. read-term Σ depth at bytes) at (at + size t) end (term-bytes t) (terms-bytes ts) rest
+        (read-back t depth at (at + size t) (terms-bytes ts ++ rest) (o .0) (n .0) (omega arith) refl)
+        (read-back-all ts depth (at + size t) end rest (o .1) (n .1) (omega arith) (omega arith))

@@ -1,0 +1,73 @@
+-- `completion::parse` meets its contract. Assumes nothing.
+use Rattle.problem.proofs.Parses.{parse-1, parse-2, parse-3, parse-4, parse-5}
+use native.Mathlib.Omega.{arith}
+use borrow.Author.Needs.{needs}
+use Rattle.problem.proofs.parse.Statement.{statement}
+use Rattle.problem.proofs.parse.Tie as tie
+
+returns : tie.Need-returns
+returns c = parse-1 _ (c .if1 .taken)
+
+budget-requires : tie.Need-budget-requires
+budget-requires c κs = let S = rw (c .before .e .given .1) at (c .before .before .before .symbols .ensures) in (S .within, c .before .before .before .before .if1 .left)
+
+sub-equations : tie.Need-sub-equations
+sub-equations c = let S = rw (c .before .before .before .before .before .e .given .1) at (c .before .before .before .before .before .before .before .symbols .ensures) in omega (arith, S .low)
+
+part-equations-start : tie.Need-part-equations-start
+part-equations-start c = let S = rw (c .before .before .before .before .before .e .given .1) at (c .before .before .before .before .before .before .before .symbols .ensures) in omega (arith, S .low)
+
+part-equations-end : tie.Need-part-equations-end
+part-equations-end c = let S = rw (c .before .before .before .before .before .e .given .1) at (c .before .before .before .before .before .before .before .symbols .ensures) in omega (arith, S .within)
+
+add-equations : tie.Need-add-equations
+add-equations c = let S = rw (c .before .before .before .before .before .before .e .given .1) at (c .before .before .before .before .before .before .before .before .symbols .ensures) in omega (arith, S .high)
+
+equations-requires : tie.Need-equations-requires
+equations-requires c κs =
+    let S = rw (c .before .before .before .before .before .before .e .given .1) at (c .before .before .before .before .before .before .before .before .symbols .ensures) in
+    let B = rw (c .before .before .amount .given .1) at (c .before .before .before .before .budget .ensures) in
+    (S .table, (B .within, c .before .before .before .before .before .before .before .before .before .if1 .left))
+
+returns-2 : tie.Need-returns-2
+returns-2 c = parse-2 _ (c .before .before .before .before .if1 .left) _ _ (rw (c .before .number .given .1) at (c .before .before .before .symbols .ensures))
+
+returns-3 : tie.Need-returns-3
+returns-3 c =
+    let S = rw (c .before .before .before .before .before .e .given .1) at (c .before .before .before .before .before .before .before .symbols .ensures) in
+    parse-3 _ (c .before .before .before .before .before .before .before .before .if1 .left) _ S _ _ (rw (c .before .number2 .given .1) at (c .before .before .before .budget .ensures))
+
+returns-4 : tie.Need-returns-4
+returns-4 c =
+    let S = rw (c .before .before .before .before .before .before .before .before .before .before .e .given .1) at (c .before .before .before .before .before .before .before .before .before .before .before .before .symbols .ensures) in
+    let B = rw (c .before .before .before .before .before .before .amount .given .1) at (c .before .before .before .before .before .before .before .before .budget .ensures) in
+    parse-4 _ (c .before .before .before .before .before .before .before .before .before .before .before .before .before .if1 .left) _ S _ B _ _ (rw (c .before .number3 .given .1) at (c .before .before .before .equations .ensures))
+
+returns-5 : tie.Need-returns-5
+returns-5 c =
+    let S = rw (c .before .before .before .before .before .before .before .before .before .before .e .given .1) at (c .before .before .before .before .before .before .before .before .before .before .before .before .symbols .ensures) in
+    let B = rw (c .before .before .before .before .before .before .amount .given .1) at (c .before .before .before .before .before .before .before .before .budget .ensures) in
+    parse-5 _ (c .before .before .before .before .before .before .before .before .before .before .before .before .before .if1 .left) _ S _ B _ (rw (c .before .count .given .1) at (c .before .before .before .equations .ensures))
+
+pub parse-spec : {M : Type 1} → statement M
+parse-spec =
+    tie.close
+    (tie.spec
+    returns
+    (λ c κs. search needs)
+    (λ c. search needs)
+    (λ c. search needs)
+    budget-requires
+    (λ c. search needs)
+    (λ c. search needs)
+    sub-equations
+    part-equations-start
+    part-equations-end
+    add-equations
+    equations-requires
+    (λ c. search needs)
+    (λ c. search needs)
+    returns-2
+    returns-3
+    returns-4
+    returns-5)

@@ -1,0 +1,4 @@
+pub mod Stops
+pub mod Problem
+pub mod Parser
+pub mod Over

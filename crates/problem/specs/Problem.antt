@@ -1,0 +1,183 @@
+-- Document 01, "The problem's fields" and "Stops and what they leave", 2 to 12: a problem's bytes read front to back. Assumes nothing.
+use mathlib.Core.Bool.{Bool, true, false, not, _&&_, _||_}
+use mathlib.Core.List.{List, [], _∷_}
+use Prim.Native.Nat.{ℕ, zero, suc, _+_, _-_, _%_}
+use lib.Dec.{eqb, ltb, leb}
+use lib.ListN.{length, take, drop, getD}
+use Rattle.terms.specs.Base.{if_then_else_, number-from, member}
+use Rattle.terms.specs.Term.{Term, var, node, Terms, nil, cons, size, Pair}
+use Rattle.problem.specs.Stops.{long-problem, cut-field, wrong-tag, wrong-symbols, wrong-symbol, same-rank, wrong-budget, many-equations, wrong-term, large-side, not-one-equation}
+
+-- What was read, or the refusal's number and place.
+pub data Reading (A : Type 0) : Type 0 where
+  ok : A → Reading A
+  refused : ℕ → ℕ → Reading A
+
+infixl 10 _>>=_
+unfoldable pub _>>=_ : {A B : Type 0} → Reading A → (A → Reading B) → Reading B
+ok a >>= next = next a
+refused n at >>= next = refused n at
+
+unfoldable pub refuse-if : Bool → ℕ → ℕ → Reading (Unit {0})
+refuse-if true n at = refused n at
+refuse-if false n at = ok tt
+
+-- A field that was read: the place of its first byte, its contents, the place behind it and the bytes there.
+pub record Field : Type 0 where
+  pub first : ℕ
+  pub tag : ℕ
+  pub contents : List ℕ
+  pub end : ℕ
+  pub rest : List ℕ
+
+-- "A field is a one-byte tag, a two-byte length (high byte first), contents."
+-- 3: "field's header or contents pass the end", at the "field's first byte"
+unfoldable pub read-field : ℕ → List ℕ → Reading Field
+read-field at [] = refused cut-field at
+read-field at (tag ∷ []) = refused cut-field at
+read-field at (tag ∷ high ∷ []) = refused cut-field at
+read-field at (tag ∷ high ∷ low ∷ bytes) = do
+  let n = number-from 0 (high ∷ low ∷ [])
+  _ ← refuse-if (ltb (length bytes) n) cut-field at
+  ok (record { first = at; tag = tag; contents = take n bytes; end = at + 3 + n; rest = drop n bytes })
+
+-- 4: "tag not the one due, or the problem ends where tag 01 or 02 is due", at the "field's first byte or the end"
+unfoldable pub due : ℕ → ℕ → List ℕ → Reading Field
+due tag at [] = refused wrong-tag at
+due tag at (b ∷ bytes) = do
+  f ← read-field at (b ∷ bytes)
+  _ ← refuse-if (not (eqb (f .tag) tag)) wrong-tag at
+  ok f
+
+-- "arity 0 to 4 then rank 0 to 15 .. numbered by place"
+pub record Symbol : Type 0 where
+  pub arity : ℕ
+  pub rank : ℕ
+
+unfoldable pub arity-of : List Symbol → ℕ → ℕ
+arity-of Σ f = getD Σ f (record { arity = 0; rank = 0 }) .arity
+
+unfoldable pub rank-of : List Symbol → ℕ → ℕ
+rank-of Σ f = getD Σ f (record { arity = 0; rank = 0 }) .rank
+
+-- 6: "arity above 4 or rank above 15", at "that byte"; 7: "rank equal to an earlier symbol's", at "that byte"
+unfoldable pub read-symbols : List ℕ → ℕ → List ℕ → Reading (List Symbol)
+read-symbols ranks at [] = ok []
+read-symbols ranks at (arity ∷ []) = ok []
+read-symbols ranks at (arity ∷ rank ∷ bytes) = do
+  _ ← refuse-if (ltb 4 arity) wrong-symbol at
+  _ ← refuse-if (ltb 15 rank) wrong-symbol (at + 1)
+  _ ← refuse-if (member rank ranks) same-rank (at + 1)
+  Σ ← read-symbols (rank ∷ ranks) (at + 2) bytes
+  ok (record { arity = arity; rank = rank } ∷ Σ)
+
+-- 5: "symbol field's length 0, odd or over 32", at the "field's first byte"
+unfoldable pub symbol-field : Field → Reading (List Symbol)
+symbol-field f = do
+  let n = length (f .contents)
+  _ ← refuse-if (eqb n 0 || eqb (n % 2) 1 || ltb 32 n) wrong-symbols (f .first)
+  read-symbols [] (f .first + 3) (f .contents)
+
+-- "the budget, four bytes, high byte first, 0 to 1,000,000"; 8: "budget field not 4 bytes, or above 1,000,000"
+unfoldable pub budget-field : Field → Reading ℕ
+budget-field f = do
+  _ ← refuse-if (not (eqb (length (f .contents)) 4)) wrong-budget (f .first)
+  let budget = number-from 0 (f .contents)
+  _ ← refuse-if (ltb 1_000_000 budget) wrong-budget (f .first)
+  ok budget
+
+-- What a byte of a term is.
+pub data Byte : Type 0 where
+  symbol : ℕ → Byte
+  variable : ℕ → Byte
+  neither : Byte
+
+-- "Symbol n (0 to 15) is byte n. Variable n (0 to 15) is byte 80 + n."
+unfoldable pub byte-of : List Symbol → ℕ → Byte
+byte-of Σ b =
+    if ltb b (length Σ) then symbol b
+    else if leb 0x80 b && leb b 0x8f then variable (b - 0x80)
+    else neither
+
+-- A part that was read of a field's contents: what it is, the place behind it and the bytes there.
+pub record Part (A : Type 0) : Type 0 where
+  pub part : A
+  pub end : ℕ
+  pub rest : List ℕ
+
+-- so many terms, one behind the other
+unfoldable pub read-terms : (ℕ → List ℕ → Reading (Part Term)) → ℕ → ℕ → List ℕ → Reading (Part Terms)
+read-terms one zero at bytes = ok (record { part = nil; end = at; rest = bytes })
+read-terms one (suc n) at bytes = do
+  t ← one at bytes
+  ts ← read-terms one n (t .end) (t .rest)
+  ok (record { part = cons (t .part) (ts .part); end = ts .end; rest = ts .rest })
+
+-- 10: "byte that is no symbol and no variable; field ends inside a term", at "that byte or the field's end".
+-- The first number bounds the depth; as many as there are bytes always suffices.
+unfoldable pub read-term : List Symbol → ℕ → ℕ → List ℕ → Reading (Part Term)
+read-term Σ zero at bytes = refused wrong-term at
+read-term Σ (suc depth) at [] = refused wrong-term at
+read-term Σ (suc depth) at (b ∷ bytes) =
+    elim (byte-of Σ b) [
+      | symbol f ↦ do
+        ts ← read-terms (λ at bytes. read-term Σ depth at bytes) (arity-of Σ f) (at + 1) bytes
+        ok (record { part = node f (ts .part); end = ts .end; rest = ts .rest })
+      | variable x ↦ ok (record { part = var x; end = at + 1; rest = bytes })
+      | neither ↦ refused wrong-term at
+    ]
+
+-- 11: "side over 120 nodes", at the "side's first byte"
+unfoldable pub read-side : List Symbol → ℕ → List ℕ → Reading (Part Term)
+read-side Σ at bytes = do
+  t ← read-term Σ (suc (length bytes)) at bytes
+  _ ← refuse-if (ltb 120 (size (t .part))) large-side at
+  ok t
+
+-- An input equation, with the place of its field's first byte.
+pub record Equation : Type 0 where
+  pub first : ℕ
+  pub sides : Pair
+
+-- "an equation, left term then right term"; 10: "byte after the right term", at "that byte"
+unfoldable pub equation-field : List Symbol → Field → Reading Equation
+equation-field Σ f = do
+  l ← read-side Σ (f .first + 3) (f .contents)
+  r ← read-side Σ (l .end) (l .rest)
+  _ ← refuse-if (ltb 0 (length (r .rest))) wrong-term (r .end)
+  ok (record { first = f .first; sides = record { left = l .part; right = r .part } })
+
+-- "tag 03, 0 to 16 times"; 9: "seventeenth equation field", at the "field's first byte". The first number says how many may still come.
+unfoldable pub equation-fields : List Symbol → ℕ → ℕ → List ℕ → Reading (List Equation)
+equation-fields Σ zero at [] = ok []
+equation-fields Σ zero at (b ∷ bytes) = do
+  _ ← due 0x03 at (b ∷ bytes)
+  refused many-equations at
+equation-fields Σ (suc more) at [] = ok []
+equation-fields Σ (suc more) at (b ∷ bytes) = do
+  f ← due 0x03 at (b ∷ bytes)
+  e ← equation-field Σ f
+  es ← equation-fields Σ more (f .end) (f .rest)
+  ok (e ∷ es)
+
+pub record Problem : Type 0 where
+  pub symbols : List Symbol
+  pub budget : ℕ
+  pub equations : List Equation
+
+-- 2: "problem over 8,192 bytes", place 8,192. "Order: 1, 2, then front to back through the problem."
+unfoldable pub parse : List ℕ → Reading Problem
+parse bytes = do
+  _ ← refuse-if (ltb 8192 (length bytes)) long-problem 8192
+  s ← due 0x01 0 bytes
+  Σ ← symbol-field s
+  b ← due 0x02 (s .end) (s .rest)
+  budget ← budget-field b
+  es ← equation-fields Σ 16 (b .end) (b .rest)
+  ok (record { symbols = Σ; budget = budget; equations = es })
+
+-- 12: "compare, unify, subterm: equation fields are not exactly one", at "the end if none, else second field's first byte"
+unfoldable pub only-equation : ℕ → List Equation → Reading Equation
+only-equation end [] = refused not-one-equation end
+only-equation end (e ∷ []) = ok e
+only-equation end (e ∷ e′ ∷ es) = refused not-one-equation (e′ .first)
