@@ -1,0 +1,112 @@
+-- What is read fits: a problem that is accepted has at most 16 symbols and 16 equations, whose sides have at most 120 nodes and variables below 16.
+-- Assumes nothing.
+use mathlib.Core.Path.{_≡_}
+use mathlib.Core.Bool.{Bool, true, false, _||_}
+use mathlib.Core.List.{List, [], _∷_}
+use Prim.Native.Nat.{ℕ, zero, suc, _+_, _*_, _%_, _≤_}
+use native.Mathlib.Omega.{arith}
+use lib.Dec.{eqb, ltb}
+use lib.ListN.{length}
+use borrow.Author.Tests.{ltb-false}
+use Rattle.terms.specs.Base.{number-from}
+use Rattle.terms.specs.Term.{Term, size}
+use Rattle.terms.proofs.Every.{Every, of-none, of-cons}
+use Rattle.problem.specs.Problem.{ok, Field, Symbol, read-symbols, symbol-field, budget-field, Part, read-side, Equation, equation-field, equation-fields, Problem, parse}
+use Rattle.problem.specs.Over.{Over}
+use Rattle.completion.proofs.Over.{OverPair, OverEquations}
+use Rattle.problem.proofs.Reading.{ReadsTo, reads, from-bind, no-ok, ok-injective, passed}
+use Rattle.completion.proofs.Limits.{Held, HeldPair, Accepted}
+
+last-of : (a b : Bool) → (a || b) ≡ false → b ≡ false
+last-of true b h = absurd (let z : _≡_ {A = ℕ} 0 1 = cc in omega arith)
+last-of false b h = h
+
+symbols-read : (ranks : List ℕ) (at : ℕ) (bytes : List ℕ) (Σ : List Symbol) → read-symbols ranks at bytes ≡ ok Σ → 2 * length Σ ≤ length bytes
+unfolding read-symbols
+symbols-read ranks at [] Σ e = let q : [] ≡ Σ = ok-injective e in rw (← q) (omega arith)
+symbols-read ranks at (a ∷ []) Σ e = let q : [] ≡ Σ = ok-injective e in rw (← q) (omega arith)
+symbols-read ranks at (a ∷ r ∷ bytes) Σ e =
+    from-bind _ _ Σ e λ _ _ e.
+    from-bind _ _ Σ e λ _ _ e.
+    from-bind _ _ Σ e λ _ _ e.
+    from-bind _ _ Σ e λ Σ′ h e.
+    let q : record { arity = a; rank = r } ∷ Σ′ ≡ Σ = ok-injective e in
+    let k = symbols-read (r ∷ ranks) (at + 2) bytes Σ′ h in
+    rw (← q) (omega arith)
+
+symbols-few : (f : Field) (Σ : List Symbol) → symbol-field f ≡ ok Σ → length Σ ≤ 16
+unfolding symbol-field
+symbols-few f Σ e =
+    from-bind _ _ Σ e λ u t h.
+    let n : ℕ = length (f .contents) in
+    let few : n ≤ 32 = ltb-false 32 n (last-of (eqb n 0 || eqb (n % 2) 1) (ltb 32 n) (passed _ 5 (f .first) u t)) in
+    let k = symbols-read [] (f .first + 3) (f .contents) Σ h in
+    omega arith
+
+budget-few : (f : Field) (b : ℕ) → budget-field f ≡ ok b → b ≤ 1_000_000
+unfolding budget-field
+budget-few f b e =
+    from-bind _ _ b e λ _ _ e.
+    from-bind _ _ b e λ u t e.
+    let q : number-from 0 (f .contents) ≡ b = ok-injective e in
+    let h = ltb-false 1_000_000 (number-from 0 (f .contents)) (passed _ 8 (f .first) u t) in
+    omega arith
+
+module _ (Σ : List Symbol) where
+  abbrev n : ℕ
+  n = length Σ
+
+  side-fits : (at : ℕ) (bytes : List ℕ) (p : Part Term) → read-side Σ at bytes ≡ ok p → Held n 16 (p .part) × Over Σ (p .part)
+  unfolding read-side
+  side-fits at bytes p e =
+      from-bind _ _ p e λ t a e.
+      from-bind _ _ p e λ u b e.
+      let q : t ≡ p = ok-injective e in
+      let r : ReadsTo Σ at bytes t = reads Σ (suc (length bytes)) at bytes t a in
+      rw (← q) (record { small = ltb-false 120 (size (t .part)) (passed _ 11 at u b); made = r .made }, r .over)
+
+  equation-fits : (f : Field) (e : Equation) → equation-field Σ f ≡ ok e → HeldPair n 16 (e .sides) × OverPair Σ (e .sides)
+  unfolding equation-field
+  equation-fits f e h =
+      from-bind _ _ e h λ l a h.
+      from-bind _ _ e h λ r b h.
+      from-bind _ _ e h λ _ _ h.
+      let q : record { first = f .first; sides = record { left = l .part; right = r .part } } ≡ e = ok-injective h in
+      let x = side-fits (f .first + 3) (f .contents) l a in
+      let y = side-fits (l .end) (l .rest) r b in
+      rw (← q) (record { left = x .0; right = y .0 }, (x .1, y .1))
+
+  record EquationsFit (more : ℕ) (es : List Equation) : Type 0 where
+    few : length es ≤ more
+    fit : Every (λ (e : Equation). HeldPair n 16 (e .sides)) es
+    over : OverEquations Σ es
+
+  none-fit : (more : ℕ) (es : List Equation) → [] ≡ es → EquationsFit more es
+  none-fit more es q = rw (← q) (record { few = omega arith; fit = of-none; over = of-none })
+
+  equations-fit : (more at : ℕ) (bytes : List ℕ) (es : List Equation) → equation-fields Σ more at bytes ≡ ok es → EquationsFit more es
+  unfolding equation-fields
+  equations-fit zero at [] es e = none-fit zero es (ok-injective e)
+  equations-fit zero at (b ∷ bytes) es e = from-bind _ _ es e λ _ _ e. absurd (no-ok e)
+  equations-fit (suc more) at [] es e = none-fit (suc more) es (ok-injective e)
+  equations-fit (suc more) at (b ∷ bytes) es e =
+      from-bind _ _ es e λ f _ e.
+      from-bind _ _ es e λ d a e.
+      from-bind _ _ es e λ ds c e.
+      let q : d ∷ ds ≡ es = ok-injective e in
+      let k : EquationsFit more ds = equations-fit more (f .end) (f .rest) ds c in
+      rw (← q) (record { few = omega (arith, k .few); fit = of-cons (equation-fits f d a .0) (k .fit); over = of-cons (equation-fits f d a .1) (k .over) })
+
+-- A problem that is accepted keeps to the limits.
+pub accepts : (bytes : List ℕ) (P : Problem) → parse bytes ≡ ok P → Accepted P
+unfolding parse
+accepts bytes P e =
+    from-bind _ _ P e λ _ _ e.
+    from-bind _ _ P e λ s _ e.
+    from-bind _ _ P e λ Σ a e.
+    from-bind _ _ P e λ b _ e.
+    from-bind _ _ P e λ budget c e.
+    from-bind _ _ P e λ es d e.
+    let q : record { symbols = Σ; budget = budget; equations = es } ≡ P = ok-injective e in
+    let k : EquationsFit Σ 16 es = equations-fit Σ 16 (b .end) (b .rest) es d in
+    rw (← q) (record { symbols-few = symbols-few s Σ a; budget-few = budget-few b budget c; equations-few = k .few; equations-fit = k .fit; equations-over = k .over })

@@ -1,0 +1,143 @@
+-- The limits that fixed arrays rely on, for every problem that is accepted: in one place. Assumes nothing.
+use mathlib.Core.Path.{_≡_, refl, subst}
+use mathlib.Core.List.{List, [], _++_, List·Memᴰ}
+use mathlib.Core.Option.{some}
+use Prim.Native.Nat.{ℕ, suc, _+_, _≤_, _<_}
+use native.Mathlib.Omega.{arith}
+use lib.Dec.{ltb}
+use lib.ListN.{length, length-append}
+use borrow.Author.Tests.{ltb-false}
+use Rattle.terms.specs.Base.{number-bytes, number-from}
+use Rattle.terms.specs.Term.{pair-variables}
+use Rattle.terms.proofs.Limits.{made-vars, variables-few, Bytes}
+use Rattle.terms.proofs.Numerals.{number-back}
+use Rattle.terms.proofs.Every.{every-in}
+use Rattle.rewriting.specs.Overlap.{Rule, Overlap, overlap, Place, all-places}
+use Rattle.rewriting.specs.Rewrite.{End, complete, neither-above, spent, too-large, rules-full, log-full, done}
+use Rattle.rewriting.proofs.Limits.{OverlapMade, MaybeOverlap, overlap-made}
+use Rattle.rewriting.proofs.Holds.{Holds}
+use Rattle.problem.specs.Problem.{ok, Problem, parse}
+use Rattle.completion.specs.Turn.{Candidate, Entry, State, Taken, take-pair, kept, removed, run}
+use Rattle.completion.specs.Calls.{end-number, result-bytes, enough, complete-call}
+use Rattle.problem.proofs.Reading.{from-bind, passed}
+use Rattle.completion.proofs.Limits.{CandidateFits, RuleFits, EntryFits, Limits}
+use Rattle.completion.proofs.Kept.{PlaceFits, all-places-fit, kept-removed, TakenFits, reachable-limits}
+use Rattle.completion.proofs.Kept
+use Rattle.completion.proofs.Ends.{Takes, Because}
+use Rattle.completion.proofs.Traced.{takes}
+use Rattle.completion.proofs.Reachable.{Reachable, run-units}
+use Rattle.completion.proofs.Accepts.{accepts}
+use Rattle.completion.proofs.Result.{result-length, result-is-bytes}
+
+module _ (bytes : List ℕ) (P : Problem) (read : parse bytes ≡ ok P) where
+  abbrev symbols : ℕ
+  symbols = length (P .symbols)
+
+  pub symbols-few : symbols ≤ 16
+  symbols-few = accepts bytes P read .symbols-few
+
+  -- 1. Every state of a run.
+  pub state-limits : {s : State} {left : ℕ} → Reachable P s left → Limits symbols s
+  state-limits r = reachable-limits P (accepts bytes P read) r
+
+  pub made-few : {s : State} {left : ℕ} → Reachable P s left → s .made ≤ 512
+  made-few {s} r =
+      let l : Limits symbols s = state-limits r in
+      let a : s .made ≤ length (s .log) = l .made-few in
+      let b : length (s .log) ≤ 512 = l .log-few in
+      omega arith
+
+  pub rule-fits : {s : State} {left : ℕ} → Reachable P s left → (r : Rule) → List·Memᴰ r (s .rules) → RuleFits symbols (s .made) r
+  rule-fits {s} r rule i = every-in (state-limits r .rules-fit) i
+
+  pub waiting-fits : {s : State} {left : ℕ} → Reachable P s left → (c : Candidate) → List·Memᴰ c (s .waiting) → CandidateFits symbols 16 (s .made) c
+  waiting-fits {s} r c i = every-in (state-limits r .waiting-fit) i
+
+  pub entry-fits : {s : State} {left : ℕ} → Reachable P s left → (e : Entry) → List·Memᴰ e (s .log) → EntryFits (s .made) e
+  entry-fits {s} r e i = every-in (state-limits r .log-fits) i
+
+  -- 2. Overlaps, before they are held to 120 nodes: variables below 32.
+  pub place-fits : {s : State} {left : ℕ} → Reachable P s left → (at : Place) → List·Memᴰ at (all-places [] (s .rules)) → PlaceFits symbols (s .made) at
+  place-fits {s} r at i = every-in (all-places-fit (s .rules) (state-limits r .rules-fit)) i
+
+  pub overlap-fits : {s : State} {left : ℕ} → Reachable P s left → (at : Place) → List·Memᴰ at (all-places [] (s .rules)) →
+      (o : Overlap) → overlap (at .inner .sides) (at .outer .sides) (at .position) ≡ some o → OverlapMade (λ f. f < symbols) o
+  overlap-fits r at i o e =
+      let f : PlaceFits symbols _ at = place-fits r at i in
+      let k : MaybeOverlap (λ f. f < symbols) (overlap (at .inner .sides) (at .outer .sides) (at .position)) =
+      overlap-made (λ f. f < symbols) (at .inner .sides) (at .outer .sides) (at .position)
+      (f .inner-fits .fits .left .made, f .inner-fits .fits .right .made) (f .outer-fits .fits .left .made, f .outer-fits .fits .right .made) in
+      rw e at k
+
+  pub overlap-variables : (o : Overlap) → OverlapMade (λ f. f < symbols) o → length (pair-variables (o .sides)) ≤ 32
+  overlap-variables o h = variables-few 32 (o .sides) (made-vars _ (λ x. x < 32) (o .sides .left) (h .left-made)) (made-vars _ (λ x. x < 32) (o .sides .right) (h .right-made))
+
+  -- what a turn takes: at most 120 nodes a side, variables below 32, and at most 32 equations wait
+  pub taken-fits : {s : State} {left : ℕ} (r : Reachable P s left) (now rest : ℕ) (t : Taken) → take-pair P (s .rules) (s .waiting) now ≡ done t rest →
+      TakenFits P (accepts bytes P read) s (state-limits r) t
+  taken-fits {s} r now rest t e =
+      Kept.taken-fits P (accepts bytes P read) s (state-limits r) t (subst (Holds (Takes P s) (Because P s)) e (takes P s .out now))
+
+  -- whatever the new rule: what waits and what it removes together are at most 32, before the live rules are counted too
+  pub joined-few : {s : State} {left : ℕ} (r : Reachable P s left) (t : Taken) → TakenFits P (accepts bytes P read) s (state-limits r) t → (new : Rule) →
+      length (t .waiting ++ removed new (s .rules)) ≤ 32
+  joined-few {s} r t f new =
+      let a : length (t .waiting ++ removed new (s .rules)) ≡ length (t .waiting) + length (removed new (s .rules)) = length-append (t .waiting) (removed new (s .rules)) in
+      let b : length (kept new (s .rules)) + length (removed new (s .rules)) ≡ length (s .rules) = kept-removed new (s .rules) in
+      let c : length (s .rules) + suc (length (t .waiting)) ≤ 33 = f .room in
+      omega arith
+
+  -- 3. The units.
+  pub units-few : run P .units ≤ 1_000_000
+  units-few = let a : run P .units ≤ P .budget = run-units P in let b : P .budget ≤ 1_000_000 = accepts bytes P read .budget-few in omega arith
+
+  -- so they fit the result's four bytes, and rule numbers fit two
+  pub units-back : number-from 0 (number-bytes 4 (run P .units)) ≡ run P .units
+  units-back = number-back 4 (run P .units) (let a = units-few in omega arith)
+
+  pub number-fits-two : {s : State} {left : ℕ} → Reachable P s left → (r : Rule) → List·Memᴰ r (s .rules) → number-from 0 (number-bytes 2 (r .number)) ≡ r .number
+  number-fits-two r rule i = number-back 2 (rule .number) (let a : rule .number ≤ _ = rule-fits r rule i .last in let b = made-few r in omega arith)
+
+  -- 4. The result.
+  pub result-few : length (result-bytes (run P)) ≤ 13_715
+  result-few = result-length P (accepts bytes P read)
+
+  pub result-bytes-fit : Bytes (result-bytes (run P))
+  result-bytes-fit = result-is-bytes P (accepts bytes P read)
+
+-- What complete writes, if it does not refuse: bytes, and fewer than its buffer holds.
+pub record Writes (buffer : ℕ) (r : List ℕ) : Type 0 where
+  pub are-bytes : Bytes r
+  pub few : length r ≤ 13_715
+  pub room : length r ≤ buffer
+
+pub buffer-enough : (buffer : ℕ) (u : Unit {0}) → enough buffer ≡ ok u → 16_384 ≤ buffer
+unfolding enough
+buffer-enough buffer u e = ltb-false buffer 16_384 (passed (ltb buffer 16_384) 1 0 u e)
+
+pub complete-writes : (bytes : List ℕ) (buffer : ℕ) (r : List ℕ) → complete-call bytes buffer ≡ ok r → Writes buffer r
+unfolding complete-call
+complete-writes bytes buffer r e =
+    from-bind _ _ r e λ u a e.
+    from-bind _ _ r e λ P b e.
+    let q : result-bytes (run P) ≡ r = cc in
+    let l : length (result-bytes (run P)) ≤ 13_715 = result-few bytes P b in
+    let k = buffer-enough buffer u a in
+    rw (← q) (record { are-bytes = result-bytes-fit bytes P b; few = l; room = omega arith })
+
+-- 5. "0, complete" and the ends 20 to 23, and no other.
+pub data Listed : ℕ → Type 0 where
+  is-complete : {k : ℕ} → k ≡ 0 → Listed k
+  is-neither-above : {k : ℕ} → k ≡ 20 → Listed k
+  is-spent : {k : ℕ} → k ≡ 21 → Listed k
+  is-too-large : {k : ℕ} → k ≡ 22 → Listed k
+  is-full : {k : ℕ} → k ≡ 23 → Listed k
+
+pub end-listed : (e : End) → Listed (end-number e)
+unfolding end-number
+end-listed complete = is-complete refl
+end-listed (neither-above e) = is-neither-above refl
+end-listed spent = is-spent refl
+end-listed too-large = is-too-large refl
+end-listed rules-full = is-full refl
+end-listed log-full = is-full refl

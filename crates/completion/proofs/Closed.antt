@@ -1,0 +1,124 @@
+-- What a run keeps: a property of rules and one of waiting pairs, closed under the few things that a turn does. Assumes nothing.
+use mathlib.Core.Path.{_≡_, refl, sym, subst}
+use mathlib.Core.Bool.{Bool, true, false}
+use mathlib.Core.List.{List, [], _∷_, List·Memᴰ, List·Memᴰ·head, List·Memᴰ·tail}
+use mathlib.Core.Option.{some}
+use Prim.Native.Nat.{ℕ, suc, _≤_}
+use native.Mathlib.Omega.{arith}
+use lib.ListN.{length}
+use Rattle.terms.specs.Base.{if_then_else_}
+use Rattle.terms.specs.Term.{Term, Pair, pair-variables, renamed}
+use Rattle.terms.proofs.Below.{swapped, swapped-variables}
+use Rattle.terms.proofs.Every.{Every, of-none, of-cons, every-one, every-in, every-append}
+use Rattle.order.specs.Order.{above}
+use Rattle.rewriting.specs.Overlap.{Rule, Overlap, overlap}
+use Rattle.rewriting.proofs.Covers.{BothHold, all-places-hold}
+use Rattle.rewriting.proofs.Holds.{Reached}
+use Rattle.problem.specs.Problem.{rank-of, Equation, Problem}
+use Rattle.completion.specs.Turn.{Origin, removed-rule, Candidate, scanned-input, waiting-input, State, Taken, candidates, initial, rewrites, kept, removed, settled, run}
+use Rattle.completion.proofs.Ends.{Small, Source, of-waiting, of-overlap, of-input, Takes, Oriented, as-taken, other-way, Rights, none-yet, one-more, Next, settles, makes}
+use Rattle.completion.proofs.Reachable.{Reachable, from-start, by-turn, turn-next, run-stops}
+
+-- Every rule is kept or joins the waiting list.
+module _ {Q : Rule → Type 0} (new : Rule) where
+  keep : (b : Bool) (old : Rule) (rest : List Rule) → Q old → Every Q rest → Every Q (if b then rest else (old ∷ rest))
+  unfolding if_then_else_
+  keep true old rest q h = h
+  keep false old rest q h = of-cons q h
+
+  pub kept-every : {rules : List Rule} → Every Q rules → Every Q (kept new rules)
+  unfolding kept
+  kept-every of-none = of-none
+  kept-every (of-cons {x = old} {l = rules} q h) = keep (rewrites new old) old (kept new rules) q (kept-every h)
+
+module _ {W : Candidate → Type 0} where
+  join : (b : Bool) (c : Candidate) (rest : List Candidate) → W c → Every W rest → Every W (if b then (c ∷ rest) else rest)
+  unfolding if_then_else_
+  join true c rest q h = of-cons q h
+  join false c rest q h = h
+
+  pub removed-every : {Q : Rule → Type 0} (new : Rule) {rules : List Rule} → ((old : Rule) → Q old → W (record { origin = removed-rule (old .number); sides = old .sides })) → Every Q rules → Every W (removed new rules)
+  unfolding removed
+  removed-every new f of-none = of-none
+  removed-every new f (of-cons {x = old} {l = rules} q h) = join (rewrites new old) _ (removed new rules) (f old q) (removed-every new f h)
+
+-- What holds of the equations, renamed, holds of the candidates.
+pub candidates-every : (W : Pair → Type 0) (origin : ℕ → Origin) (n : ℕ) (es : List Equation) → ((e : Equation) → List·Memᴰ e es → W (renamed (e .sides))) →
+    Every (λ (c : Candidate). W (c .sides)) (candidates origin n es)
+unfolding candidates
+candidates-every W origin n [] h = of-none
+candidates-every W origin n (e ∷ es) h = of-cons (h e (List·Memᴰ·head refl)) (candidates-every W origin (suc n) es (λ d i. h d (List·Memᴰ·tail i)))
+
+-- R of rules, W of waiting pairs, T of pairs as a turn takes and rewrites them.
+pub record Closed (P : Problem) (R W T : Pair → Type 0) : Type 0 where
+  pub given : (e : Equation) → List·Memᴰ e (P .equations) → W (renamed (e .sides))
+  pub taken : (e : Pair) → W e → T e
+  pub overlapped : (inner outer : Pair) (p : ℕ) (o : Overlap) → overlap inner outer p ≡ some o → Small o → R inner → R outer → T (renamed (o .sides))
+  pub rewritten : (rules : List Rule) → Every (λ (r : Rule). R (r .sides)) rules → (e f : Pair) → Reached rules (e .left) (f .left) → Reached rules (e .right) (f .right) → T e → T f
+  pub turned : (e : Pair) → T e → T (swapped e)
+  pub oriented : (e : Pair) → T e → length (pair-variables e) ≤ 16 → above (rank-of (P .symbols)) (e .left) (e .right) ≡ true → R (renamed e)
+  pub composed : (rules : List Rule) → Every (λ (r : Rule). R (r .sides)) rules → (e : Pair) (r : Term) → Reached rules (e .right) r → R e → R (record { left = e .left; right = r })
+  pub put-off : (e : Pair) → R e → W e
+
+module _ (P : Problem) (R W T : Pair → Type 0) (k : Closed P R W T) where
+  abbrev pub RuleHas : Rule → Type 0
+  RuleHas r = R (r .sides)
+
+  abbrev pub WaitingHas : Candidate → Type 0
+  WaitingHas c = W (c .sides)
+
+  pub record Has (s : State) : Type 0 where
+    pub rules : Every RuleHas (s .rules)
+    pub waiting : Every WaitingHas (s .waiting)
+
+  source-has : (s : State) → Has s → (c : Candidate) (cs : List Candidate) → Source P s c cs → T (c .sides) × Every WaitingHas cs
+  source-has s h c cs (of-waiting e) = first (subst (Every WaitingHas) e (h .waiting))
+    where
+      first : Every WaitingHas (c ∷ cs) → T (c .sides) × Every WaitingHas cs
+      first (of-cons q h) = (k .taken (c .sides) q, h)
+  source-has s h c cs (of-overlap at o z small e q) =
+      let both : BothHold RuleHas at = every-in (all-places-hold RuleHas [] (s .rules) of-none (h .rules)) (z .listed) in (
+        subst (λ (d : Candidate). T (d .sides)) (sym e) (k .overlapped (at .inner .sides) (at .outer .sides) (at .position) o (z .is) small (both .inner-holds) (both .outer-holds)),
+        subst (Every WaitingHas) (sym q) of-none,
+      )
+  source-has s h c cs (of-input w i q) = (k .taken (c .sides) (every-in (candidates-every W scanned-input 1 (P .equations) (k .given)) i), subst (Every WaitingHas) (sym q) of-none)
+
+  pub taken-has : (s : State) → Has s → (t : Taken) → Takes P s t → T (t .pair .sides) × Every WaitingHas (t .waiting)
+  taken-has s h t g =
+      let a = source-has s h (g .of) (t .waiting) (g .source) in
+      (k .rewritten (s .rules) (h .rules) (g .of .sides) (t .pair .sides) (g .forms .left .reached) (g .forms .right .reached) (a .0), a .1)
+
+  oriented-has : (e f : Pair) → T e → length (pair-variables e) ≤ 16 → Oriented P e f → R f
+  oriented-has e f h few (as-taken a q) = subst R (sym q) (k .oriented e h few a)
+  oriented-has e f h few (other-way a q) = subst R (sym q) (k .oriented (swapped e) (k .turned e h) (omega (arith, swapped-variables e)) a)
+
+  rights-have : {new : Rule} {older done later : List Rule} → Every RuleHas older → RuleHas new → Rights new older done later → Every RuleHas done × Every RuleHas later
+  rights-have h n (none-yet e d) = (subst (Every RuleHas) (sym e) of-none, subst (Every RuleHas) (sym d) h)
+  rights-have {new} h n (one-more {before} {done} {later} {old} {r} g f e) = go (rights-have h n g)
+    where
+      go : Every RuleHas before × Every RuleHas (old ∷ later) → Every RuleHas done × Every RuleHas later
+      go (b, of-cons q l) = (
+        subst (Every RuleHas) (sym e) (every-append b (every-one (k .composed _ (every-append (every-append b (of-cons q l)) (every-one n)) (old .sides) r (f .reached) q))),
+        l,
+      )
+
+  pub next-has : (s s′ : State) → Has s → Next P s s′ → Has s′
+  unfolding settled
+  next-has s s′ h (settles t g room q e) = rw e (record { rules = h .rules; waiting = taken-has s h t g .1 })
+  next-has s s′ h (makes t g room d few sides o live done r e) =
+      let a = taken-has s h t g in
+      let n : R sides = oriented-has (t .pair .sides) sides (a .0) few o in
+      rw e
+      (record {
+        rules = every-append (rights-have (kept-every _ (h .rules)) n r .0) (every-one n);
+        waiting = every-append (a .1) (removed-every _ (λ old q. k .put-off (old .sides) q) (h .rules));
+      })
+
+  -- Every state of a run.
+  pub reachable-has : {s : State} {left : ℕ} → Reachable P s left → Has s
+  unfolding initial
+  reachable-has (from-start e b) = rw e (record { rules = of-none; waiting = candidates-every W waiting-input 1 (P .equations) (k .given) })
+  reachable-has (by-turn {s} {s′} {left} {left′} r e) = next-has s s′ (reachable-has r) (turn-next P s s′ left left′ e)
+
+  pub run-has : Has (run P .state)
+  run-has = reachable-has (run-stops P .reachable)

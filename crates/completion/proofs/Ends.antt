@@ -1,0 +1,135 @@
+-- What a turn does, and what each of its ends says of the state that it began with. Assumes nothing.
+use mathlib.Core.Path.{_≡_}
+use mathlib.Core.Bool.{true, false}
+use mathlib.Core.Logic.{_⊎_}
+use mathlib.Core.List.{List, [], _∷_, _++_, List·Memᴰ}
+use mathlib.Core.Option.{some}
+use Prim.Native.Nat.{ℕ, suc, _≤_, _<_}
+use lib.ListN.{length}
+use Rattle.terms.specs.Term.{Term, Pair, same, size, pair-variables, renamed}
+use Rattle.terms.proofs.Below.{swapped}
+use Rattle.terms.proofs.Every.{Every}
+use Rattle.order.specs.Order.{above}
+use Rattle.rewriting.specs.Overlap.{Rule, Overlap, overlap, Place, all-places}
+use Rattle.rewriting.specs.Rewrite.{End, complete, neither-above, spent, too-large, rules-full, log-full}
+use Rattle.rewriting.proofs.Covers.{HoldsAt}
+use Rattle.rewriting.proofs.Holds.{Form, Forms, Outgrown}
+use Rattle.problem.specs.Problem.{rank-of, Problem}
+use Rattle.completion.specs.Turn.{overlapping, Candidate, scanned-input, State, Taken, candidates, kept, removed, settled}
+
+-- Step 1: what is taken.
+abbrev pub inputs : Problem → List Candidate
+inputs P = candidates scanned-input 1 (P .equations)
+
+-- an overlap that the scan comes to
+pub record Scanned (s : State) (at : Place) (o : Overlap) : Type 0 where
+  pub idle : s .waiting ≡ []
+  pub listed : List·Memᴰ at (all-places [] (s .rules))
+  pub is : overlap (at .inner .sides) (at .outer .sides) (at .position) ≡ some o
+
+pub record Small (o : Overlap) : Type 0 where
+  pub peak : size (o .peak) ≤ 120
+  pub left : size (o .sides .left) ≤ 120
+  pub right : size (o .sides .right) ≤ 120
+
+-- the pair before it is normalised, and the equations that wait behind it: the oldest of the waiting list, an overlap, an input
+pub data Source (P : Problem) (s : State) : Candidate → List Candidate → Type 0 where
+  of-waiting : {c : Candidate} {cs : List Candidate} → s .waiting ≡ c ∷ cs → Source P s c cs
+  of-overlap : {c : Candidate} {cs : List Candidate} (at : Place) (o : Overlap) → Scanned s at o → Small o →
+      c ≡ record { origin = overlapping (at .inner .number) (at .outer .number) (at .position); sides = renamed (o .sides) } → cs ≡ [] → Source P s c cs
+  of-input : {c : Candidate} {cs : List Candidate} → s .waiting ≡ [] → List·Memᴰ c (inputs P) → cs ≡ [] → Source P s c cs
+
+-- the pair as its normal forms
+pub record Takes (P : Problem) (s : State) (t : Taken) : Type 0 where
+  pub of : Candidate
+  pub source : Source P s of (t .waiting)
+  pub origin : t .pair .origin ≡ of .origin
+  pub forms : Forms (s .rules) (of .sides) (t .pair .sides)
+
+-- Steps 4 and 5: the upper side to the left.
+pub data Oriented (P : Problem) (e : Pair) : Pair → Type 0 where
+  as-taken : {f : Pair} → above (rank-of (P .symbols)) (e .left) (e .right) ≡ true → f ≡ renamed e → Oriented P e f
+  other-way : {f : Pair} → above (rank-of (P .symbols)) (e .right) (e .left) ≡ true → f ≡ renamed (swapped e) → Oriented P e f
+
+-- Step 7: of the older rules these were done, and these are to come.
+abbrev pub with-right : Rule → Term → Rule
+with-right old r = record { number = old .number; sides = record { left = old .sides .left; right = r } }
+
+pub data Rights (new : Rule) (older : List Rule) : List Rule → List Rule → Type 0 where
+  none-yet : {done later : List Rule} → done ≡ [] → later ≡ older → Rights new older done later
+  one-more : {before done later : List Rule} {old : Rule} {r : Term} → Rights new older before (old ∷ later) → Form (before ++ (old ∷ later) ++ (new ∷ [])) (old .sides .right) r →
+      done ≡ before ++ (with-right old r ∷ []) → Rights new older done later
+
+abbrev pub new-rule : State → Pair → Rule
+new-rule s sides = record { number = suc (s .made); sides = sides }
+
+abbrev pub older-rules : State → Pair → List Rule
+older-rules s sides = kept (new-rule s sides) (s .rules)
+
+abbrev pub with-rule : State → Taken → Pair → List Rule → State
+with-rule s t sides rules = record {
+  rules = rules;
+  made = suc (s .made);
+  waiting = t .waiting ++ removed (new-rule s sides) (s .rules);
+  log = s .log ++ (record { origin = t .pair .origin; made = suc (s .made) } ∷ []);
+}
+
+-- The next state.
+pub data Next (P : Problem) (s : State) : State → Type 0 where
+  settles : {s′ : State} (t : Taken) → Takes P s t → length (s .log) < 512 → t .pair .sides .left ≡ t .pair .sides .right → s′ ≡ settled s t → Next P s s′
+  makes : {s′ : State} (t : Taken) → Takes P s t → length (s .log) < 512 → same (t .pair .sides .left) (t .pair .sides .right) ≡ false →
+      length (pair-variables (t .pair .sides)) ≤ 16 → (sides : Pair) → Oriented P (t .pair .sides) sides → suc (length (older-rules s sides)) ≤ 32 →
+      (done : List Rule) → Rights (new-rule s sides) (older-rules s sides) done [] → s′ ≡ with-rule s t sides (done ++ (new-rule s sides ∷ [])) → Next P s s′
+
+-- 0: nothing waits, the sides of each overlap have one normal form, and so have those of each input equation.
+pub record SameForm (rules : List Rule) (e : Pair) : Type 0 where
+  pub to : Term
+  pub left : Form rules (e .left) to
+  pub right : Form rules (e .right) to
+
+abbrev pub SameAt : List Rule → Pair → Pair → ℕ → Type 0
+SameAt rules inner outer p = (o : Overlap) → overlap inner outer p ≡ some o → SameForm rules (renamed (o .sides))
+
+abbrev pub SameCandidate : List Rule → Candidate → Type 0
+SameCandidate rules c = SameForm rules (c .sides)
+
+pub record Certified (P : Problem) (s : State) : Type 0 where
+  pub idle : s .waiting ≡ []
+  pub overlaps : Every (HoldsAt (SameAt (s .rules))) (all-places [] (s .rules))
+  pub inputs-same : Every (SameCandidate (s .rules)) (inputs P)
+
+-- 20: "neither side above the other"
+pub record Neither (P : Problem) (s : State) (e : Pair) : Type 0 where
+  pub taken : Taken
+  pub takes : Takes P s taken
+  pub is-taken : e ≡ taken .pair .sides
+  pub differ : same (e .left) (e .right) ≡ false
+  pub not-left : above (rank-of (P .symbols)) (e .left) (e .right) ≡ false
+  pub not-right : above (rank-of (P .symbols)) (e .right) (e .left) ≡ false
+  pub few : length (pair-variables e) ≤ 16
+  pub room : length (s .log) < 512
+
+-- 22: "a term over 120 nodes, or a taken pair over 16 variables"
+abbrev pub SideOf : Pair → Term → Type 0
+SideOf e t = (t ≡ e .left) ⊎ (t ≡ e .right)
+
+pub data Large (P : Problem) (s : State) : Type 0 where
+  in-taking : (c : Candidate) (cs : List Candidate) → Source P s c cs → (t : Term) → SideOf (c .sides) t → Outgrown (s .rules) t → Large P s
+  in-overlap : (at : Place) (o : Overlap) → Scanned s at o → (t : Term) → (t ≡ o .peak) ⊎ SideOf (o .sides) t → 120 < size t → Large P s
+  in-right : (new : Rule) (done later : List Rule) (old : Rule) → Rights new (kept new (s .rules)) done (old ∷ later) →
+      Outgrown (done ++ (old ∷ later) ++ (new ∷ [])) (old .sides .right) → Large P s
+  variables : (t : Taken) → Takes P s t → 16 < length (pair-variables (t .pair .sides)) → Large P s
+
+-- 23: "a 33rd live rule"
+pub record RulesFull (s : State) : Type 0 where
+  pub sides : Pair
+  pub over : 32 < suc (length (older-rules s sides))
+
+-- With so many units left, a turn that began with s ended so. 21 comes with none, and "a 513th log entry" is 23 too.
+unfoldable pub Because : Problem → State → End → ℕ → Type 0
+Because P s complete left = Certified P s
+Because P s (neither-above e) left = Neither P s e
+Because P s spent left = left ≡ 0
+Because P s too-large left = Large P s
+Because P s rules-full left = RulesFull s
+Because P s log-full left = 512 ≤ length (s .log)

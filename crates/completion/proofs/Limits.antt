@@ -1,0 +1,137 @@
+-- The limits of a run: live rules, numbers, log, waiting list, sizes and variables, in every state that turns reach; and what each end says.
+-- Assumes nothing.
+use mathlib.Core.Path.{_≡_, refl, ap}
+use mathlib.Core.List.{List, [], _∷_, map}
+use Prim.Native.Nat.{ℕ, suc, _+_, _≤_, _<_}
+use native.Mathlib.Omega.{arith}
+use lib.ListN.{length}
+use Rattle.terms.specs.Term.{Term, Pair, size, pair-variables, renamed}
+use Rattle.terms.proofs.Limits.{Made, made-vars, made-with, variables-few, renamed-left-size, renamed-right-size, renamed-left-made, renamed-right-made}
+use Rattle.terms.proofs.Every.{Every, of-none, of-cons}
+use Rattle.rewriting.specs.Overlap.{Rule}
+use Rattle.problem.specs.Problem.{Equation, Problem}
+use Rattle.completion.proofs.Over.{OverEquations}
+use Rattle.completion.specs.Turn.{Origin, waiting-input, removed-rule, scanned-input, overlapping, Candidate, Entry, State, candidates, initial}
+
+-- At most 120 nodes, symbols below n, variables below v.
+pub record Held (n v : ℕ) (t : Term) : Type 0 where
+  pub small : size t ≤ 120
+  pub made : Made (λ f. f < n) (λ x. x < v) t
+
+pub record HeldPair (n v : ℕ) (e : Pair) : Type 0 where
+  pub left : Held n v (e .left)
+  pub right : Held n v (e .right)
+
+-- Where a pair came from: inputs are numbered 1 to 16, rules 1 to `made`, and a position is below 120.
+unfoldable pub OriginFits : ℕ → Origin → Type 0
+OriginFits made (waiting-input k) = (1 ≤ k) × (k ≤ 16)
+OriginFits made (removed-rule k) = (1 ≤ k) × (k ≤ made)
+OriginFits made (scanned-input k) = (1 ≤ k) × (k ≤ 16)
+OriginFits made (overlapping i o p) = (1 ≤ i) × (i ≤ made) × (1 ≤ o) × (o ≤ made) × (p < 120)
+
+pub record CandidateFits (n v made : ℕ) (c : Candidate) : Type 0 where
+  pub from : OriginFits made (c .origin)
+  pub fits : HeldPair n v (c .sides)
+
+pub record RuleFits (n made : ℕ) (r : Rule) : Type 0 where
+  pub first : 1 ≤ r .number
+  pub last : r .number ≤ made
+  pub fits : HeldPair n 16 (r .sides)
+
+pub record EntryFits (made : ℕ) (e : Entry) : Type 0 where
+  pub from : OriginFits made (e .origin)
+  pub last : e .made ≤ made
+
+-- strictly ascending, from above lo
+unfoldable pub Ascending : ℕ → List ℕ → Type 0
+Ascending lo [] = Unit {0}
+Ascending lo (k ∷ ks) = (lo < k) × Ascending k ks
+
+abbrev pub numbers : List Rule → List ℕ
+numbers rules = map (λ r. r .number) rules
+
+-- What the fixed arrays rely on, n being the count of the symbols.
+pub record Limits (n : ℕ) (s : State) : Type 0 where
+  pub live : length (s .rules) ≤ 32
+  pub rules-fit : Every (RuleFits n (s .made)) (s .rules)
+  pub ascending : Ascending 0 (numbers (s .rules))
+  pub made-few : s .made ≤ length (s .log)
+  pub log-few : length (s .log) ≤ 512
+  pub log-fits : Every (EntryFits (s .made)) (s .log)
+  pub waiting-fit : Every (CandidateFits n 16 (s .made)) (s .waiting)
+  pub waiting-few : length (s .waiting) ≤ 32
+  pub together : length (s .rules) + length (s .waiting) ≤ 33
+
+-- What a problem that was accepted has.
+pub record Accepted (P : Problem) : Type 0 where
+  pub symbols-few : length (P .symbols) ≤ 16
+  pub budget-few : P .budget ≤ 1_000_000
+  pub equations-few : length (P .equations) ≤ 16
+  pub equations-fit : Every (λ e. HeldPair (length (P .symbols)) 16 (e .sides)) (P .equations)
+  pub equations-over : OverEquations (P .symbols) (P .equations)
+
+-- More rules made, and the same still fits.
+pub later-origin : (a b : ℕ) → a ≤ b → (o : Origin) → OriginFits a o → OriginFits b o
+unfolding OriginFits
+later-origin a b l (waiting-input k) h = h
+later-origin a b l (removed-rule k) h = (h .0, omega arith)
+later-origin a b l (scanned-input k) h = h
+later-origin a b l (overlapping i o p) h = (h .0, omega arith, h .2, omega arith, h .4)
+
+pub later-candidate : (n v a b : ℕ) → a ≤ b → (c : Candidate) → CandidateFits n v a c → CandidateFits n v b c
+later-candidate n v a b l c h = record { from = later-origin a b l (c .origin) (h .from); fits = h .fits }
+
+pub later-rule : (n a b : ℕ) → a ≤ b → (r : Rule) → RuleFits n a r → RuleFits n b r
+later-rule n a b l r h = record { first = h .first; last = omega arith; fits = h .fits }
+
+pub later-entry : (a b : ℕ) → a ≤ b → (e : Entry) → EntryFits a e → EntryFits b e
+later-entry a b l e h = record { from = later-origin a b l (e .origin) (h .from); last = omega arith }
+
+-- More variables allowed.
+pub held-wide : (n v w : ℕ) → v ≤ w → (t : Term) → Held n v t → Held n w t
+held-wide n v w l t h = record { small = h .small; made = made-with _ (λ x. x < v) (λ x. x < w) t (h .made) (λ x i. let k : x < v = made-vars _ (λ x. x < v) t (h .made) x i in omega arith) }
+
+pub pair-wide : (n v w : ℕ) → v ≤ w → (e : Pair) → HeldPair n v e → HeldPair n w e
+pair-wide n v w l e h = record { left = held-wide n v w l (e .left) (h .left); right = held-wide n v w l (e .right) (h .right) }
+
+-- A renamed pair has variables below the count of its different ones.
+pub renamed-held : (n v w : ℕ) (e : Pair) → length (pair-variables e) ≤ w → HeldPair n v e → HeldPair n w (renamed e)
+renamed-held n v w e few h =
+    record {
+      left = record { small = rw renamed-left-size (h .left .small); made = renamed-left-made _ (λ x. x < v) w e few (h .left .made) };
+      right = record { small = rw renamed-right-size (h .right .small); made = renamed-right-made _ (λ x. x < v) w e few (h .right .made) };
+    }
+
+pub few-variables : (n v : ℕ) (e : Pair) → HeldPair n v e → length (pair-variables e) ≤ v
+few-variables n v e h = variables-few v e (made-vars _ (λ x. x < v) (e .left) (h .left .made)) (made-vars _ (λ x. x < v) (e .right) (h .right .made))
+
+-- The inputs as candidates.
+pub length-candidates : (origin : ℕ → Origin) (k : ℕ) (es : List Equation) → length (candidates origin k es) ≡ length es
+unfolding candidates
+length-candidates origin k [] = refl
+length-candidates origin k (e ∷ es) = ap suc (length-candidates origin (suc k) es)
+
+pub candidates-fit : (n made : ℕ) (origin : ℕ → Origin) → ((k : ℕ) → 1 ≤ k → k ≤ 16 → OriginFits made (origin k)) →
+    (k : ℕ) (es : List Equation) → 1 ≤ k → k + length es ≤ 17 → Every (λ e. HeldPair n 16 (e .sides)) es → Every (CandidateFits n 16 made) (candidates origin k es)
+unfolding candidates
+candidates-fit n made origin f k [] l m of-none = of-none
+candidates-fit n made origin f k (e ∷ es) l m (of-cons q h) =
+    of-cons (record { from = f k l (omega arith); fits = renamed-held n 16 16 (e .sides) (few-variables n 16 (e .sides) q) q })
+    (candidates-fit n made origin f (suc k) es (omega arith) (omega arith) h)
+
+pub initial-limits : (P : Problem) → Accepted P → Limits (length (P .symbols)) (initial P)
+unfolding initial Ascending OriginFits
+initial-limits P a =
+    let l : length (candidates waiting-input 1 (P .equations)) ≡ length (P .equations) = length-candidates waiting-input 1 (P .equations) in
+    let few : length (P .equations) ≤ 16 = a .equations-few in
+    record {
+      live = omega arith;
+      rules-fit = of-none;
+      ascending = tt;
+      made-few = omega arith;
+      log-few = omega arith;
+      log-fits = of-none;
+      waiting-fit = candidates-fit _ 0 waiting-input (λ k l m. (l, m)) 1 (P .equations) (omega arith) (omega arith) (a .equations-fit);
+      waiting-few = omega arith;
+      together = omega arith;
+    }

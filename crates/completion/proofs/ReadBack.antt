@@ -1,0 +1,114 @@
+-- Fields are read back from their bytes, and a rule from its field. Assumes nothing.
+use mathlib.Core.Path.{_≡_, refl, sym, ap, ap₂, _∙_}
+use mathlib.Core.Bool.{false}
+use mathlib.Core.List.{List, [], _∷_, _++_, map, flatMap, append-nil}
+use Prim.Native.Nat.{ℕ, zero, suc, _+_, _/_, _%_, _≤_, _<_}
+use native.Mathlib.Omega.{arith}
+use lib.Dec.{eqb}
+use lib.ListN.{length, take, drop, length-append}
+use lib.Seq.{take-at, drop-at}
+use borrow.Author.Tests.{le-ltb}
+use Rattle.terms.specs.Base.{if_then_else_, number-bytes, number-from, Tagged, field-bytes}
+use Rattle.terms.specs.Term.{Term, var, node, Terms, nil, cons, size, term-bytes}
+use Rattle.terms.proofs.Bytes.{length-bytes}
+use Rattle.terms.proofs.Limits.{Made, MadeAll}
+use Rattle.terms.proofs.Every.{Every, of-cons}
+use Rattle.terms.proofs.Numerals.{number-back}
+use Rattle.problem.specs.Problem.{ok, _>>=_, refuse-if, read-field, read-term, Symbol}
+use Rattle.problem.specs.Over.{Over}
+use Rattle.problem.proofs.Reading.{Named, NamedAll, read-back}
+use Rattle.rewriting.specs.Overlap.{Rule}
+use Rattle.completion.specs.Calls.{pair-bytes, rule-field}
+use Rattle.completion.specs.Promise.{fields-from, fields-of, rule-of, rules-in}
+
+pub two-back : (n : ℕ) → n < 65_536 → number-from 0 ((n / 256 % 256) ∷ (n % 256) ∷ []) ≡ n
+unfolding number-bytes
+two-back n h = number-back 2 n h
+
+-- a field's header and contents, whatever stands behind them
+header : (at n tag high low : ℕ) (bytes : List ℕ) → number-from 0 (high ∷ low ∷ []) ≡ n → n ≤ length bytes →
+    read-field at (tag ∷ high ∷ low ∷ bytes) ≡ ok (record { first = at; tag = tag; contents = take n bytes; end = at + 3 + n; rest = drop n bytes })
+unfolding read-field _>>=_ refuse-if
+header at n tag high low bytes e l = rw (e, read-field) (rw (le-ltb (length bytes) n l) refl)
+
+pub field-back : (at : ℕ) (f : Tagged) (rest : List ℕ) → length (f .contents) < 65_536 →
+    read-field at (field-bytes f ++ rest) ≡ ok (record { first = at; tag = f .tag; contents = f .contents; end = at + 3 + length (f .contents); rest = rest })
+unfolding field-bytes number-bytes
+field-back at f rest h =
+    let n : ℕ = length (f .contents) in
+    header at n (f .tag) (n / 256 % 256) (n % 256) (f .contents ++ rest) (two-back n h) (omega (arith, length-append (f .contents) rest))
+    ∙ ap₂ (λ c r. ok (record { first = at; tag = f .tag; contents = c; end = at + 3 + n; rest = r })) (take-at (f .contents) rest n refl) (drop-at (f .contents) rest n refl)
+
+-- so many fields, one behind the other
+pub fields-back : (more at : ℕ) (fs : List Tagged) → Every (λ f. length (f .contents) < 65_536) fs → length fs < more →
+    fields-from more at (flatMap field-bytes fs) ≡ ok fs
+unfolding fields-from flatMap field-bytes _>>=_
+fields-back zero at fs h l = absurd (omega arith)
+fields-back (suc more) at [] h l = refl
+fields-back (suc more) at (f ∷ fs) (of-cons q h) l =
+    rw (field-back at f (flatMap field-bytes fs) q) (rw (fields-back more (at + 3 + length (f .contents)) fs h (omega arith)) refl)
+
+fields-few : (fs : List Tagged) → length fs ≤ length (flatMap field-bytes fs)
+unfolding flatMap field-bytes
+fields-few [] = omega arith
+fields-few (f ∷ fs) =
+    let a = length-append (number-bytes 2 (length (f .contents)) ++ f .contents) (flatMap field-bytes fs) in
+    omega (arith, fields-few fs)
+
+-- The fields that were written are the fields that are read.
+pub fields-are : (fs : List Tagged) → Every (λ f. length (f .contents) < 65_536) fs → fields-of (flatMap field-bytes fs) ≡ ok fs
+unfolding fields-of
+fields-are fs h = fields-back (suc (length (flatMap field-bytes fs))) 0 fs h (omega (arith, fields-few fs))
+
+-- Variables below 16 have a byte each.
+mutual
+  unfolding Made Named
+
+  pub named : (n : ℕ) (t : Term) → Made (λ f. f < n) (λ x. x < 16) t → Named t
+  named n (var x) h = h
+  named n (node f ts) h = named-all n ts (h .1)
+
+  named-all : (n : ℕ) (ts : Terms) → MadeAll (λ f. f < n) (λ x. x < 16) ts → NamedAll ts
+  named-all n nil h = tt
+  named-all n (cons t ts) h = (named n t (h .0), named-all n ts (h .1))
+
+module _ (Σ : List Symbol) (few : length Σ ≤ 16) where
+  -- a rule that its field can hold
+  pub record Fits (r : Rule) : Type 0 where
+    pub number : r .number < 65_536
+    pub left-over : Over Σ (r .sides .left)
+    pub right-over : Over Σ (r .sides .right)
+    pub left-named : Named (r .sides .left)
+    pub right-named : Named (r .sides .right)
+
+  two-terms : (n high low : ℕ) (l r : Term) (bytes : List ℕ) → bytes ≡ term-bytes l ++ (term-bytes r ++ []) → number-from 0 (high ∷ low ∷ []) ≡ n →
+      Over Σ l → Over Σ r → Named l → Named r → rule-of Σ (high ∷ low ∷ bytes) ≡ ok (record { number = n; sides = record { left = l; right = r } })
+  unfolding rule-of _>>=_ refuse-if
+  two-terms n high low l r bytes b e ol or nl nr =
+      let c = ap length b ∙ length-append (term-bytes l) (term-bytes r ++ []) in
+      let d = length-append (term-bytes r) [] in
+      let first : read-term Σ (suc (length bytes)) 2 bytes ≡ ok (record { part = l; end = 2 + size l; rest = term-bytes r ++ [] }) =
+      ap (λ bs. read-term Σ (suc (length bytes)) 2 bs) b ∙ read-back Σ few l (suc (length bytes)) 2 (2 + size l) (term-bytes r ++ []) ol nl (omega (arith, length-bytes l)) refl in
+      let second : read-term Σ (suc (length (term-bytes r ++ []))) (2 + size l) (term-bytes r ++ []) ≡ ok (record { part = r; end = 2 + size l + size r; rest = [] }) =
+      read-back Σ few r (suc (length (term-bytes r ++ []))) (2 + size l) (2 + size l + size r) [] or nr (omega (arith, length-bytes r)) refl in
+      rw (first, rule-of) (rw (second, rule-of) (rw (e, rule-of) refl))
+
+  -- A rule is read back from its field.
+  pub rule-back : (r : Rule) → Fits r → rule-of Σ (rule-field r .contents) ≡ ok r
+  unfolding rule-field pair-bytes number-bytes
+  rule-back r f =
+      let e = r .sides in
+      two-terms (r .number) (r .number / 256 % 256) (r .number % 256) (e .left) (e .right) (term-bytes (e .left) ++ term-bytes (e .right))
+      (ap (λ l. term-bytes (e .left) ++ l) (sym (append-nil (term-bytes (e .right))))) (two-back (r .number) (f .number)) (f .left-over) (f .right-over) (f .left-named) (f .right-named)
+
+  -- fields of other tags hold no rule
+  pub no-rules : (fs : List Tagged) → Every (λ f. eqb (f .tag) 0x12 ≡ false) fs → rules-in Σ fs ≡ ok []
+  unfolding rules-in if_then_else_
+  no-rules [] h = refl
+  no-rules (f ∷ fs) (of-cons q h) = rw q (no-rules fs h)
+
+  -- The rules that were written are the rules that are read.
+  pub rules-back : (rules : List Rule) (fs : List Tagged) → Every Fits rules → rules-in Σ fs ≡ ok [] → rules-in Σ (map rule-field rules ++ fs) ≡ ok rules
+  unfolding rules-in if_then_else_ rule-field _>>=_
+  rules-back [] fs h e = e
+  rules-back (r ∷ rules) fs (of-cons q h) e = rw (rule-back r q) (rw (rules-back rules fs h e) refl)

@@ -1,0 +1,191 @@
+-- The result: at most 13,715 bytes, each below 256, and every field's length below 256. Assumes nothing.
+use mathlib.Core.Path.{_≡_, refl, sym, ap, _∙_}
+use mathlib.Core.List.{List, [], _∷_, _++_, map, flatMap, append-assoc}
+use Prim.Native.Nat.{ℕ, _+_, _*_, _≤_, _<_}
+use native.Mathlib.Omega.{arith}
+use lib.ListN.{length, length-append}
+use Rattle.terms.specs.Base.{number-bytes, Tagged, field-bytes}
+use Rattle.terms.specs.Term.{Pair, size, term-bytes, renamed}
+use Rattle.terms.proofs.Bytes.{length-bytes}
+use Rattle.terms.proofs.Limits.{Bytes, number-bytes-bytes, length-number-bytes, field-bytes-bytes, length-field-bytes, term-bytes-bytes}
+use Rattle.terms.proofs.Every.{Every, of-none, every-head, every-tail, every-one, of-cons, every-append}
+use Rattle.rewriting.specs.Overlap.{Rule}
+use Rattle.rewriting.specs.Rewrite.{End, complete, neither-above, spent, too-large, rules-full, log-full}
+use Rattle.problem.specs.Problem.{Problem}
+use Rattle.completion.specs.Turn.{Origin, waiting-input, removed-rule, scanned-input, overlapping, Entry, run}
+use Rattle.completion.specs.Calls.{end-number, pair-bytes, rule-field, origin-bytes, entry-field, forms-field, result-fields, result-bytes}
+use Rattle.completion.proofs.Limits.{HeldPair, RuleFits, Limits, Accepted, renamed-held}
+use Rattle.completion.proofs.Ends.{Neither}
+use Rattle.completion.proofs.Reachable.{run-neither}
+use Rattle.completion.proofs.Kept.{run-limits, neither-fits}
+
+-- a field of at most so many bytes of contents, all of them bytes
+pub record FieldFits (most : ℕ) (f : Tagged) : Type 0 where
+  pub tag-fits : f .tag < 256
+  pub contents-fit : Bytes (f .contents)
+  pub length-fits : length (f .contents) ≤ most
+
+abbrev flat : List Tagged → List ℕ
+flat fs = flatMap field-bytes fs
+
+flat-append : (a b : List Tagged) → flat (a ++ b) ≡ flat a ++ flat b
+unfolding flatMap
+flat-append [] b = refl
+flat-append (f ∷ a) b = ap (λ l. field-bytes f ++ l) (flat-append a b) ∙ sym (append-assoc (field-bytes f) (flat a) (flat b))
+
+flat-bytes : (most : ℕ) (fs : List Tagged) → Every (FieldFits most) fs → Bytes (flat fs)
+unfolding flatMap
+flat-bytes most [] h = of-none
+flat-bytes most (f ∷ fs) h =
+    let k : FieldFits most f = every-head h in
+    every-append (field-bytes-bytes f (k .tag-fits) (k .contents-fit)) (flat-bytes most fs (every-tail h))
+
+flat-cons : (f : Tagged) (fs : List Tagged) → length (flat (f ∷ fs)) ≡ 3 + length (f .contents) + length (flat fs)
+unfolding flatMap
+flat-cons f fs = length-append (field-bytes f) (flat fs) ∙ ap (λ k. k + length (flat fs)) (length-field-bytes f)
+
+pub pair-bytes-length : (e : Pair) → length (pair-bytes e) ≡ size (e .left) + size (e .right)
+unfolding pair-bytes
+pair-bytes-length e = length-append (term-bytes (e .left)) (term-bytes (e .right)) ∙ omega (arith, length-bytes (e .left), length-bytes (e .right))
+
+pub pair-bytes-fit : (n : ℕ) → n ≤ 16 → (e : Pair) → HeldPair n 16 e → Bytes (pair-bytes e)
+unfolding pair-bytes
+pair-bytes-fit n l e h =
+    every-append
+    (term-bytes-bytes n 16 (omega arith) (omega arith) (e .left) (h .left .made))
+    (term-bytes-bytes n 16 (omega arith) (omega arith) (e .right) (h .right .made))
+
+pub rule-field-fits : (n made : ℕ) → n ≤ 16 → (r : Rule) → RuleFits n made r → FieldFits 242 (rule-field r)
+unfolding rule-field
+rule-field-fits n made l r h =
+    record {
+      tag-fits = omega arith;
+      contents-fit = every-append (number-bytes-bytes 2 (r .number)) (pair-bytes-fit n l (r .sides) (h .fits));
+      length-fits =
+          let a = length-append (number-bytes 2 (r .number)) (pair-bytes (r .sides)) in
+          omega (arith, a, length-number-bytes 2 (r .number), pair-bytes-length (r .sides), h .fits .left .small, h .fits .right .small);
+    }
+
+three-bytes : (k a b : ℕ) (c : ℕ) → k < 256 → Bytes (k ∷ (number-bytes 2 a ++ number-bytes 2 b ++ number-bytes 1 c))
+three-bytes k a b c h =
+    of-cons h
+    (every-append (every-append (number-bytes-bytes 2 a) (number-bytes-bytes 2 b)) (number-bytes-bytes 1 c))
+
+three-length : (k a b c : ℕ) → length (k ∷ (number-bytes 2 a ++ number-bytes 2 b ++ number-bytes 1 c)) ≡ 6
+three-length k a b c =
+    let x = length-append (number-bytes 2 a ++ number-bytes 2 b) (number-bytes 1 c) in
+    let y = length-append (number-bytes 2 a) (number-bytes 2 b) in
+    omega (arith, x, y, length-number-bytes 2 a, length-number-bytes 2 b, length-number-bytes 1 c)
+
+pub origin-bytes-fit : (o : Origin) → Bytes (origin-bytes o)
+unfolding origin-bytes
+origin-bytes-fit (waiting-input k) = three-bytes 1 k 0 0 (omega arith)
+origin-bytes-fit (removed-rule k) = three-bytes 2 k 0 0 (omega arith)
+origin-bytes-fit (scanned-input k) = three-bytes 3 k 0 0 (omega arith)
+origin-bytes-fit (overlapping i o p) = three-bytes 4 i o p (omega arith)
+
+pub origin-bytes-length : (o : Origin) → length (origin-bytes o) ≡ 6
+unfolding origin-bytes
+origin-bytes-length (waiting-input k) = three-length 1 k 0 0
+origin-bytes-length (removed-rule k) = three-length 2 k 0 0
+origin-bytes-length (scanned-input k) = three-length 3 k 0 0
+origin-bytes-length (overlapping i o p) = three-length 4 i o p
+
+pub entry-length : (e : Entry) → length (entry-field e .contents) ≡ 8
+unfolding entry-field
+entry-length e = length-append (origin-bytes (e .origin)) (number-bytes 2 (e .made)) ∙ omega (arith, origin-bytes-length (e .origin), length-number-bytes 2 (e .made))
+
+pub entry-field-fits : (e : Entry) → FieldFits 242 (entry-field e)
+unfolding entry-field
+entry-field-fits e =
+    record {
+      tag-fits = omega arith;
+      contents-fit = every-append (origin-bytes-fit (e .origin)) (number-bytes-bytes 2 (e .made));
+      length-fits = omega (arith, entry-length e);
+    }
+
+rules-fit : (n made : ℕ) → n ≤ 16 → (rules : List Rule) → Every (RuleFits n made) rules → Every (FieldFits 242) (map rule-field rules)
+rules-fit n made l [] h = of-none
+rules-fit n made l (r ∷ rules) h = of-cons (rule-field-fits n made l r (every-head h)) (rules-fit n made l rules (every-tail h))
+
+rules-length : (rules : List Rule) → Every (FieldFits 242) (map rule-field rules) → length (flat (map rule-field rules)) ≤ 245 * length rules
+rules-length [] h = unfold flatMap in omega arith
+rules-length (r ∷ rules) h =
+    let a : FieldFits 242 (rule-field r) = every-head h in
+    let c : length (rule-field r .contents) ≤ 242 = a .length-fits in
+    let k = rules-length rules (every-tail h) in
+    omega (arith, flat-cons (rule-field r) (map rule-field rules))
+
+entries-fit : (log : List Entry) → Every (FieldFits 242) (map entry-field log)
+entries-fit [] = of-none
+entries-fit (e ∷ log) = of-cons (entry-field-fits e) (entries-fit log)
+
+entries-length : (log : List Entry) → length (flat (map entry-field log)) ≡ 11 * length log
+entries-length [] = unfold flatMap in refl
+entries-length (e ∷ log) =
+    let k = entries-length log in
+    omega (arith, flat-cons (entry-field e) (map entry-field log), entry-length e)
+
+-- what is left of the room behind the log, and the two normal forms with end 20
+record FormsFit (log : ℕ) (fs : List Tagged) : Type 0 where
+  fit : Every (FieldFits 242) fs
+  room : length (flat fs) + 11 * log ≤ 5864
+
+no-forms : (log : ℕ) → log ≤ 512 → FormsFit log []
+no-forms log l = record { fit = of-none; room = unfold flatMap in omega arith }
+
+one-forms : (n log : ℕ) (e : Pair) → n ≤ 16 → log < 512 → HeldPair n 16 (renamed e) → FormsFit log (record { tag = 0x14; contents = pair-bytes (renamed e) } ∷ [])
+one-forms n log e l m h =
+    let c : length (pair-bytes (renamed e)) ≤ 240 = omega (arith, pair-bytes-length (renamed e), h .left .small, h .right .small) in
+    record {
+      fit = every-one (record { tag-fits = omega arith; contents-fit = pair-bytes-fit n l (renamed e) h; length-fits = omega arith });
+      room = let z : length (flat []) ≡ 0 = unfold flatMap in refl in omega (arith, flat-cons (record { tag = 0x14; contents = pair-bytes (renamed e) }) []);
+    }
+
+module _ (P : Problem) (a : Accepted P) where
+  forms-fit : (end : End) → run P .end ≡ end → FormsFit (length (run P .state .log)) (forms-field end)
+  unfolding forms-field
+  forms-fit complete q = no-forms _ (run-limits P a .log-few)
+  forms-fit (neither-above e) q =
+      let h : Neither P (run P .state) e = run-neither P e q in
+      one-forms (length (P .symbols)) (length (run P .state .log)) e (a .symbols-few) (h .room) (renamed-held (length (P .symbols)) 32 16 e (h .few) (neither-fits P a e h))
+  forms-fit spent q = no-forms _ (run-limits P a .log-few)
+  forms-fit too-large q = no-forms _ (run-limits P a .log-few)
+  forms-fit rules-full q = no-forms _ (run-limits P a .log-few)
+  forms-fit log-full q = no-forms _ (run-limits P a .log-few)
+
+  pub fields-fit : Every (FieldFits 242) (result-fields (run P))
+  unfolding result-fields
+  fields-fit =
+      of-cons {x = record { tag = 0x10; contents = number-bytes 1 (end-number (run P .end)) }}
+      (record { tag-fits = omega arith; contents-fit = number-bytes-bytes 1 (end-number (run P .end)); length-fits = omega (arith, length-number-bytes 1 (end-number (run P .end))) })
+      (of-cons {x = record { tag = 0x11; contents = number-bytes 4 (run P .units) }}
+      (record { tag-fits = omega arith; contents-fit = number-bytes-bytes 4 (run P .units); length-fits = omega (arith, length-number-bytes 4 (run P .units)) })
+      (every-append
+      (every-append
+      (rules-fit (length (P .symbols)) (run P .state .made) (a .symbols-few) (run P .state .rules) (run-limits P a .rules-fit))
+      (entries-fit (run P .state .log)))
+      (forms-fit (run P .end) refl .fit)))
+
+  -- every byte of the result is one
+  pub result-is-bytes : Bytes (result-bytes (run P))
+  unfolding result-bytes
+  result-is-bytes = flat-bytes 242 (result-fields (run P)) fields-fit
+
+  -- 4 for the end, 7 for the units, 245 a rule, 11 an entry, 243 for two normal forms, which come with at most 511 entries
+  pub result-length : length (result-bytes (run P)) ≤ 13_715
+  unfolding result-bytes result-fields
+  result-length =
+      let rules : List Tagged = map rule-field (run P .state .rules) in
+      let log : List Tagged = map entry-field (run P .state .log) in
+      let forms : List Tagged = forms-field (run P .end) in
+      let lim : Limits (length (P .symbols)) (run P .state) = run-limits P a in
+      let c1 = flat-cons (record { tag = 0x10; contents = number-bytes 1 (end-number (run P .end)) }) (record { tag = 0x11; contents = number-bytes 4 (run P .units) } ∷ (rules ++ log ++ forms)) in
+      let c2 = flat-cons (record { tag = 0x11; contents = number-bytes 4 (run P .units) }) (rules ++ log ++ forms) in
+      let c3 = ap length (flat-append (rules ++ log) forms) ∙ length-append (flat (rules ++ log)) (flat forms) in
+      let c4 = ap length (flat-append rules log) ∙ length-append (flat rules) (flat log) in
+      let r : length (flat rules) ≤ 245 * length (run P .state .rules) = rules-length (run P .state .rules) (rules-fit (length (P .symbols)) (run P .state .made) (a .symbols-few) (run P .state .rules) (lim .rules-fit)) in
+      let l : length (flat log) ≡ 11 * length (run P .state .log) = entries-length (run P .state .log) in
+      let f : length (flat forms) + 11 * length (run P .state .log) ≤ 5864 = forms-fit (run P .end) refl .room in
+      let live : length (run P .state .rules) ≤ 32 = lim .live in
+      omega (arith, length-number-bytes 1 (end-number (run P .end)), length-number-bytes 4 (run P .units))

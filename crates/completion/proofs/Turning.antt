@@ -1,0 +1,233 @@
+-- A turn case by case: what `turn` comes to, from what its steps come to, for code that follows them one after the other. No invariant is assumed.
+-- Read specs/Turn first. Assumes nothing.
+use mathlib.Core.Path.{_≡_, refl, sym, ap, _∙_, subst}
+use mathlib.Core.Bool.{Bool, true, false}
+use mathlib.Core.List.{List, [], _∷_, _++_}
+use mathlib.Core.Option.{Option, none, some}
+use Prim.Native.Nat.{ℕ, zero, suc, _≤_, _<_, _-_}
+use native.Mathlib.Omega.{arith}
+use lib.Dec.{ltb, leb}
+use lib.ListN.{length}
+use borrow.Author.Tests.{le-leb, lt-ltb, ltb-true, leb-true}
+use Rattle.terms.specs.Base.{if_then_else_}
+use Rattle.terms.specs.Term.{Term, Pair, same, pair-variables, renamed}
+use Rattle.rewriting.specs.Overlap.{Rule, Overlap, overlap, Place, all-places}
+use Rattle.rewriting.specs.Rewrite.{End, complete, spent, too-large, rules-full, log-full, Paid, done, stop, Paying, return, end-with, and-then, _>>=_, end-if, pay, hold, normalise, normalise-pair}
+use Rattle.problem.specs.Problem.{Problem}
+use Rattle.completion.specs.Turn.{Origin, overlapping, scanned-input, Candidate, Entry, State, Taken, candidates, scan-overlap, if-different, if-different-overlap, scan-inputs, scan, take-pair, orient, kept, removed, normalise-rights, make-rule, settled, turn, Finished, initial, turns, run}
+
+-- Step 1 behind its unit, and the rest of a turn.
+pub turn-unpaid : (P : Problem) (s : State) → turn P s 0 ≡ stop spent 0
+unfolding turn _>>=_ and-then pay
+turn-unpaid P s = refl
+
+module _ (P : Problem) (s : State) (units : ℕ) where
+  abbrev behind-take : Taken → Paying State
+  behind-take t =
+      end-if (leb 512 (length (s .log))) log-full >>= λ _. if same (t .pair .sides .left) (t .pair .sides .right) then return (settled s t) else make-rule P s t
+
+  pub turn-stops : (e : End) (left : ℕ) → take-pair P (s .rules) (s .waiting) units ≡ stop e left → turn P s (suc units) ≡ stop e left
+  unfolding turn _>>=_ and-then pay
+  turn-stops e left h = ap (λ p. and-then p behind-take) h
+
+  module _ (t : Taken) (left : ℕ) (h : take-pair P (s .rules) (s .waiting) units ≡ done t left) where
+    abbrev later : Unit {0} → Paying State
+    later _ = if same (t .pair .sides .left) (t .pair .sides .right) then return (settled s t) else make-rule P s t
+
+    rest : turn P s (suc units) ≡ and-then (end-if (leb 512 (length (s .log))) log-full left) later
+    unfolding turn _>>=_ and-then pay
+    rest = ap (λ p. and-then p behind-take) h
+
+    pub turn-log-full : 512 ≤ length (s .log) → turn P s (suc units) ≡ stop log-full left
+    unfolding end-if end-with and-then
+    turn-log-full full = rest ∙ ap (λ b. and-then (end-if b log-full left) later) (le-leb 512 (length (s .log)) full)
+
+    fits : length (s .log) < 512 → leb 512 (length (s .log)) ≡ false
+    fits few = go (leb 512 (length (s .log))) refl
+      where
+        go : (b : Bool) → leb 512 (length (s .log)) ≡ b → b ≡ false
+        go false e = refl
+        go true e = absurd (omega (arith, leb-true 512 (length (s .log)) e))
+
+    past-log : length (s .log) < 512 → turn P s (suc units) ≡ (if same (t .pair .sides .left) (t .pair .sides .right) then return (settled s t) else make-rule P s t) left
+    unfolding end-if return and-then
+    past-log few = rest ∙ ap (λ b. and-then (end-if b log-full left) later) (fits few)
+
+    pub turn-settles : length (s .log) < 512 → same (t .pair .sides .left) (t .pair .sides .right) ≡ true → turn P s (suc units) ≡ done (settled s t) left
+    unfolding if_then_else_ return
+    turn-settles few e = past-log few ∙ ap (λ b. (if b then return (settled s t) else make-rule P s t) left) e
+
+    pub turn-makes : length (s .log) < 512 → same (t .pair .sides .left) (t .pair .sides .right) ≡ false → turn P s (suc units) ≡ make-rule P s t left
+    unfolding if_then_else_
+    turn-makes few e = past-log few ∙ ap (λ b. (if b then return (settled s t) else make-rule P s t) left) e
+
+-- Steps 4 to 7.
+and-then-assoc : {A B C : Type 0} (p : Paid A) (f : A → Paying B) (g : B → Paying C) → and-then (and-then p f) g ≡ and-then p (λ a left. and-then (f a left) g)
+unfolding and-then
+and-then-assoc (done a left) f g = refl
+and-then-assoc (stop e left) f g = refl
+
+-- the first lines of `make-rule`: the variables are counted, and the pair is oriented
+abbrev pub oriented : Problem → Pair → Paying Pair
+oriented P e = end-if (ltb 16 (length (pair-variables e))) too-large >>= λ _. orient P e
+
+abbrev pub new-rule : State → Pair → Rule
+new-rule s sides = record { number = suc (s .made); sides = sides }
+
+abbrev pub next-state : State → Taken → Pair → List Rule → State
+next-state s t sides rules = record {
+  rules = rules;
+  made = suc (s .made);
+  waiting = t .waiting ++ removed (new-rule s sides) (s .rules);
+  log = s .log ++ (record { origin = t .pair .origin; made = suc (s .made) } ∷ []);
+}
+
+module _ (P : Problem) (s : State) (t : Taken) (units : ℕ) where
+  -- step 7, and step 6's count before it, for a new rule with these sides
+  abbrev composed : Pair → Unit {0} → Paying State
+  composed sides _ = normalise-rights [] (kept (new-rule s sides) (s .rules)) (new-rule s sides) >>= λ rules. return (next-state s t sides rules)
+
+  abbrev behind : Pair → Paying State
+  behind sides = end-if (ltb 32 (suc (length (kept (new-rule s sides) (s .rules))))) rules-full >>= composed sides
+
+  make-from : make-rule P s t units ≡ and-then (oriented P (t .pair .sides) units) behind
+  unfolding make-rule _>>=_
+  make-from = sym (and-then-assoc (end-if (ltb 16 (length (pair-variables (t .pair .sides)))) too-large units) (λ _. orient P (t .pair .sides)) behind)
+
+  pub make-stops : (e : End) (left : ℕ) → oriented P (t .pair .sides) units ≡ stop e left → make-rule P s t units ≡ stop e left
+  unfolding and-then
+  make-stops e left h = make-from ∙ ap (λ p. and-then p behind) h
+
+  module _ (sides : Pair) (left : ℕ) (h : oriented P (t .pair .sides) units ≡ done sides left) where
+    from : make-rule P s t units ≡ behind sides left
+    unfolding and-then
+    from = make-from ∙ ap (λ p. and-then p behind) h
+
+    pub make-rules-full : 32 < suc (length (kept (new-rule s sides) (s .rules))) → make-rule P s t units ≡ stop rules-full left
+    unfolding _>>=_ and-then end-if end-with
+    make-rules-full full = from ∙ ap (λ b. and-then (end-if b rules-full left) (composed sides)) (lt-ltb 32 (suc (length (kept (new-rule s sides) (s .rules)))) full)
+
+    few-false : suc (length (kept (new-rule s sides) (s .rules))) ≤ 32 → ltb 32 (suc (length (kept (new-rule s sides) (s .rules)))) ≡ false
+    few-false few = go (ltb 32 (suc (length (kept (new-rule s sides) (s .rules))))) refl
+      where
+        go : (b : Bool) → ltb 32 (suc (length (kept (new-rule s sides) (s .rules)))) ≡ b → b ≡ false
+        go false e = refl
+        go true e = absurd (omega (arith, ltb-true 32 (suc (length (kept (new-rule s sides) (s .rules)))) e))
+
+    past-rules : suc (length (kept (new-rule s sides) (s .rules))) ≤ 32 →
+        make-rule P s t units
+        ≡ and-then (normalise-rights [] (kept (new-rule s sides) (s .rules)) (new-rule s sides) left) (λ rules. return (next-state s t sides rules))
+    unfolding _>>=_ and-then end-if return
+    past-rules few = from ∙ ap (λ b. and-then (end-if b rules-full left) (composed sides)) (few-false few)
+
+    pub make-rights-stop : suc (length (kept (new-rule s sides) (s .rules))) ≤ 32 → (e : End) (now : ℕ) →
+        normalise-rights [] (kept (new-rule s sides) (s .rules)) (new-rule s sides) left ≡ stop e now → make-rule P s t units ≡ stop e now
+    unfolding and-then
+    make-rights-stop few e now r = past-rules few ∙ ap (λ p. and-then p (λ rules. return (next-state s t sides rules))) r
+
+    pub make-done : suc (length (kept (new-rule s sides) (s .rules))) ≤ 32 → (rules : List Rule) (now : ℕ) →
+        normalise-rights [] (kept (new-rule s sides) (s .rules)) (new-rule s sides) left ≡ done rules now → make-rule P s t units ≡ done (next-state s t sides rules) now
+    unfolding and-then return
+    make-done few rules now r = past-rules few ∙ ap (λ p. and-then p (λ rules. return (next-state s t sides rules))) r
+
+-- What the scan takes has two different sides.
+abbrev Differs : Paid Candidate → Type 0
+Differs (done c left) = same (c .sides .left) (c .sides .right) ≡ false
+Differs (stop e left) = Unit {0}
+
+different : (o : Origin) (f : Pair) (next : Paying Candidate) → ((n : ℕ) → Differs (next n)) → (left : ℕ) → Differs (if-different o f next left)
+unfolding if-different if_then_else_ return
+different o f next k left = go (same (f .left) (f .right)) refl
+  where
+    go : (b : Bool) → same (f .left) (f .right) ≡ b → Differs ((if b then next else return (record { origin = o; sides = f })) left)
+    go true e = k left
+    go false e = e
+
+then-differs : {A : Type 0} (p : Paid A) (next : A → Paying Candidate) → ((a : A) (n : ℕ) → Differs (next a n)) → Differs (and-then p next)
+unfolding and-then
+then-differs (done a left) next k = k a left
+then-differs (stop e left) next k = tt
+
+inputs-differ : (rules : List Rule) (cs : List Candidate) (left : ℕ) → Differs (scan-inputs rules cs left)
+unfolding scan-inputs _>>=_ end-with
+inputs-differ rules [] left = tt
+inputs-differ rules (c ∷ cs) left =
+    then-differs (normalise-pair rules (c .sides) left) (λ forms. if-different (c .origin) forms (scan-inputs rules cs)) λ forms n.
+    different (c .origin) forms (scan-inputs rules cs) (λ m. inputs-differ rules cs m) n
+
+different-at : (at : Place) (o : Option Pair) (next : Paying Candidate) → ((n : ℕ) → Differs (next n)) → (left : ℕ) → Differs (if-different-overlap at o next left)
+unfolding if-different-overlap
+different-at at none next k left = k left
+different-at at (some f) next k left = different _ f next k left
+
+scan-differ : (rules : List Rule) (inputs : List Candidate) (ps : List Place) (left : ℕ) → Differs (scan rules inputs ps left)
+unfolding scan _>>=_
+scan-differ rules inputs [] left = inputs-differ rules inputs left
+scan-differ rules inputs (at ∷ ps) left =
+    then-differs (scan-overlap rules (overlap (at .inner .sides) (at .outer .sides) (at .position)) left) (λ forms. if-different-overlap at forms (scan rules inputs ps)) λ forms n.
+    different-at at forms (scan rules inputs ps) (λ m. scan-differ rules inputs ps m) n
+
+pub scan-different : (rules : List Rule) (inputs : List Candidate) (ps : List Place) (units left : ℕ) (c : Candidate) → scan rules inputs ps units ≡ done c left →
+    same (c .sides .left) (c .sides .right) ≡ false
+scan-different rules inputs ps units left c e = subst Differs e (scan-differ rules inputs ps units)
+
+-- Step 1: the scan, or the oldest waiting equation.
+module _ (P : Problem) (rules : List Rule) (units : ℕ) where
+  abbrev scanned : Candidate → Paying Taken
+  scanned c = return (record { pair = c; waiting = [] })
+
+  pub take-scan-stops : (e : End) (left : ℕ) → scan rules (candidates scanned-input 1 (P .equations)) (all-places [] rules) units ≡ stop e left →
+      take-pair P rules [] units ≡ stop e left
+  unfolding take-pair _>>=_ and-then
+  take-scan-stops e left h = ap (λ p. and-then p scanned) h
+
+  pub take-scan : (c : Candidate) (left : ℕ) → scan rules (candidates scanned-input 1 (P .equations)) (all-places [] rules) units ≡ done c left →
+      take-pair P rules [] units ≡ done (record { pair = c; waiting = [] }) left
+  unfolding take-pair _>>=_ and-then return
+  take-scan c left h = ap (λ p. and-then p scanned) h
+
+  module _ (c : Candidate) (cs : List Candidate) where
+    abbrev oldest : Pair → Paying Taken
+    oldest forms = return (record { pair = record { origin = c .origin; sides = forms }; waiting = cs })
+
+    pub take-waiting-stops : (e : End) (left : ℕ) → normalise-pair rules (c .sides) units ≡ stop e left → take-pair P rules (c ∷ cs) units ≡ stop e left
+    unfolding take-pair _>>=_ and-then
+    take-waiting-stops e left h = ap (λ p. and-then p oldest) h
+
+    pub take-waiting : (forms : Pair) (left : ℕ) → normalise-pair rules (c .sides) units ≡ done forms left →
+        take-pair P rules (c ∷ cs) units ≡ done (record { pair = record { origin = c .origin; sides = forms }; waiting = cs }) left
+    unfolding take-pair _>>=_ and-then return
+    take-waiting forms left h = ap (λ p. and-then p oldest) h
+
+-- The run on its way: from the state s, with so many units left, the turns come to f.
+pub record Running (P : Problem) (f : Finished) (s : State) (left : ℕ) : Type 0 where
+  pub more : ℕ
+  pub enough : left < more
+  pub comes-to : turns more P s left ≡ f
+
+pub run-begins : (P : Problem) → Running P (run P) (initial P) (P .budget)
+unfolding run
+run-begins P = record { more = suc (P .budget); enough = omega arith; comes-to = refl }
+
+module _ (P : Problem) (f : Finished) (s : State) (left : ℕ) where
+  turns-on : (n : ℕ) (s′ : State) (left′ : ℕ) → turn P s left ≡ done s′ left′ → turns (suc n) P s left ≡ turns n P s′ left′
+  unfolding turns
+  turns-on n s′ left′ h = rw (h, turns) refl
+
+  turns-end : (n : ℕ) (e : End) (left′ : ℕ) → turn P s left ≡ stop e left′ → turns (suc n) P s left ≡ record { end = e; units = P .budget - left′; state = s }
+  unfolding turns
+  turns-end n e left′ h = rw (h, turns) refl
+
+  pub run-goes-on : Running P f s left → (s′ : State) (left′ : ℕ) → turn P s left ≡ done s′ left′ → left′ < left → Running P f s′ left′
+  run-goes-on r s′ left′ h less = go (r .more) (r .enough) (r .comes-to)
+    where
+      go : (n : ℕ) → left < n → turns n P s left ≡ f → Running P f s′ left′
+      go zero l e = absurd (omega arith)
+      go (suc n) l e = record { more = n; enough = omega arith; comes-to = sym (turns-on n s′ left′ h) ∙ e }
+
+  pub run-ends : Running P f s left → (e : End) (left′ : ℕ) → turn P s left ≡ stop e left′ → f ≡ record { end = e; units = P .budget - left′; state = s }
+  run-ends r e left′ h = go (r .more) (r .enough) (r .comes-to)
+    where
+      go : (n : ℕ) → left < n → turns n P s left ≡ f → f ≡ record { end = e; units = P .budget - left′; state = s }
+      go zero l q = absurd (omega arith)
+      go (suc n) l q = sym q ∙ turns-end n e left′ h

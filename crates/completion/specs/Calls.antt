@@ -1,0 +1,139 @@
+-- Document 01, "The result and settle": the result's fields, and the four calls, from the bytes that they are lent to what they answer.
+-- Assumes nothing.
+use mathlib.Core.List.{List, [], _∷_, _++_, map, flatMap}
+use mathlib.Core.Option.{Option, none, some}
+use Prim.Native.Nat.{ℕ, _+_}
+use lib.Dec.{ltb}
+use lib.ListN.{length, take, drop}
+use Rattle.terms.specs.Base.{if_then_else_, number-bytes, Tagged, field-bytes}
+use Rattle.terms.specs.Term.{Term, Pair, term-bytes, size, subterm-at, renamed}
+use Rattle.problem.specs.Problem.{Reading, ok, refused, _>>=_, refuse-if, Symbol, rank-of, Equation, parse, only-equation}
+use Rattle.problem.specs.Stops.{short-buffer}
+use Rattle.order.specs.Order.{comparison}
+use Rattle.unify.specs.Unify.{Binding, mgu, under}
+use Rattle.rewriting.specs.Overlap.{Rule}
+use Rattle.rewriting.specs.Rewrite.{End, complete, neither-above, spent, too-large, rules-full, log-full}
+use Rattle.completion.specs.Turn.{Origin, waiting-input, removed-rule, scanned-input, overlapping, Entry, Finished, run}
+
+-- "0, complete"; the ends 20 to 23 of the table of stops
+unfoldable pub end-number : End → ℕ
+end-number complete = 0
+end-number (neither-above e) = 20
+end-number spent = 21
+end-number too-large = 22
+end-number rules-full = 23
+end-number log-full = 23
+
+unfoldable pub pair-bytes : Pair → List ℕ
+pair-bytes e = term-bytes (e .left) ++ term-bytes (e .right)
+
+-- "12, once a rule: number in two bytes, left, right"
+unfoldable pub rule-field : Rule → Tagged
+rule-field r = record { tag = 0x12; contents = number-bytes 2 (r .number) ++ pair-bytes (r .sides) }
+
+-- "kind in one byte (1 waiting input, 2 waiting from a removed rule, 3 input at the scan, 4 overlap), first number in two bytes (input, removed
+-- rule, input, inner rule), second in two (outer rule, else 0), position in one (else 0)"
+unfoldable pub origin-bytes : Origin → List ℕ
+origin-bytes (waiting-input n) = 1 ∷ (number-bytes 2 n ++ number-bytes 2 0 ++ number-bytes 1 0)
+origin-bytes (removed-rule n) = 2 ∷ (number-bytes 2 n ++ number-bytes 2 0 ++ number-bytes 1 0)
+origin-bytes (scanned-input n) = 3 ∷ (number-bytes 2 n ++ number-bytes 2 0 ++ number-bytes 1 0)
+origin-bytes (overlapping inner outer p) = 4 ∷ (number-bytes 2 inner ++ number-bytes 2 outer ++ number-bytes 1 p)
+
+-- "13, once a log entry": where its pair came from, then "rule made in two (0 if settled)"
+unfoldable pub entry-field : Entry → Tagged
+entry-field e = record { tag = 0x13; contents = origin-bytes (e .origin) ++ number-bytes 2 (e .made) }
+
+-- "14, only with end 20: the two normal forms, renamed as a pair"
+unfoldable pub forms-field : End → List Tagged
+forms-field complete = []
+forms-field (neither-above e) = record { tag = 0x14; contents = pair-bytes (renamed e) } ∷ []
+forms-field spent = []
+forms-field too-large = []
+forms-field rules-full = []
+forms-field log-full = []
+
+-- "tag 10, the end, one byte; 11, units, four bytes; 12, once a rule .. ascending; 13, once a log entry, oldest first; 14 .."
+unfoldable pub result-fields : Finished → List Tagged
+result-fields f =
+    record { tag = 0x10; contents = number-bytes 1 (end-number (f .end)) }
+    ∷ record { tag = 0x11; contents = number-bytes 4 (f .units) }
+    ∷ (map rule-field (f .state .rules) ++ map entry-field (f .state .log) ++ forms-field (f .end))
+
+unfoldable pub result-bytes : Finished → List ℕ
+result-bytes f = flatMap field-bytes (result-fields f)
+
+-- 1: "result buffer under 16,384 bytes (complete, unify)", place 0
+unfoldable pub enough : ℕ → Reading (Unit {0})
+enough buffer = refuse-if (ltb buffer 16_384) short-buffer 0
+
+-- complete, from the problem's bytes and the result buffer's length: the result's bytes, of which it returns the count, or the refusal
+unfoldable pub complete-call : List ℕ → ℕ → Reading (List ℕ)
+complete-call bytes buffer = do
+  _ ← enough buffer
+  P ← parse bytes
+  ok (result-bytes (run P))
+
+-- what compare, unify and subterm read
+pub record Single : Type 0 where
+  pub symbols : List Symbol
+  pub equation : Equation
+
+unfoldable pub parse-single : List ℕ → Reading Single
+parse-single bytes = do
+  P ← parse bytes
+  e ← only-equation (length bytes) (P .equations)
+  ok (record { symbols = P .symbols; equation = e })
+
+-- compare: 1 to 4, or the refusal
+unfoldable pub compare-call : List ℕ → Reading ℕ
+compare-call bytes = do
+  P ← parse-single bytes
+  ok (comparison (rank-of (P .symbols)) (P .equation .sides .left) (P .equation .sides .right))
+
+-- unify: "one field, tag 15: the most general common instance, renamed"; "none"; 22, "a common instance over 120 nodes"
+pub data Unified : Type 0 where
+  instance : List ℕ → Unified
+  no-instance : Unified
+  instance-too-large : Unified
+
+unfoldable pub unified : Term → Option (List Binding) → Unified
+unified s none = no-instance
+unified s (some m) =
+    let t : Term = under m s in
+    if ltb 120 (size t) then instance-too-large
+    else instance (field-bytes (record { tag = 0x15; contents = term-bytes (renamed (record { left = t; right = t }) .left) }))
+
+-- "Unify reads both sides over the same variables."
+unfoldable pub unify-call : List ℕ → ℕ → Reading Unified
+unify-call bytes buffer = do
+  _ ← enough buffer
+  P ← parse-single bytes
+  let e : Pair = P .equation .sides
+  ok (unified (e .left) (mgu (e .left) (e .right)))
+
+-- subterm: "that part of the lent bytes", which begins at this position of the left side, the first byte behind the field's header being 0.
+-- "An empty part, and only it, means refused (2 to 12, or a position not below the node count)."
+unfoldable pub part-at : List ℕ → ℕ → ℕ → Option Term → List ℕ
+part-at bytes first p none = []
+part-at bytes first p (some t) = take (size t) (drop (first + 3 + p) bytes)
+
+unfoldable pub subterm-call : List ℕ → ℕ → List ℕ
+subterm-call bytes p =
+    elim (parse-single bytes) [
+      | ok P ↦ part-at bytes (P .equation .first) p (subterm-at (P .equation .sides .left) p)
+      | refused n at ↦ []
+    ]
+
+-- "Left as it was": what the lent result buffer holds after a call that writes these bytes at its front.
+unfoldable pub written : List ℕ → List ℕ → List ℕ
+written bytes buffer = bytes ++ drop (length bytes) buffer
+
+unfoldable pub after-complete : Reading (List ℕ) → List ℕ → List ℕ
+after-complete (ok bytes) buffer = written bytes buffer
+after-complete (refused n at) buffer = buffer
+
+unfoldable pub after-unify : Reading Unified → List ℕ → List ℕ
+after-unify (ok (instance bytes)) buffer = written bytes buffer
+after-unify (ok no-instance) buffer = buffer
+after-unify (ok instance-too-large) buffer = buffer
+after-unify (refused n at) buffer = buffer

@@ -1,0 +1,6 @@
+pub mod Turn
+pub mod Calls
+pub mod Settle
+pub mod Delivery
+pub mod Settles
+pub mod Promise

@@ -1,0 +1,179 @@
+-- Document 01, "A turn": the run's state, the turn in its seven steps, and the run. Assumes nothing.
+use mathlib.Core.Bool.{Bool}
+use mathlib.Core.List.{List, [], _∷_, _++_}
+use mathlib.Core.Option.{Option, none, some}
+use Prim.Native.Nat.{ℕ, zero, suc, _-_}
+use lib.Dec.{ltb, leb}
+use lib.ListN.{length}
+use Rattle.terms.specs.Base.{if_then_else_, is-some}
+use Rattle.terms.specs.Term.{Pair, same, pair-variables, renamed}
+use Rattle.problem.specs.Problem.{rank-of, Equation, Problem}
+use Rattle.order.specs.Order.{above}
+use Rattle.rewriting.specs.Overlap.{Rule, Overlap, overlap, Place, all-places}
+use Rattle.rewriting.specs.Rewrite.{step, End, complete, neither-above, spent, too-large, rules-full, log-full, done, stop, Paying, return, end-with, _>>=_, end-if, pay, hold, normalise, normalise-pair}
+
+-- "kind (1 waiting input, 2 waiting from a removed rule, 3 input at the scan, 4 overlap), first number (input, removed rule, input, inner rule),
+-- second (outer rule), position"
+pub data Origin : Type 0 where
+  waiting-input : ℕ → Origin
+  removed-rule : ℕ → Origin
+  scanned-input : ℕ → Origin
+  overlapping : ℕ → ℕ → ℕ → Origin
+
+pub record Candidate : Type 0 where
+  pub origin : Origin
+  pub sides : Pair
+
+-- a log entry; `made` is the "rule made (0 if settled)"
+pub record Entry : Type 0 where
+  pub origin : Origin
+  pub made : ℕ
+
+-- "The state is the live rules (numbered 1, 2, .. as made, numbers never reused), the waiting list, the log and the units."
+-- The rules stand ascending and the waiting list oldest first. The units that are left go beside the state, as `Paying` hands them on.
+pub record State : Type 0 where
+  pub rules : List Rule
+  pub made : ℕ
+  pub waiting : List Candidate
+  pub log : List Entry
+
+-- "Equations are numbered from 1." "Every equation and rule held is so renamed."
+unfoldable pub candidates : (ℕ → Origin) → ℕ → List Equation → List Candidate
+candidates origin n [] = []
+candidates origin n (e ∷ es) = record { origin = origin n; sides = renamed (e .sides) } ∷ candidates origin (suc n) es
+
+-- "the waiting list (at first the equations in order)"
+unfoldable pub initial : Problem → State
+initial P = record { rules = []; made = 0; waiting = candidates waiting-input 1 (P .equations); log = [] }
+
+-- Step 1, the scan. "Test the size of the peak, of the left, of the right, then normalise left, then right."
+-- "Every equation and rule held is so renamed": the pair is renamed first, so no answer depends on which most general unifier was found.
+unfoldable pub scan-overlap : List Rule → Option Overlap → Paying (Option Pair)
+scan-overlap rules none = return none
+scan-overlap rules (some o) = do
+  _ ← hold (o .peak)
+  _ ← hold (o .sides .left)
+  _ ← hold (o .sides .right)
+  forms ← normalise-pair rules (renamed (o .sides))
+  return (some forms)
+
+unfoldable pub if-different : Origin → Pair → Paying Candidate → Paying Candidate
+if-different origin forms next =
+    if same (forms .left) (forms .right) then next else return (record { origin = origin; sides = forms })
+
+unfoldable pub if-different-overlap : Place → Option Pair → Paying Candidate → Paying Candidate
+if-different-overlap at none next = next
+if-different-overlap at (some forms) next =
+    if-different (overlapping (at .inner .number) (at .outer .number) (at .position)) forms next
+
+-- "After all overlaps, normalise each input equation. The first with two different normal forms is taken, as these forms.
+-- If there is none, the end is 0, complete."
+unfoldable pub scan-inputs : List Rule → List Candidate → Paying Candidate
+scan-inputs rules [] = end-with complete
+scan-inputs rules (c ∷ cs) = do
+  forms ← normalise-pair rules (c .sides)
+  if-different (c .origin) forms (scan-inputs rules cs)
+
+unfoldable pub scan : List Rule → List Candidate → List Place → Paying Candidate
+scan rules inputs [] = scan-inputs rules inputs
+scan rules inputs (at ∷ places) = do
+  forms ← scan-overlap rules (overlap (at .inner .sides) (at .outer .sides) (at .position))
+  if-different-overlap at forms (scan rules inputs places)
+
+-- What a turn takes: the pair, as its normal forms, and the equations that still wait.
+pub record Taken : Type 0 where
+  pub pair : Candidate
+  pub waiting : List Candidate
+
+-- Step 1. "Take the oldest waiting equation and normalise left, then right. If none waits, scan."
+unfoldable pub take-pair : Problem → List Rule → List Candidate → Paying Taken
+take-pair P rules [] = do
+  c ← scan rules (candidates scanned-input 1 (P .equations)) (all-places [] rules)
+  return (record { pair = c; waiting = [] })
+take-pair P rules (c ∷ waiting) = do
+  forms ← normalise-pair rules (c .sides)
+  return (record { pair = record { origin = c .origin; sides = forms }; waiting = waiting })
+
+-- Steps 4 and 5. "Neither side above: end 20." "The upper side becomes a new rule's left side."
+unfoldable pub orient : Problem → Pair → Paying Pair
+orient P e =
+    if above (rank-of (P .symbols)) (e .left) (e .right) then return (renamed e)
+    else if above (rank-of (P .symbols)) (e .right) (e .left) then return (renamed (record { left = e .right; right = e .left }))
+    else end-with (neither-above e)
+
+-- Step 6. "whose left side the new rule rewrites"
+unfoldable pub rewrites : Rule → Rule → Bool
+rewrites new old = is-some (step (new ∷ []) (old .sides .left))
+
+unfoldable pub kept : Rule → List Rule → List Rule
+kept new [] = []
+kept new (old ∷ rules) =
+    let rest : List Rule = kept new rules in
+    if rewrites new old then rest else (old ∷ rest)
+
+-- "is removed, and its two sides join the waiting list"
+unfoldable pub removed : Rule → List Rule → List Candidate
+removed new [] = []
+removed new (old ∷ rules) =
+    let rest : List Candidate = removed new rules in
+    if rewrites new old then (record { origin = removed-rule (old .number); sides = old .sides } ∷ rest) else rest
+
+-- Step 7. "Each older rule still live, ascending, gets its right side normalised by the live rules as they then read."
+unfoldable pub normalise-rights : List Rule → List Rule → Rule → Paying (List Rule)
+normalise-rights before [] new = return (before ++ (new ∷ []))
+normalise-rights before (old ∷ rules) new = do
+  r ← normalise (before ++ (old ∷ rules) ++ (new ∷ [])) (old .sides .right)
+  let old′ : Rule = record { number = old .number; sides = record { left = old .sides .left; right = r } }
+  normalise-rights (before ++ (old′ ∷ [])) rules new
+
+-- Steps 4 to 7.
+unfoldable pub make-rule : Problem → State → Taken → Paying State
+make-rule P s t = do
+  _ ← end-if (ltb 16 (length (pair-variables (t .pair .sides)))) too-large
+  sides ← orient P (t .pair .sides)
+  let new : Rule = record { number = suc (s .made); sides = sides }
+  let older = kept new (s .rules)
+  _ ← end-if (ltb 32 (suc (length older))) rules-full
+  rules ← normalise-rights [] older new
+  return (record {
+    rules = rules;
+    made = new .number;
+    waiting = t .waiting ++ removed new (s .rules);
+    log = s .log ++ (record { origin = t .pair .origin; made = new .number } ∷ []);
+  })
+
+-- Step 3. "Equal forms: entry, settled."
+unfoldable pub settled : State → Taken → State
+settled s t = record {
+  rules = s .rules;
+  made = s .made;
+  waiting = t .waiting;
+  log = s .log ++ (record { origin = t .pair .origin; made = 0 } ∷ []);
+}
+
+-- "A turn takes the run's state and hands back the next one." Step 1: "Pay a unit." Step 2: "With 512 entries in the log, end 23."
+unfoldable pub turn : Problem → State → Paying State
+turn P s = do
+  _ ← pay
+  t ← take-pair P (s .rules) (s .waiting)
+  _ ← end-if (leb 512 (length (s .log))) log-full
+  if same (t .pair .sides .left) (t .pair .sides .right) then return (settled s t) else make-rule P s t
+
+-- What a run leaves: its end, the units paid, and the rules and the log.
+pub record Finished : Type 0 where
+  pub end : End
+  pub units : ℕ
+  pub state : State
+
+-- "A stop inside a turn leaves rules and log as at its beginning; the units count what was paid."
+-- Each turn pays a unit, so the first number, the turns, is one more than the budget.
+unfoldable pub turns : ℕ → Problem → State → ℕ → Finished
+turns zero P s left = record { end = spent; units = P .budget - left; state = s }
+turns (suc n) P s left =
+    elim (turn P s left) [
+      | done s′ left′ ↦ turns n P s′ left′
+      | stop e left′ ↦ record { end = e; units = P .budget - left′; state = s }
+    ]
+
+unfoldable pub run : Problem → Finished
+run P = turns (suc (P .budget)) P (initial P) (P .budget)
