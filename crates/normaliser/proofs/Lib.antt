@@ -1,0 +1,14 @@
+pub mod Advancing
+pub mod Walking
+pub mod Clearing
+pub mod Filling
+pub mod Marking
+pub mod Sequence
+pub mod Choosing
+pub mod OneStep
+pub mod Parts
+pub mod Settling
+pub mod Together
+pub mod Whole
+pub mod Reducing
+pub mod Slots

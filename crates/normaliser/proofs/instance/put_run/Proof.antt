@@ -1,0 +1,87 @@
+use borrow.Author.Needs.{needs}
+use Rattle.normaliser.proofs.instance.put_run.Statement.{statement}
+use Rattle.normaliser.proofs.instance.put_run.Tie as tie
+use Rattle.normaliser.proofs.instance.put_run.Reads as reads
+use Rattle.normaliser.proofs.instance.put_run.Lts as lts
+use Rattle.bytes.proofs.copy.Reads as copy-reads
+use mathlib.Core.Path.{refl, _∙_, ap}
+use native.Mathlib.Omega.{arith}
+use lib.ListN.{length, length-take, length-drop}
+use Rattle.normaliser.proofs.Filling.{put-over, put-back}
+
+-- src/lib.rt:80:13
+sub-n : tie.Need-sub-n
+sub-n c = search needs
+
+-- src/lib.rt:81:8
+sub-if1 : tie.Need-sub-if1
+sub-if1 c = search needs
+
+-- src/lib.rt:82:16
+add-result : tie.Need-add-result
+add-result c = search needs
+
+-- src/lib.rt:82:9
+returns : tie.Need-returns
+returns c =
+    put-over _ _ _ _ (simp (length-take, length-drop) (omega arith)) (search needs)
+
+-- src/lib.rt:84:17
+sub-copy : tie.Need-sub-copy
+sub-copy c = search needs
+
+-- src/lib.rt:84:17
+part-copy-start : tie.Need-part-copy-start
+part-copy-start c = search needs
+
+-- src/lib.rt:84:17
+part-copy-end : tie.Need-part-copy-end
+part-copy-end c = search needs
+
+-- src/lib.rt:84:27
+sub-copy-2 : tie.Need-sub-copy-2
+sub-copy-2 c = search needs
+
+-- src/lib.rt:84:27
+part-copy-start-2 : tie.Need-part-copy-start-2
+part-copy-start-2 c = search needs
+
+-- src/lib.rt:84:27
+part-copy-end-2 : tie.Need-part-copy-end-2
+part-copy-end-2 c = search needs
+
+-- src/lib.rt:84:5
+copy-requires : tie.Need-copy-requires
+copy-requires c κs = search needs
+
+-- src/lib.rt:85:5
+add-result-2 : tie.Need-add-result-2
+add-result-2 c = search needs
+
+-- src/lib.rt:75:1
+same-length : tie.Need-same-length
+same-length c = search needs
+
+-- src/lib.rt:75:1
+returns-2 : tie.Need-returns-2
+returns-2 c =
+    put-back _ _ _ _ _ _ (simp (length-take, length-drop) (omega arith)) (search needs) (search needs) (c .before .before .copy .ensures .1)
+
+pub put-run-spec : {M : Type 1} → statement M
+put-run-spec =
+    tie.close
+    (tie.spec
+    sub-n
+    sub-if1
+    add-result
+    returns
+    sub-copy
+    part-copy-start
+    part-copy-end
+    sub-copy-2
+    part-copy-start-2
+    part-copy-end-2
+    copy-requires
+    add-result-2
+    same-length
+    returns-2)
