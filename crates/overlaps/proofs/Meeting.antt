@@ -1,0 +1,245 @@
+-- From stored rules to the definition of their overlap. Assumes nothing.
+use mathlib.Core.Path.{_≡_, refl, sym, ap, ap₂, subst, _∙_}
+use mathlib.Core.Bool.{Bool, true, false}
+use mathlib.Core.Logic.{_⊎_, inl, inr}
+use mathlib.Core.List.{List, [], _∷_, _++_}
+use mathlib.Core.Option.{Option, none, some}
+use Prim.Native.Nat.{ℕ, zero, suc, _+_, _-_, _*_, _≤_, _<_}
+use native.Mathlib.Omega.{arith}
+use lib.ListN.{length, getD, take, drop}
+use lib.Seq.{getD-take, getD-drop, drop-at, length-take-le}
+use Rattle.terms.specs.Term.{Term, var, node, Terms, Pair, size, sizes, term-bytes, terms-bytes, subst-term, subterm-at, replace-at}
+use Rattle.terms.proofs.Bytes.{length-bytes, length-bytes-all, around}
+use Rattle.terms.proofs.Limits.{size-vars}
+use Rattle.terms.proofs.Places.{size-pos, place}
+use Rattle.terms.proofs.Positions.{subterm-below, subterm-is}
+use Rattle.terms.proofs.Shape.{node-symbol}
+use Rattle.unify.specs.Unify.{Binding, mgu}
+use Rattle.unify.proofs.Correct.{mgu-right, unifier}
+use Rattle.rewriting.specs.Overlap.{Overlap, apart, overlap, overlap-at, overlap-by}
+use Rattle.normaliser.specs.Stored.{RuleAt}
+use Rattle.overlaps.specs.declared.Met.{Met}
+use Rattle.overlaps.specs.declared.Met.the-variants.{Nothing}
+use Rattle.overlaps.specs.Layout.{four-bytes, LaysFour}
+use Rattle.overlaps.specs.Answer.{Says, Kept, instances, four, Solves, Reads, AtNode, Meets, MeetsRules, Differ, Overlapped}
+use Rattle.overlaps.proofs.Apart.{the-four, four-wf, four-terms}
+use Rattle.overlaps.proofs.Layers.{laid-bytes}
+
+by-is : (i o : Pair) (p : ℕ) (m : Option (List Binding)) → overlap-by i o p m ≡ instances (o .left) (replace-at (o .left) p (apart (i .right))) (o .right) m
+unfolding overlap-by
+by-is i o p none = refl
+by-is i o p (some m) = refl
+
+overlap-is : (i o : Pair) (p f : ℕ) (ts : Terms) → subterm-at (o .left) p ≡ some (node f ts) →
+    overlap i o p ≡ instances (o .left) (replace-at (o .left) p (apart (i .right))) (o .right) (mgu (apart (i .left)) (node f ts))
+unfolding overlap overlap-at
+overlap-is i o p f ts e = ap (overlap-at i o p) e ∙ by-is i o p (mgu (apart (i .left)) (node f ts))
+
+size-apart : (t : Term) → size (apart t) ≡ size t
+unfolding apart
+size-apart t = size-vars (λ x. 16 + x) t
+
+sizes-four : (x y z w : Term) → sizes (four x y z w) ≡ size x + size y + size z + size w
+unfolding sizes
+sizes-four x y z w = omega arith
+
+module _ (tab l₁ r₁ l₂ r₂ : List ℕ) (p : ℕ) (nodes nodes′ : List ℕ) (end : ℕ) (g : LaysFour tab l₁ r₁ l₂ r₂ p nodes nodes′ end) (k : 600 ≤ length nodes) (n a b : ℕ) where
+  pub meet-found : n ≡ length l₂ → a ≡ n + length l₁ → b ≡ end - length r₂ → (L R L′ R′ : List ℕ) (r : Met) →
+      Solves (take (end - 0) (drop 0 nodes′)) tab p n a b L R L′ R′ r → Meets tab l₁ r₁ l₂ r₂ p L R L′ R′ r
+  meet-found en ea eb L R L′ R′ r s = record {
+    kept = s .kept;
+    short = s .short;
+    answer = λ i o c d m. go i o c d (m .0) (m .1) (m .2);
+  }
+    where
+      go : (i o : Pair) → Reads tab l₁ r₁ i → Reads tab l₂ r₂ o → (f : ℕ) (ts : Terms) → subterm-at (o .left) p ≡ some (node f ts) → Says L′ R′ r (overlap i o p)
+      go i o c d f ts e =
+          let q = four-terms tab l₁ r₁ l₂ r₂ i o c d p (node f ts) e in
+          let x₁ : length l₁ ≡ size (apart (i .left)) = ap length (c .left) ∙ length-bytes (i .left) ∙ sym (size-apart (i .left)) in
+          let x₂ : length l₂ ≡ size (o .left) = ap length (d .left) ∙ length-bytes (o .left) in
+          let x₃ : length r₂ ≡ size (o .right) = ap length (d .right) ∙ length-bytes (o .right) in
+          let x₄ : end ≡ size (o .left) + size (apart (i .left)) + size (replace-at (o .left) p (apart (i .right))) + size (o .right) =
+          g .ends ∙ ap length q ∙ length-bytes-all (the-four i o p) ∙ sizes-four (o .left) (apart (i .left)) (replace-at (o .left) p (apart (i .right))) (o .right) in
+          subst (λ v. Says L′ R′ r v) (sym (overlap-is i o p f ts e))
+          (s .answer (o .left) (apart (i .left)) (replace-at (o .left) p (apart (i .right))) (o .right) (four-wf tab l₁ r₁ l₂ r₂ i o c d p) (laid-bytes tab l₁ r₁ l₂ r₂ p nodes nodes′ end g k ∙ q)
+          (omega arith) (omega arith) (omega arith) (node f ts) e)
+
+-- a stored rule's sides
+pub rule-reads : (tab rules lens : List ℕ) (k a b i j : ℕ) → a ≡ 240 * k → b ≡ a + 120 → i ≡ getD lens (2 * k) 0 → j ≡ getD lens (2 * k + 1) 0 →
+    (e : Pair) → RuleAt tab rules lens k e → Reads tab (take (a + i - a) (drop a rules)) (take (b + j - b) (drop b rules)) e
+rule-reads tab rules lens k a b i j ea eb ei ej e h =
+    let x : a + i - a ≡ getD lens (2 * k) 0 = omega arith in
+    let y : b + j - b ≡ getD lens (2 * k + 1) 0 = omega arith in
+    let z : b ≡ 240 * k + 120 = omega arith in
+    record {
+      left-wf = h .left-wf;
+      right-wf = h .right-wf;
+      left = ap₂ (λ u v. take u (drop v rules)) x ea ∙ h .left-bytes;
+      right = ap₂ (λ u v. take u (drop v rules)) y z ∙ h .right-bytes;
+    }
+
+take-none : (l : List ℕ) (n : ℕ) → n ≡ 0 → length (take n l) ≡ 0
+take-none l zero e = refl
+take-none l (suc n) e = absurd (omega arith)
+
+module _ (tab rules lens : List ℕ) (inner outer p : ℕ) (L R : List ℕ) where
+  pub rules-empty : (m : ℕ) → m ≡ getD lens (2 * outer + 1) 0 → m ≡ 0 → MeetsRules tab rules lens inner outer p L R L R Nothing
+  rules-empty m e z = record {
+    kept = record { left = refl; right = refl };
+    short = tt;
+    answer = λ i o h k c.
+        let n = take-none (drop (240 * outer + 120) rules) (getD lens (2 * outer + 1) 0) (sym e ∙ z) in
+        absurd (omega (arith, n, ap length (k .right-bytes), length-bytes (o .right), size-pos (o .right)));
+  }
+
+  pub rules-found : (a b c d i j k m : ℕ) → a ≡ 240 * inner → b ≡ a + 120 → c ≡ 240 * outer → d ≡ c + 120 →
+      i ≡ getD lens (2 * inner) 0 → j ≡ getD lens (2 * inner + 1) 0 → k ≡ getD lens (2 * outer) 0 → m ≡ getD lens (2 * outer + 1) 0 → (L′ R′ : List ℕ) (r : Met) →
+      Meets tab (take (a + i - a) (drop a rules)) (take (b + j - b) (drop b rules)) (take (c + k - c) (drop c rules)) (take (d + m - d) (drop d rules)) p L R L′ R′ r →
+      MeetsRules tab rules lens inner outer p L R L′ R′ r
+  rules-found a b c d i j k m ea eb ec ed ei ej ek em L′ R′ r g = record {
+    kept = g .kept;
+    short = g .short;
+    answer = λ e o h h′ n.
+        g .answer e o (rule-reads tab rules lens inner a b i j ea eb ei ej e h) (rule-reads tab rules lens outer c d k m ec ed ek em o h′) n;
+  }
+
+-- what stands at a position of a stored rule's left side
+root : Term → ℕ
+unfolding term-bytes
+root t = getD (term-bytes t) 0 0
+
+byte-at : (t : Term) (p : ℕ) (u : Term) → subterm-at t p ≡ some u → getD (term-bytes t) p 0 ≡ root u
+unfolding root
+byte-at t p u e =
+    let a = around t p u e in
+    let z : p + 0 ≡ p = omega arith in
+    ap (λ k. getD (term-bytes t) k 0) (sym z) ∙ sym (getD-drop p (term-bytes t) 0 0)
+    ∙ ap (λ k. getD k 0 0) (ap (drop p) (a .holds) ∙ drop-at (a .before) (term-bytes u ++ a .after) p (a .begins)) ∙ head u (a .after)
+  where
+    head : (u : Term) (rest : List ℕ) → getD (term-bytes u ++ rest) 0 0 ≡ getD (term-bytes u) 0 0
+    head u rest = go u
+      where
+        go : (u : Term) → getD (term-bytes u ++ rest) 0 0 ≡ getD (term-bytes u) 0 0
+        go (var x) = unfold term-bytes in refl
+        go (node f ts) = unfold term-bytes in refl
+
+side-length : (rules : List ℕ) (a n : ℕ) (t : Term) → take n (drop a rules) ≡ term-bytes t → size t ≤ n
+side-length rules a n t e = omega (arith, ap length e, length-bytes t, shorter n (drop a rules))
+  where
+    shorter : (n : ℕ) (l : List ℕ) → length (take n l) ≤ n
+    shorter zero l = omega arith
+    shorter (suc n) [] = omega arith
+    shorter (suc n) (x ∷ l) = let h = shorter n l in omega arith
+
+side-byte : (rules : List ℕ) (a n p : ℕ) (t u : Term) → take n (drop a rules) ≡ term-bytes t → subterm-at t p ≡ some u → getD rules (a + p) 0 ≡ root u
+side-byte rules a n p t u e q =
+    let h = subterm-below t p u q in
+    sym (getD-drop a rules p 0) ∙ sym (getD-take n (drop a rules) p 0 (omega (arith, side-length rules a n t e))) ∙ ap (λ k. getD k p 0) e ∙ byte-at t p u q
+
+root-variable : (x : ℕ) → root (var x) ≡ 128 + x
+unfolding root term-bytes
+root-variable x = refl
+
+root-node : (f : ℕ) (ts : Terms) → root (node f ts) ≡ f
+unfolding root term-bytes
+root-node f ts = refl
+
+at-root : (t : Term) → subterm-at t 0 ≡ some t
+unfolding subterm-at
+at-root (var x) = refl
+at-root (node f ts) = refl
+
+-- where no overlap is
+none-says : (L R : List ℕ) (v : Option Overlap) → v ≡ none → Says L R Nothing v
+none-says L R v e = rw e refl
+
+overlap-none : (i o : Pair) (p : ℕ) → subterm-at (o .left) p ≡ none → overlap i o p ≡ none
+unfolding overlap overlap-at
+overlap-none i o p e = ap (overlap-at i o p) e
+
+overlap-variable : (i o : Pair) (p x : ℕ) → subterm-at (o .left) p ≡ some (var x) → overlap i o p ≡ none
+unfolding overlap overlap-at
+overlap-variable i o p x e = ap (overlap-at i o p) e
+
+clash : (s t : Term) → (root (apart s) ≡ root t → ⊥) → root s < 128 → root t < 128 → mgu (apart s) t ≡ none
+unfolding apart subst-term
+clash s t n h k = go (mgu (apart s) t) refl
+  where
+    roots : (u v : Term) (σ : ℕ → Term) → root u < 128 → root v < 128 → subst-term σ u ≡ subst-term σ v → root u ≡ root v
+    roots (var x) v σ h k e = absurd (omega (arith, root-variable x))
+    roots (node f us) (var x) σ h k e = absurd (omega (arith, root-variable x))
+    roots (node f us) (node g vs) σ h k e = root-node f us ∙ node-symbol e ∙ sym (root-node g vs)
+
+    up : (u : Term) → root u < 128 → root (apart u) < 128
+    up (var x) h = absurd (omega (arith, root-variable x))
+    up (node f us) h = omega (arith, h, root-node f us, root-node f (Rattle.terms.specs.Term.subst-terms (λ x. var (16 + x)) us))
+
+    go : (m : Option (List Binding)) → mgu (apart s) t ≡ m → m ≡ none
+    go none e = refl
+    go (some m) e = absurd (n (roots (apart s) t (unifier m) (up s h) k (mgu-right (apart s) t m e .unifies)))
+
+root-apart : (s : Term) → root s < 128 → root (apart s) ≡ root s
+unfolding apart subst-term
+root-apart (var x) h = absurd (omega (arith, root-variable x))
+root-apart (node f us) h = root-node f (Rattle.terms.specs.Term.subst-terms (λ x. var (16 + x)) us) ∙ sym (root-node f us)
+
+overlap-clash : (i o : Pair) (p : ℕ) (u : Term) → subterm-at (o .left) p ≡ some u → root (i .left) < 128 → root u < 128 → (root (i .left) ≡ root u → ⊥) → overlap i o p ≡ none
+overlap-clash i o p (var x) e h k n = overlap-variable i o p x e
+overlap-clash i o p (node f ts) e h k n =
+    overlap-is i o p f ts e
+    ∙ ap (instances (o .left) (replace-at (o .left) p (apart (i .right))) (o .right)) (clash (i .left) (node f ts) (λ q. n (sym (root-apart (i .left) h) ∙ q)) h k)
+
+module _ (tab rules lens : List ℕ) (inner outer p : ℕ) (L R : List ℕ) where
+  nothing : ((i o : Pair) → RuleAt tab rules lens inner i → RuleAt tab rules lens outer o → overlap i o p ≡ none) → Overlapped tab rules lens inner outer p L R L R Nothing
+  nothing f = record { kept = record { left = refl; right = refl }; short = tt; answer = λ i o h k. none-says L R (overlap i o p) (f i o h k) }
+
+  beyond : (o : Pair) → RuleAt tab rules lens outer o → getD lens (2 * outer) 0 ≤ p → subterm-at (o .left) p ≡ none
+  beyond o k h = go (subterm-at (o .left) p) refl
+    where
+      go : (v : Option Term) → subterm-at (o .left) p ≡ v → v ≡ none
+      go none e = refl
+      go (some u) e = absurd (omega (arith, subterm-below (o .left) p u e, side-length rules (240 * outer) (getD lens (2 * outer) 0) (o .left) (k .left-bytes), h))
+
+  pub overlap-beyond : (n : ℕ) → n ≡ getD lens (2 * outer) 0 → n ≤ p → Overlapped tab rules lens inner outer p L R L R Nothing
+  overlap-beyond n e h = nothing (λ i o j k. overlap-none i o p (beyond o k (omega arith)))
+
+  module _ (n a b : ℕ) (en : n ≡ getD lens (2 * outer) 0) (hn : p < n) (ea : a ≡ 240 * inner) (eb : b ≡ 240 * outer + p) (d : Bool) (g : Differ (getD rules a 0) (getD rules b 0) d) where
+    outer-byte : (o : Pair) (u : Term) → RuleAt tab rules lens outer o → subterm-at (o .left) p ≡ some u → getD rules b 0 ≡ root u
+    outer-byte o u k e = ap (λ z. getD rules z 0) eb ∙ side-byte rules (240 * outer) (getD lens (2 * outer) 0) p (o .left) u (k .left-bytes) e
+
+    inner-byte : (i : Pair) → RuleAt tab rules lens inner i → getD rules a 0 ≡ root (i .left)
+    inner-byte i k =
+        let z : a ≡ 240 * inner + 0 = omega arith in
+        ap (λ z. getD rules z 0) z ∙ side-byte rules (240 * inner) (getD lens (2 * inner) 0) 0 (i .left) (i .left) (k .left-bytes) (at-root (i .left))
+
+    apart-none : Differ (getD rules a 0) (getD rules b 0) true → (i o : Pair) → RuleAt tab rules lens inner i → RuleAt tab rules lens outer o →
+        (v : Option Term) → subterm-at (o .left) p ≡ v → overlap i o p ≡ none
+    apart-none t i o j k none e = overlap-none i o p e
+    apart-none t i o j k (some (var x)) e = overlap-variable i o p x e
+    apart-none (inl h) i o j k (some (node f ts)) e = clash-high (outer-byte o (node f ts) k e) (root-node f ts)
+      where
+        clash-high : getD rules b 0 ≡ root (node f ts) → root (node f ts) ≡ f → overlap i o p ≡ none
+        clash-high q r = overlap-high (Rattle.overlaps.proofs.Apart.symbol-low tab (o .left) (k .left-wf) p f ts e)
+          where
+            overlap-high : f < 16 → overlap i o p ≡ none
+            overlap-high l = absurd (omega arith)
+    apart-none (inr (h, h′, c)) i o j k (some (node f ts)) e =
+        let x = inner-byte i j in
+        let y = outer-byte o (node f ts) k e in
+        overlap-clash i o p (node f ts) e (omega arith) (omega arith) (λ q. c (x ∙ q ∙ sym y))
+
+    pub overlap-differ : d ≡ true → Overlapped tab rules lens inner outer p L R L R Nothing
+    overlap-differ e = nothing (λ i o j k. apart-none (subst (λ z. Differ (getD rules a 0) (getD rules b 0) z) e g) i o j k (subterm-at (o .left) p) refl)
+
+    at-node : getD rules b 0 < 128 → (o : Pair) → RuleAt tab rules lens outer o → (u : Term) → subterm-at (o .left) p ≡ some u → AtNode (o .left) p
+    at-node h o k (var x) e = absurd (omega (arith, outer-byte o (var x) k e, root-variable x))
+    at-node h o k (node f ts) e = (f, ts, e)
+
+    pub overlap-met : d ≡ false → p < length (take n (drop (240 * outer) rules)) → (L′ R′ : List ℕ) (r : Met) → MeetsRules tab rules lens inner outer p L R L′ R′ r → Overlapped tab rules lens inner outer p L R L′ R′ r
+    overlap-met e l L′ R′ r m = record {
+      kept = m .kept;
+      short = m .short;
+      answer = λ i o j k.
+          let c : p < size (o .left) = omega (arith, ap length (ap (λ z. take z (drop (240 * outer) rules)) en ∙ k .left-bytes), length-bytes (o .left)) in
+          m .answer i o j k (at-node (subst (λ z. Differ (getD rules a 0) (getD rules b 0) z) e g) o k (place (o .left) p c .s) (subterm-is (o .left) p c));
+    }

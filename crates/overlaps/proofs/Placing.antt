@@ -1,0 +1,66 @@
+-- The tests of sizes. Assumes nothing.
+use mathlib.Core.Path.{_≡_, refl, sym, ap, ap₂, subst, _∙_}
+use mathlib.Core.Bool.{Bool, true, false}
+use mathlib.Core.List.{List}
+use mathlib.Core.Option.{Option, some}
+use Prim.Native.Nat.{ℕ, zero, suc, _+_, _-_, _≤_, _<_}
+use native.Mathlib.Omega.{arith}
+use lib.ListN.{length}
+use borrow.Author.Tests.{lt-ltb, le-ltb}
+use Rattle.terms.specs.Term.{Term, size}
+use Rattle.unifier.specs.Arena.{Arena, Spells, cap}
+use Rattle.unifier.specs.Steps.{at, arena, Ready}
+use Rattle.unifier.specs.Sizes.{Sized, Known}
+use Rattle.unifier.proofs.Arena.{spells-one, spells-within}
+use Rattle.overlaps.specs.declared.Met.{Met}
+use Rattle.overlaps.specs.declared.Met.the-variants.{TooLarge, Found}
+use Rattle.overlaps.specs.Answer.{Kept, Small, PutPair, Placed}
+
+module _ (l tab ends cs zs : List ℕ) (k : Sized l tab ends cs zs) (w : Known (arena l tab ends) (at zs) true) where
+  -- a size that is known is the size, up to 120
+  known-size : (i : ℕ) (u : Term) → Spells (arena l tab ends) (at cs) i u → at zs i ≡ cap (size u)
+  known-size i u p =
+      let h = spells-within (arena l tab ends) p in
+      let m = k .measured i h (w i h) in
+      m .2 ∙ ap (λ v. cap (size v)) (spells-one (arena l tab ends) (m .1) p)
+
+  pub pair-small : (a b m n : ℕ) → a < length l → b < length l → m ≡ at zs a → n ≡ at zs b → m ≤ 120 → n ≤ 120 → Small (arena l tab ends) (at cs) a b
+  pair-small a b m n ha hb em en sm sn =
+      let u = k .measured a ha (w a ha) in
+      let v = k .measured b hb (w b hb) in
+      (u .0, v .0, u .1, v .1, omega (arith, u .2), omega (arith, v .2))
+
+  module _ (a b : ℕ) (L R : List ℕ) where
+    pub place-peak : 120 < at zs 0 → Placed (arena l tab ends) (at cs) a b L R L R TooLarge
+    place-peak h = record {
+      kept = record { left = refl; right = refl };
+      short = tt;
+      answer = λ x y z p q r. rw (lt-ltb 120 (size x) (omega (arith, known-size 0 x p))) refl;
+    }
+
+    pub place-left : (m : ℕ) → at zs 0 ≤ 120 → m ≡ at zs a → 120 < m → Placed (arena l tab ends) (at cs) a b L R L R TooLarge
+    place-left m h e g = record {
+      kept = record { left = refl; right = refl };
+      short = tt;
+      answer = λ x y z p q r. rw (le-ltb 120 (size x) (omega (arith, known-size 0 x p)), lt-ltb 120 (size y) (omega (arith, known-size a y q))) refl;
+    }
+
+    pub place-right : (m n : ℕ) → at zs 0 ≤ 120 → m ≡ at zs a → m ≤ 120 → n ≡ at zs b → 120 < n → Placed (arena l tab ends) (at cs) a b L R L R TooLarge
+    place-right m n h e g e′ g′ = record {
+      kept = record { left = refl; right = refl };
+      short = tt;
+      answer = λ x y z p q r.
+          rw (le-ltb 120 (size x) (omega (arith, known-size 0 x p)), le-ltb 120 (size y) (omega (arith, known-size a y q)), lt-ltb 120 (size z) (omega (arith, known-size b z r))) refl;
+    }
+
+    pub place-found : (m n : ℕ) → at zs 0 ≤ 120 → m ≡ at zs a → m ≤ 120 → n ≡ at zs b → n ≤ 120 → (L′ R′ : List ℕ) → PutPair (arena l tab ends) (at cs) a b L R L′ R′ →
+        Placed (arena l tab ends) (at cs) a b L R L′ R′ (Found m n)
+    place-found m n h e g e′ g′ L′ R′ t = record {
+      kept = t .kept;
+      short = (g, g′);
+      answer = λ x y z p q r.
+          let i : m ≡ size y = omega (arith, known-size a y q) in
+          let j : n ≡ size z = omega (arith, known-size b z r) in
+          rw (le-ltb 120 (size x) (omega (arith, known-size 0 x p)), le-ltb 120 (size y) (omega arith), le-ltb 120 (size z) (omega arith))
+          (ap₂ (λ u v. Found u v) i j, t .bytes y z q r .0, t .bytes y z q r .1);
+    }

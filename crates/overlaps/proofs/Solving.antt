@@ -1,0 +1,184 @@
+-- From the answer of unification to that of an overlap. Assumes nothing.
+use mathlib.Core.Path.{_≡_, refl, sym, ap, ap₂, subst, _∙_}
+use mathlib.Core.Bool.{Bool, true, false, not}
+use mathlib.Core.List.{List, [], _∷_, _++_, append-assoc, append-nil}
+use mathlib.Core.Option.{Option, none, some}
+use Prim.Native.Nat.{ℕ, zero, suc, _+_, _-_, _≤_, _<_}
+use native.Mathlib.Omega.{arith}
+use lib.Dec.{ltb}
+use lib.ListN.{length}
+use borrow.Author.Tests.{lt-ltb, le-ltb}
+use Rattle.terms.specs.Base.{if_then_else_, is-some}
+use Rattle.terms.specs.Term.{Term, var, node, Terms, nil, cons, Pair, size, sizes, term-bytes, terms-bytes, subst-term, subterm-at, subterm-in, renamed}
+use Rattle.terms.specs.Flat.{Wf, Wfs}
+use Rattle.terms.proofs.Flats.{widen-all}
+use Rattle.terms.proofs.Limits.{size-vars}
+use Rattle.terms.proofs.Places.{size-pos}
+use Rattle.terms.proofs.Positions.{subterm-below}
+use Rattle.terms.proofs.Rename.{rename, numbered}
+use Rattle.terms.proofs.Subst.{Subst}
+use Rattle.unify.specs.Unify.{Binding, mgu, under}
+use Rattle.unifier.specs.Arena.{Arena, Spells, same}
+use Rattle.unifier.specs.Steps.{at, arena}
+use Rattle.unifier.specs.Result.{Laid, LaidOut, Tested, Solved, Outcome, Decided}
+use Rattle.unifier.proofs.Starting.{laid-at}
+use Rattle.unifier.proofs.Verdict.{the-mgu, solved-renames, solved-renamed, solved-decided}
+use Rattle.unifier.proofs.Instance.{spells-instance}
+use Rattle.rewriting.specs.Overlap.{Overlap}
+use Rattle.overlaps.specs.declared.Met.{Met}
+use Rattle.overlaps.specs.declared.Met.the-variants.{Nothing}
+use Rattle.overlaps.specs.Answer.{Answered, Says, Low, Kept, Placed, four, instances, Solves}
+
+-- subterms of terms that stand one after the other
+at-first : (t : Term) → subterm-at t 0 ≡ some t
+unfolding subterm-at
+at-first (var x) = refl
+at-first (node f ts) = refl
+
+in-first : (t : Term) (ts : Terms) (p : ℕ) → p < size t → subterm-in (cons t ts) p ≡ subterm-at t p
+unfolding subterm-in if_then_else_
+in-first t ts p h = rw (lt-ltb p (size t) h) refl
+
+in-later : (t : Term) (ts : Terms) (p q : ℕ) → p ≡ size t + q → subterm-in (cons t ts) p ≡ subterm-in ts q
+unfolding subterm-in if_then_else_
+in-later t ts p q e =
+    let z : p - size t ≡ q = omega arith in
+    rw (le-ltb p (size t) (omega arith), z) refl
+
+in-head : (t : Term) (ts : Terms) (p : ℕ) → p ≡ 0 → subterm-in (cons t ts) p ≡ some t
+in-head t ts p e = in-first t ts p (omega (arith, size-pos t)) ∙ ap (subterm-at t) e ∙ at-first t
+
+-- bytes of terms with variables below 32
+low-cons : (b : ℕ) (l : List ℕ) → b < 160 → Low l → Low (b ∷ l)
+low-cons b l h g zero k = h
+low-cons b l h g (suc i) k = g i (omega arith)
+
+mutual
+  unfolding term-bytes terms-bytes Wf Wfs
+
+  low-term : (tab : List ℕ) (t : Term) → Wf 32 tab t → (rest : List ℕ) → Low rest → Low (term-bytes t ++ rest)
+  low-term tab (var x) w rest g = low-cons (128 + x) rest (omega arith) g
+  low-term tab (node f ts) w rest g = low-cons f (terms-bytes ts ++ rest) (omega (arith, w .0)) (low-terms tab ts (w .2) rest g)
+
+  low-terms : (tab : List ℕ) (ts : Terms) → Wfs 32 tab ts → (rest : List ℕ) → Low rest → Low (terms-bytes ts ++ rest)
+  low-terms tab nil w rest g = g
+  low-terms tab (cons t ts) w rest g =
+      subst (λ l. Low l) (sym (append-assoc (term-bytes t) (terms-bytes ts) rest)) (low-term tab t (w .0) (terms-bytes ts ++ rest) (low-terms tab ts (w .1) rest g))
+
+no : true ≡ false → ⊥
+no e = let z : _≡_ {A = ℕ} 0 1 = cc in omega arith
+
+pub not-true : (b : Bool) → not b ≡ true → b ≡ false
+not-true true e = absurd (no (sym e))
+not-true false e = refl
+
+pub not-false : (b : Bool) → not b ≡ false → b ≡ true
+not-false true e = refl
+not-false false e = absurd (no e)
+
+module _ (l tab : List ℕ) (r : Bool) (g : Tested l tab r) where
+  pub tested-out : r ≡ true → LaidOut l tab
+  tested-out e = let s = g .sound e in (s .0, record { wf = widen-all 32 128 tab (s .0) (omega arith) (s .1 .0); bytes = s .1 .1 })
+
+  pub tested-low : r ≡ true → Low l
+  tested-low e =
+      let s = g .sound e in
+      subst (λ k. Low k) (append-nil (terms-bytes (s .0)) ∙ sym (s .1 .1)) (low-terms tab (s .0) (s .1 .0) [] (λ i h. absurd (omega arith)))
+
+  pub solve-bad : (p n a b : ℕ) (L R : List ℕ) → r ≡ false → Solves l tab p n a b L R L R Nothing
+  solve-bad p n a b L R e = record {
+    kept = record { left = refl; right = refl };
+    short = tt;
+    answer = λ x y z w f h en ea eb t q. absurd (no (sym (g .complete (four x y z w) f h) ∙ e));
+  }
+
+-- what an answer says depends on sizes and on the renamed pair alone
+says-same : (L R : List ℕ) (r : Met) (v u : Overlap) → size (v .peak) ≡ size (u .peak) → size (v .sides .left) ≡ size (u .sides .left) → size (v .sides .right) ≡ size (u .sides .right) →
+    renamed (v .sides) ≡ renamed (u .sides) → Says L R r (some v) → Says L R r (some u)
+says-same L R r v u e₁ e₂ e₃ e₄ h = rw (← e₁, ← e₂, ← e₃, ← e₄) h
+
+size-rename : (s t : Term) → rename s ≡ rename t → size s ≡ size t
+size-rename s t e = sym (named s) ∙ ap size e ∙ named t
+  where
+    named : (s : Term) → size (rename s) ≡ size s
+    named s = go (rename s) refl
+      where
+        go : (u : Term) → rename s ≡ u → size u ≡ size s
+        go u q = ap size (sym q) ∙ unfold rename in size-vars (λ x. Rattle.terms.specs.Base.place-in x (Rattle.terms.specs.Base.distinct (Rattle.terms.specs.Term.variables s))) s
+
+module _ (l tab : List ℕ) (p n a b : ℕ) (x y z w : Term) (f : Wfs 32 tab (four x y z w)) (h : l ≡ terms-bytes (four x y z w)) (en : n ≡ size x) (ea : a ≡ n + size y) (eb : b ≡ a + size z)
+    (t : Term) (q : subterm-at x p ≡ some t) where
+  laid : Laid l tab (four x y z w)
+  laid = record { wf = widen-all 32 128 tab (four x y z w) (omega arith) f; bytes = h }
+
+  at-x : subterm-in (four x y z w) 0 ≡ some x
+  at-x = in-head x _ 0 refl
+
+  at-t : subterm-in (four x y z w) p ≡ some t
+  at-t = in-first x _ p (subterm-below x p t q) ∙ q
+
+  at-y : subterm-in (four x y z w) n ≡ some y
+  at-y = in-later x _ n 0 (omega arith) ∙ in-head y _ 0 refl
+
+  at-z : subterm-in (four x y z w) a ≡ some z
+  at-z = in-later x _ a (size y) (omega arith) ∙ in-later y _ (size y) 0 (omega arith) ∙ in-head z _ 0 refl
+
+  at-w : subterm-in (four x y z w) b ≡ some w
+  at-w = in-later x _ b (size y + size z) (omega arith) ∙ in-later y _ (size y + size z) (size z) refl ∙ in-later z _ (size z) 0 (omega arith) ∙ in-head w nil 0 refl
+
+  never-says : (L R : List ℕ) → Decided l tab n p false → Says L R Nothing (instances x z w (mgu y t))
+  unfolding is-some
+  never-says L R d = go (mgu y t) (d (four x y z w) laid y t at-y at-t)
+    where
+      go : (o : Option (List Binding)) → false ≡ is-some o → Says L R Nothing (instances x z w o)
+      go none e = refl
+      go (some m) e = absurd (no (sym e))
+
+  solved-says : (ends cs zs L R : List ℕ) (r : Met) (k : Solved l tab n p ends cs zs) →
+      ((x′ y′ z′ : Term) → Spells (arena l tab ends) (at cs) 0 x′ → Spells (arena l tab ends) (at cs) a y′ → Spells (arena l tab ends) (at cs) b z′ →
+      Says L R r (some (record { peak = x′; sides = record { left = y′; right = z′ } }))) →
+      Says L R r (instances x z w (mgu y t))
+  unfolding is-some
+  solved-says ends cs zs L R r k g = go (mgu y t) refl (solved-decided l tab n p ends cs zs k (four x y z w) laid y t at-y at-t)
+    where
+      spells : (i : ℕ) (u : Term) → subterm-in (four x y z w) i ≡ some u → Spells (arena l tab ends) same i u
+      spells i u e = laid-at l tab ends (k .ended) (four x y z w) laid i u e
+
+      found : (i : ℕ) (u : Term) → subterm-in (four x y z w) i ≡ some u → Spells (arena l tab ends) (at cs) i (subst-term (the-mgu l tab n p ends cs zs k) u)
+      found i u e = spells-instance l tab n p ends cs zs k i u (spells i u e)
+
+      same-size : (m : List Binding) → mgu y t ≡ some m → (u : Term) → size (subst-term (the-mgu l tab n p ends cs zs k) u) ≡ size (under m u)
+      same-size m e u = size-rename (subst-term (the-mgu l tab n p ends cs zs k) u) (under m u) (sym (solved-renames l tab n p ends cs zs k y t (spells n y at-y) (spells p t at-t) m e u))
+
+      go : (o : Option (List Binding)) → mgu y t ≡ o → true ≡ is-some o → Says L R r (instances x z w o)
+      go none e d = absurd (no d)
+      go (some m) e d =
+          says-same L R r
+          (record {
+            peak = subst-term (the-mgu l tab n p ends cs zs k) x;
+            sides = record { left = subst-term (the-mgu l tab n p ends cs zs k) z; right = subst-term (the-mgu l tab n p ends cs zs k) w };
+          })
+          (record { peak = under m x; sides = record { left = under m z; right = under m w } })
+          (same-size m e x)
+          (same-size m e z)
+          (same-size m e w)
+          (sym (solved-renamed l tab n p ends cs zs k y t (spells n y at-y) (spells p t at-t) m e (record { left = z; right = w })))
+          (g (subst-term (the-mgu l tab n p ends cs zs k) x) (subst-term (the-mgu l tab n p ends cs zs k) z) (subst-term (the-mgu l tab n p ends cs zs k) w) (found 0 x at-x) (found a z at-z) (found b w at-w))
+
+pub outcome-solved : (l tab : List ℕ) (n p : ℕ) (ends cs zs : List ℕ) (r : Bool) → Outcome l tab n p ends cs zs r → r ≡ true → Solved l tab n p ends cs zs
+outcome-solved l tab n p ends cs zs r o e = subst (λ k. Outcome l tab n p ends cs zs k) e o
+
+pub solve-never : (l tab : List ℕ) (p n a b : ℕ) (L R : List ℕ) (r : Bool) → Decided l tab n p r → r ≡ false → Solves l tab p n a b L R L R Nothing
+solve-never l tab p n a b L R r d e = record {
+  kept = record { left = refl; right = refl };
+  short = tt;
+  answer = λ x y z w f h en ea eb t q. never-says l tab p n a b x y z w f h en ea eb t q L R (subst (λ k. Decided l tab n p k) e d);
+}
+
+pub solve-found : (l tab : List ℕ) (p n a b : ℕ) (L R L′ R′ : List ℕ) (ends cs zs : List ℕ) (r : Met) → Solved l tab n p ends cs zs → Placed (arena l tab ends) (at cs) a b L R L′ R′ r →
+    Solves l tab p n a b L R L′ R′ r
+solve-found l tab p n a b L R L′ R′ ends cs zs r k g = record {
+  kept = g .kept;
+  short = g .short;
+  answer = λ x y z w f h en ea eb t q. solved-says l tab p n a b x y z w f h en ea eb t q ends cs zs L′ R′ r k (λ x′ y′ z′ u v j. g .answer x′ y′ z′ u v j);
+}
