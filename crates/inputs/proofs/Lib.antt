@@ -1,0 +1,4 @@
+pub mod Ending
+pub mod Renaming
+pub mod Placing
+pub mod Fields

@@ -1,0 +1,148 @@
+-- Two sides in a slot: what the functions that put them there leave behind. Assumes nothing.
+use mathlib.Core.Path.{_≡_, refl, sym, ap, ap₂, _∙_, subst, subst₂}
+use mathlib.Core.List.{List, [], _++_, append-assoc}
+use Prim.Native.Nat.{ℕ, _+_, _-_, _≤_}
+use native.Mathlib.Omega.{arith}
+use lib.ListN.{length, drop, take, length-drop, length-take, length-append}
+use lib.Seq.{take-all, take-at, drop-at, take-add, drop-drop, take-length, length-take-le}
+use Rattle.terms.specs.Term.{Pair, size, term-bytes, renamed}
+use Rattle.terms.proofs.Every.{every-append}
+use Rattle.terms.proofs.Bytes.{length-bytes}
+use Rattle.terms.proofs.Limits.{renamed-left-size}
+use Rattle.unifier.specs.Names.{collect, renamed-bytes}
+use Rattle.store.specs.Slots.{Holds, OnlySlot}
+use Rattle.store.proofs.Listing.{short-put, rule-put}
+use Rattle.problem.specs.Problem.{ok, refused, Field, due}
+use Rattle.problem.specs.Parser.{field-at}
+use Rattle.problem.proofs.Reading.{no-ok, ok-injective}
+use Rattle.inputs.specs.Inputs.{Known, SidesAt, SideEnd, PutSides, PutEquation}
+use Rattle.inputs.proofs.Renaming.{few-names, length-renamed, renamed-pair, renamed-wf-left, renamed-wf-right}
+
+-- `put_run`
+pub run-holds : (b l : List ℕ) (k : ℕ) (run : List ℕ) (m : ℕ) → Holds b l k (take (m - 0) run) (take (length run - m) (drop m run)) → Holds b l k (take m run) (drop m run)
+run-holds b l k run m h =
+    let z : m - 0 ≡ m = omega arith in
+    subst₂ (λ x y. Holds b l k x y) (ap (λ n. take n run) z) (take-all (length run - m) (drop m run) (omega (arith, length-drop m run))) h
+
+-- `put_renamed`: the run is copied to the front of a buffer
+module _ (s h h₁ : List ℕ) (c : h₁ ≡ take (length s) s ++ drop (length s) h) where
+  pub copied-front : take (length s - 0) h₁ ≡ s
+  copied-front =
+      let z : length s - 0 ≡ length s = omega arith in
+      ap₂ take z c ∙ ap (λ y. take (length s) (y ++ drop (length s) h)) (take-length s) ∙ take-at s (drop (length s) h) (length s) refl
+
+  pub names-few : Known s → length (collect [] (take (length s - 0) h₁)) ≤ 127
+  names-few k = subst (λ y. length (collect [] y) ≤ 127) (sym copied-front) (few-names s k)
+
+  -- renamed there, it comes back as q
+  module _ (q : List ℕ) (e : q ≡ renamed-bytes (take (length s - 0) h₁)) where
+    q-is : q ≡ renamed-bytes s
+    q-is = e ∙ ap renamed-bytes copied-front
+
+    pub renamed-front : take (length s - 0) (q ++ drop (length s - 0) h₁) ≡ renamed-bytes s
+    renamed-front =
+        let z : length s - 0 ≡ length s = omega arith in
+        ap₂ (λ n y. take n (y ++ drop (length s - 0) h₁)) z q-is ∙ take-at (renamed-bytes s) (drop (length s - 0) h₁) (length s) (length-renamed s)
+
+    pub renamed-long : length s ≤ length (q ++ drop (length s - 0) h₁)
+    renamed-long = omega (arith, length-append q (drop (length s - 0) h₁), ap length q-is, length-renamed s)
+
+    pub renamed-fits : (m : ℕ) → m ≤ length s → m ≤ 120 → length s ≤ m + 120 →
+        (m ≤ length (take (length s - 0) (q ++ drop (length s - 0) h₁))) × (m ≤ 120) × (length (take (length s - 0) (q ++ drop (length s - 0) h₁)) ≤ m + 120)
+    renamed-fits m i j k =
+        let n : length (take (length s - 0) (q ++ drop (length s - 0) h₁)) ≡ length s = ap length renamed-front ∙ length-renamed s in
+        (omega arith, j, omega arith)
+
+    pub renamed-holds : (b l : List ℕ) (k m : ℕ) → Holds b l k (take m (take (length s - 0) (q ++ drop (length s - 0) h₁))) (drop m (take (length s - 0) (q ++ drop (length s - 0) h₁))) →
+        Holds b l k (take m (renamed-bytes s)) (drop m (renamed-bytes s))
+    renamed-holds b l k m h = subst (λ y. Holds b l k (take m y) (drop m y)) renamed-front h
+
+-- `put_sides`
+module _ (tab l : List ℕ) (at m e : ℕ) (a : SideEnd tab l at m) (b : SideEnd tab l m e) where
+  part : List ℕ
+  part = take (e - at) (drop at l)
+
+  length-part : length part ≡ e - at
+  unfolding part
+  length-part = let p = a .low in let q = b .low in let r = b .within in length-take-le (e - at) (drop at l) (omega (arith, length-drop at l))
+
+  pub part-left : m - at ≤ length (take (e - at) (drop at l))
+  unfolding part
+  part-left = let p = a .low in let q = b .low in omega (arith, length-part)
+
+  pub part-right : length (take (e - at) (drop at l)) ≤ m - at + 120
+  unfolding part
+  part-right = let p = a .low in let q = b .low in let r = b .high in omega (arith, length-part)
+
+  pub part-known : Known (take (e - at) (drop at l))
+  part-known =
+      let p = a .low in
+      let q = b .low in
+      let c : m - at + (e - m) ≡ e - at = omega arith in
+      let d : at + (m - at) ≡ m = omega arith in
+      let f : take (e - at) (drop at l) ≡ take (m - at) (drop at l) ++ take (e - m) (drop m l) =
+      ap (λ z. take z (drop at l)) (sym c) ∙ take-add (m - at) (e - m) (drop at l) ∙ ap (λ z. take (m - at) (drop at l) ++ take (e - m) z) (drop-drop (m - at) at l ∙ ap (λ z. drop z l) d) in
+      subst (λ z. Known z) (sym f) (every-append (a .known) (b .known))
+
+  module _ (p : Pair) (S : SidesAt tab l at p) where
+    first-end : m ≡ at + size (p .left)
+    first-end = a .answer (p .left) (term-bytes (p .right) ++ S .rest) (S .left-wf) (S .left-small) (S .bytes)
+
+    second-end : e ≡ m + size (p .right)
+    second-end =
+        b .answer (p .right) (S .rest) (S .right-wf) (S .right-small)
+        (ap (λ z. drop z l) first-end ∙ sym (drop-drop (size (p .left)) at l) ∙ ap (drop (size (p .left))) (S .bytes)
+        ∙ drop-at (term-bytes (p .left)) (term-bytes (p .right) ++ S .rest) (size (p .left)) (length-bytes (p .left)))
+
+    part-is : take (e - at) (drop at l) ≡ term-bytes (p .left) ++ term-bytes (p .right)
+    part-is =
+        ap (take (e - at)) (S .bytes ∙ sym (append-assoc (term-bytes (p .left)) (term-bytes (p .right)) (S .rest)))
+        ∙ take-at (term-bytes (p .left) ++ term-bytes (p .right)) (S .rest) (e - at)
+        (length-append (term-bytes (p .left)) (term-bytes (p .right)) ∙ omega (arith, length-bytes (p .left), length-bytes (p .right), first-end, second-end))
+
+    run-is : renamed-bytes (take (e - at) (drop at l)) ≡ term-bytes (renamed p .left) ++ term-bytes (renamed p .right)
+    run-is = ap renamed-bytes part-is ∙ renamed-pair tab p (S .left-wf) (S .right-wf)
+
+    left-length : length (term-bytes (renamed p .left)) ≡ m - at
+    left-length = length-bytes (renamed p .left) ∙ renamed-left-size p ∙ omega (arith, first-end)
+
+    left-is : take (m - at) (renamed-bytes (take (e - at) (drop at l))) ≡ term-bytes (renamed p .left)
+    left-is = ap (take (m - at)) run-is ∙ take-at (term-bytes (renamed p .left)) (term-bytes (renamed p .right)) (m - at) left-length
+
+    right-is : drop (m - at) (renamed-bytes (take (e - at) (drop at l))) ≡ term-bytes (renamed p .right)
+    right-is = ap (drop (m - at)) run-is ∙ drop-at (term-bytes (renamed p .left)) (term-bytes (renamed p .right)) (m - at) left-length
+
+  pub sides-put : (bytes lens : List ℕ) (k : ℕ) (bytes′ lens′ : List ℕ) →
+      Holds bytes′ lens′ k (take (m - at) (renamed-bytes (take (e - at) (drop at l)))) (drop (m - at) (renamed-bytes (take (e - at) (drop at l)))) → OnlySlot bytes lens k bytes′ lens′ → PutSides tab l at bytes lens k bytes′ lens′
+  sides-put bytes lens k bytes′ lens′ h o =
+      let R : List ℕ = renamed-bytes (take (e - at) (drop at l)) in
+      let n = length-renamed (take (e - at) (drop at l)) in
+      let x = part-left in
+      let y = part-right in
+      let z = a .high in
+      record {
+        only = o;
+        short = short-put h (omega (arith, length-take (m - at) R)) (omega (arith, length-drop (m - at) R));
+        answer = λ p S. rule-put (renamed p) (renamed-wf-left tab p (S .left-wf) (S .right-wf)) (renamed-wf-right tab p (S .left-wf) (S .right-wf)) (left-is p S) (right-is p S) h;
+      }
+
+-- `put_equation`
+pub field-none : (tab l : List ℕ) (at : ℕ) (bytes lens : List ℕ) (k : ℕ) (bytes′ lens′ : List ℕ) (n place : ℕ) → due 0x03 at (drop at l) ≡ refused n place →
+    Holds bytes′ lens′ k [] [] → OnlySlot bytes lens k bytes′ lens′ → PutEquation tab l at bytes lens k bytes′ lens′ at
+field-none tab l at bytes lens k bytes′ lens′ n place d h o = record {
+  only = o;
+  short = short-put h (omega arith) (omega arith);
+  answer = λ e p q S. absurd (no-ok (sym d ∙ q));
+}
+
+same-end : (l : List ℕ) (at e f : ℕ) → field-at 0x03 l at e ≡ field-at 0x03 l at f → e ≡ f
+unfolding field-at
+same-end l at e f q = ap (λ (x : Field). x .end) q
+
+pub field-one : (tab l : List ℕ) (at : ℕ) (bytes lens : List ℕ) (k : ℕ) (bytes′ lens′ : List ℕ) (r : ℕ) → due 0x03 at (drop at l) ≡ ok (field-at 0x03 l at r) →
+    PutSides tab l (at + 3) bytes lens k bytes′ lens′ → PutEquation tab l at bytes lens k bytes′ lens′ r
+field-one tab l at bytes lens k bytes′ lens′ r d h = record {
+  only = h .only;
+  short = h .short;
+  answer = λ e p q S. (same-end l at r e (ok-injective (sym d ∙ q)), h .answer p S);
+}

@@ -1,0 +1,51 @@
+-- `inputs::fill` meets its contract. Assumes nothing.
+use Rattle.inputs.proofs.Fields.{SoFar, fill-start, fill-room, fill-more, fill-end}
+use lib.ListN.{take, drop}
+use Prim.Native.Nat.{_-_, _+_, _≤_}
+use native.Mathlib.Omega.{arith}
+use borrow.Author.Needs.{needs}
+use Rattle.inputs.proofs.fill.Statement.{statement}
+use Rattle.inputs.proofs.fill.Tie as tie
+
+abbrev Inv-loop : tie.InvT-loop
+Inv-loop problem table-end count bytes₀ lens₀ i₀ k₀ bytes lens i k = (k ≤ count) × SoFar (take (table-end - 3) (drop 3 problem)) problem (table-end + 7) bytes₀ lens₀ bytes lens k i
+
+abbrev μ-loop : tie.MeasureT-loop
+μ-loop problem table-end count bytes₀ lens₀ i₀ k₀ bytes lens i k = count - k
+
+loop-holds : tie.Need-loop-holds Inv-loop μ-loop
+loop-holds c = (search needs, fill-start _ _ _ _ _)
+
+put-equation-requires : tie.Need-put-equation-requires Inv-loop μ-loop
+put-equation-requires c κs = (fill-room _ _ _ _ _ _ _ _ _ _ (c .before .before .before .before .loop .inv .1) (c .before .before .before .loop-test .taken) (c .before .before .before .before .before .before .before .before .pre .1 .0) (c .before .before .before .before .before .before .before .before .pre .1 .1), c .before .before .before .before .before .before .before .before .pre .0 .2)
+
+loop-again : tie.Need-loop-again Inv-loop μ-loop
+loop-again c = (search needs, fill-more _ _ _ _ _ _ _ _ _ _ _ _ (c .before .before .before .before .before .before .before .before .before .loop .inv .1) (fill-room _ _ _ _ _ _ _ _ _ _ (c .before .before .before .before .before .before .before .before .before .loop .inv .1) (c .before .before .before .before .before .before .before .before .loop-test .taken) (c .before .before .before .before .before .before .before .before .before .before .before .before .before .pre .1 .0) (c .before .before .before .before .before .before .before .before .before .before .before .before .before .pre .1 .1)) (let a = c .before .before .before .before .before .before .before .before .loop-test .taken in let b = c .before .before .before .before .before .before .before .before .before .before .before .before .before .pre .1 .2 in omega arith) (c .before .before .before .before .put-equation .ensures))
+
+same-length : tie.Need-same-length Inv-loop μ-loop
+same-length c = c .before .loop .inv .1 .same-bytes
+
+same-length-2 : tie.Need-same-length-2 Inv-loop μ-loop
+same-length-2 c = c .before .loop .inv .1 .same-lengths
+
+returns : tie.Need-returns Inv-loop μ-loop
+returns c = fill-end _ _ _ _ _ _ _ _ _ (c .before .loop .inv .1) (let a = c .before .loop .inv .0 in let b = c .loop-test .left in omega arith)
+
+pub fill-spec : {M : Type 1} → statement M
+fill-spec =
+    tie.close
+    (tie.spec
+    Inv-loop
+    μ-loop
+    (λ c. search needs)
+    loop-holds
+    (λ c. search needs)
+    (λ c. search needs)
+    (λ c. search needs)
+    put-equation-requires
+    (λ c. search needs)
+    (λ c. search needs)
+    loop-again
+    same-length
+    same-length-2
+    returns)

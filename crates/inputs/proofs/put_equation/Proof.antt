@@ -1,0 +1,44 @@
+-- `inputs::put_equation` meets its contract. Assumes nothing.
+use Rattle.inputs.proofs.Placing.{field-none, field-one}
+use native.Mathlib.Omega.{arith}
+use borrow.Author.Needs.{needs}
+use Rattle.inputs.proofs.put_equation.Statement.{statement}
+use Rattle.inputs.proofs.put_equation.Tie as tie
+
+put-requires : tie.Need-put-requires
+put-requires c κs = (c .before .before .before .before .before .before .before .before .before .before .before .pre .0, (search needs, search needs))
+
+add-put-sides : tie.Need-add-put-sides
+add-put-sides c = let d = rw (c .before .e .given .1) at (c .before .before .before .due .ensures) in omega (arith, d .1, d .2, c .before .before .before .before .before .before .before .before .pre .1)
+
+put-sides-requires : tie.Need-put-sides-requires
+put-sides-requires c κs = let d = rw (c .before .before .before .e .given .1) at (c .before .before .before .before .before .due .ensures) in (c .before .before .before .before .before .before .before .before .before .before .pre .0, (omega (arith, d .1, d .2), c .before .before .before .before .before .before .before .before .before .before .pre .1))
+
+returns : tie.Need-returns
+returns c = field-none _ _ _ _ _ _ _ _ _ _ (rw (c .before .before .before .before .before .before .before .before .before .enum-told .given .1) at (c .before .before .before .before .before .before .before .before .before .before .before .due .ensures)) (c .before .before .before .before .put .ensures .0) (c .before .before .before .before .put .ensures .1)
+
+returns-2 : tie.Need-returns-2
+returns-2 c = let d = rw (c .before .before .before .before .before .before .before .before .e .given .1) at (c .before .before .before .before .before .before .before .before .before .before .due .ensures) in field-one _ _ _ _ _ _ _ _ _ (d .0) (c .before .before .before .before .put-sides .ensures)
+
+pub put-equation-spec : {M : Type 1} → statement M
+put-equation-spec =
+    tie.close
+    (tie.spec
+    (λ c κs. search needs)
+    (λ c. search needs)
+    (λ c. search needs)
+    (λ c. search needs)
+    (λ c. search needs)
+    (λ c. search needs)
+    (λ c. search needs)
+    (λ c. search needs)
+    put-requires
+    (λ c. search needs)
+    add-put-sides
+    put-sides-requires
+    (λ c. search needs)
+    (λ c. search needs)
+    returns
+    (λ c. search needs)
+    (λ c. search needs)
+    returns-2)

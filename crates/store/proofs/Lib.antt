@@ -1,0 +1,3 @@
+pub mod Patching
+pub mod Slotting
+pub mod Listing

@@ -1,0 +1,45 @@
+use Prim.Native.Nat.{_*_}
+use Rattle.store.proofs.Slotting.{copied, copied-only}
+use Rattle.store.proofs.Patching.{part-is}
+use lib.ListN.{length-set}
+use mathlib.Core.Path.{refl}
+use native.Mathlib.Omega.{arith}
+use borrow.Author.Needs.{needs}
+use Rattle.store.proofs.copy_slot.Statement.{statement}
+use Rattle.store.proofs.copy_slot.Tie as tie
+use Rattle.store.proofs.copy_slot.Reads as reads
+use Rattle.store.proofs.copy_slot.Lts as lts
+use Rattle.store.proofs.paste.Reads as paste-reads
+
+slice-write-lens-2 : tie.Need-slice-write-lens-2
+slice-write-lens-2 c = simp length-set (omega arith)
+
+returns : tie.Need-returns
+returns c =
+    let q = part-is (c .before .before .before .before .before .before .before .before .before .before .before .args .from .now) (240 * (c .before .before .before .before .before .before .before .before .before .before .before .args .j)) 240 in
+    (copied _ _ _ (c .before .before .before .before .before .before .before .before .before .before .before .pre .1) _ _ _ (c .before .before .before .before .before .before .before .before .before .before .before .pre .0) _ _ q (c .before .before .before .before .paste .ensures) _ _ refl refl, copied-only _ _ _ (c .before .before .before .before .before .before .before .before .before .before .before .pre .1) _ _ _ (c .before .before .before .before .before .before .before .before .before .before .before .pre .0) _ _ q (c .before .before .before .before .paste .ensures) _ _)
+
+pub copy-slot-spec : {M : Type 1} → statement M
+copy-slot-spec =
+    tie.close
+    (tie.spec
+    (λ c. search needs)
+    (λ c. search needs)
+    (λ c. search needs)
+    (λ c. search needs)
+    (λ c. search needs)
+    (λ c. search needs)
+    (λ c κs. search needs)
+    (λ c. search needs)
+    (λ c. search needs)
+    (λ c. search needs)
+    (λ c. search needs)
+    (λ c. search needs)
+    (λ c. search needs)
+    (λ c. search needs)
+    (λ c. search needs)
+    (λ c. search needs)
+    slice-write-lens-2
+    (λ c. search needs)
+    (λ c. search needs)
+    returns)

@@ -1,0 +1,14 @@
+use Rattle.store.proofs.Slotting.{dropped}
+use borrow.Author.Needs.{needs}
+use Rattle.store.proofs.drop_first.Statement.{statement}
+use Rattle.store.proofs.drop_first.Tie as tie
+use Rattle.store.proofs.drop_first.Reads as reads
+use Rattle.store.proofs.drop_first.Lts as lts
+use Rattle.store.proofs.shift.Reads as shift-reads
+
+returns : tie.Need-returns
+returns c = dropped _ _ _ _ (c .before .before .before .before .before .before .before .before .before .before .pre) (c .before .before .before .before .before .before .shift .ensures) (c .before .before .shift2 .ensures)
+
+pub drop-first-spec : {M : Type 1} → statement M
+drop-first-spec =
+    tie.close (tie.spec (λ c κs. search needs) (λ c κs. search needs) (λ c. search needs) (λ c. search needs) returns)

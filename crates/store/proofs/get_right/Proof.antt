@@ -1,0 +1,33 @@
+use Rattle.store.specs.Slots.{patched}
+use Rattle.store.proofs.Patching.{part-is}
+use mathlib.Core.Path.{_∙_, ap}
+use Prim.Native.Nat.{_*_, _+_}
+use borrow.Author.Needs.{needs}
+use Rattle.store.proofs.get_right.Statement.{statement}
+use Rattle.store.proofs.get_right.Tie as tie
+use Rattle.store.proofs.get_right.Reads as reads
+use Rattle.store.proofs.get_right.Lts as lts
+use Rattle.store.proofs.paste.Reads as paste-reads
+use Rattle.terms.proofs.wide.Reads as wide-reads
+
+returns : tie.Need-returns
+returns c =
+    (c .before .before .before .before .before .wide .ensures .0, c .before .before .paste .ensures ∙ ap (λ z. patched 0 z (c .before .before .before .before .before .before .before .before .before .before .args .out .now)) (part-is (c .before .before .before .before .before .before .before .before .before .before .args .bytes .now) (240 * (c .before .before .before .before .before .before .before .before .before .before .args .k) + 120) (c .before .before .before .before .before .wide .result)))
+
+pub get-right-spec : {M : Type 1} → statement M
+get-right-spec =
+    tie.close
+    (tie.spec
+    (λ c. search needs)
+    (λ c. search needs)
+    (λ c. search needs)
+    (λ c. search needs)
+    (λ c. search needs)
+    (λ c κs. search needs)
+    (λ c. search needs)
+    (λ c. search needs)
+    (λ c. search needs)
+    (λ c. search needs)
+    (λ c κs. search needs)
+    (λ c. search needs)
+    returns)

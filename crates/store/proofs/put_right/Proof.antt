@@ -1,0 +1,25 @@
+use Rattle.store.proofs.Slotting.{right-is, right-only}
+use borrow.Author.Needs.{needs}
+use Rattle.store.proofs.put_right.Statement.{statement}
+use Rattle.store.proofs.put_right.Tie as tie
+use Rattle.store.proofs.put_right.Reads as reads
+use Rattle.store.proofs.put_right.Lts as lts
+use Rattle.store.proofs.paste.Reads as paste-reads
+
+returns : tie.Need-returns
+returns c = (right-is _ _ _ (c .before .before .before .before .before .before .before .pre .0) _ _ (search needs) (c .before .before .paste .ensures), right-only _ _ _ (c .before .before .before .before .before .before .before .pre .0) _ _ (search needs) (c .before .before .paste .ensures))
+
+pub put-right-spec : {M : Type 1} → statement M
+put-right-spec =
+    tie.close
+    (tie.spec
+    (λ c. search needs)
+    (λ c. search needs)
+    (λ c κs. search needs)
+    (λ c. search needs)
+    (λ c. search needs)
+    (λ c. search needs)
+    (λ c. search needs)
+    (λ c. search needs)
+    (λ c. search needs)
+    returns)
