@@ -1,0 +1,134 @@
+-- The common instance of two sides that stand one behind the other: a lemma for each return of `put_field`, `write_instance`, `common_instance` and `unify`.
+-- Assumes nothing.
+use mathlib.Core.Path.{_≡_, refl, ap, ap₂, sym, _∙_}
+use mathlib.Core.Bool.{Bool, true, false}
+use mathlib.Core.List.{List, [], _∷_, _++_, append-nil, map}
+use Prim.Native.Nat.{ℕ, suc, _+_, _-_, _≤_}
+use native.Mathlib.Omega.{arith}
+use lib.ListN.{length, take, drop, set, length-append, length-drop, length-take, length-set}
+use lib.Seq.{take-length, drop-length, take-at, take-all, length-take-le}
+use Rattle.terms.specs.Base.{if_then_else_, number-bytes, field-bytes}
+use Rattle.terms.specs.Term.{Term, Terms, nil, cons, size, sizes, term-bytes, terms-bytes}
+use Rattle.terms.proofs.Bytes.{length-bytes}
+use Rattle.terms.proofs.Limits.{length-field-bytes}
+use Rattle.unifier.specs.Arena.{Spells, SpellsAll, none as no-more, more}
+use Rattle.unifier.specs.Steps.{at, arena}
+use Rattle.unifier.specs.Names.{collect, added, renamed-bytes}
+use Rattle.unifier.specs.Written.{put, Writes}
+use Rattle.unifier.proofs.Writing.{put-reads}
+use Rattle.completion.specs.Calls.{written}
+use Rattle.calls.specs.Answers.{instance-field, Spelt, WritesSpelt}
+
+-- `put_field`
+small-number : (n : ℕ) → n ≤ 120 → number-bytes 2 n ≡ 0 ∷ n ∷ []
+unfolding number-bytes
+small-number n h = ap₂ (λ a b. a ∷ b ∷ []) (omega arith) (omega arith)
+
+pub field-length : (bytes : List ℕ) → length bytes + 3 ≡ length (field-bytes (record { tag = 0x15; contents = bytes }))
+field-length bytes = omega (arith, length-field-bytes (record { tag = 0x15; contents = bytes }))
+
+pub header-length : (d : List ℕ) (n : ℕ) → (length (set d 0 21) ≡ length d) × (length (set (set d 0 21) 1 0) ≡ length d) × (length (set (set (set d 0 21) 1 0) 2 n) ≡ length d)
+header-length d n = (simp length-set, simp length-set, simp length-set)
+
+-- the header, and the contents behind it
+field-is : (bytes : List ℕ) → length bytes ≤ 120 → field-bytes (record { tag = 0x15; contents = bytes }) ≡ 21 ∷ 0 ∷ length bytes ∷ bytes
+unfolding field-bytes
+field-is bytes h = ap (λ (x : List ℕ). 21 ∷ (x ++ bytes)) (small-number (length bytes) h)
+
+pub field-put : (bytes d q : List ℕ) → length bytes ≤ 120 → 123 ≤ length d →
+    q ≡ take (length bytes) bytes ++ drop (length bytes) (take (length (set (set (set d 0 21) 1 0) 2 (length bytes)) - 3) (drop 3 (set (set (set d 0 21) 1 0) 2 (length bytes)))) →
+    take 3 (set (set (set d 0 21) 1 0) 2 (length bytes)) ++ (q ++ drop (length (set (set (set d 0 21) 1 0) 2 (length bytes)) - 3) (drop 3 (set (set (set d 0 21) 1 0) 2 (length bytes))))
+    ≡ written (field-bytes (record { tag = 0x15; contents = bytes })) d
+unfolding written
+field-put bytes [] q few room e = absurd (omega arith)
+field-put bytes (x ∷ []) q few room e = absurd (omega arith)
+field-put bytes (x ∷ y ∷ []) q few room e = absurd (omega arith)
+field-put bytes (x ∷ y ∷ z ∷ m) q few room e =
+    let n : suc (suc (suc (length m))) - 3 ≡ length m = omega arith in
+    let t : take (suc (suc (suc (length m))) - 3) m ≡ m = take-all (suc (suc (suc (length m))) - 3) m (omega arith) in
+    let g : q ++ drop (suc (suc (suc (length m))) - 3) m ≡ bytes ++ drop (length bytes) m =
+    ap (λ (n : ℕ). q ++ drop n m) n ∙ ap (λ (k : List ℕ). q ++ k) (drop-length m) ∙ append-nil q ∙ e ∙ ap₂ _++_ (take-length bytes) (ap (drop (length bytes)) t) in
+    ap (λ (k : List ℕ). 21 ∷ 0 ∷ length bytes ∷ k) g ∙ sym (ap (λ (f : List ℕ). f ++ drop (length f) (x ∷ y ∷ z ∷ m)) (field-is bytes few))
+
+written-length : (f d : List ℕ) → length f ≤ length d → length (written f d) ≡ length d
+unfolding written
+written-length f d h = omega (arith, length-append f (drop (length f) d), length-drop (length f) d)
+
+pub field-same : (bytes d e : List ℕ) → length bytes ≤ 120 → 123 ≤ length d → e ≡ written (field-bytes (record { tag = 0x15; contents = bytes })) d → length e ≡ length d
+field-same bytes d e few room h = ap length h ∙ written-length _ d (omega (arith, field-length bytes))
+
+pub copy-room : (n : ℕ) (d : List ℕ) → n ≤ 120 → 123 ≤ length d → n ≤ length (take (length (set (set (set d 0 21) 1 0) 2 n) - 3) (drop 3 (set (set (set d 0 21) 1 0) 2 n)))
+copy-room n d few room = simp (length-take, length-drop, length-set) (omega arith)
+
+-- `write_instance`
+add-few : (p q : Bool) (b : ℕ) (ns : List ℕ) → length (if p then ns else (if q then ns else (ns ++ (b ∷ [])))) ≤ length ns + 1
+unfolding if_then_else_
+add-few true q b ns = omega arith
+add-few false true b ns = omega arith
+add-few false false b ns = omega (arith, length-append ns (b ∷ []))
+
+added-few : (b : ℕ) (ns : List ℕ) → length (added b ns) ≤ length ns + 1
+unfolding added
+added-few b ns = add-few _ _ b ns
+
+pub collect-few : (ns l : List ℕ) → length (collect ns l) ≤ length ns + length l
+unfolding collect
+collect-few ns [] = omega arith
+collect-few ns (b ∷ l) = omega (arith, collect-few (added b ns) l, added-few b ns)
+
+map-length : (f : ℕ → ℕ) (l : List ℕ) → length (map f l) ≡ length l
+map-length f [] = refl
+map-length f (x ∷ l) = ap suc (map-length f l)
+
+renamed-length : (l : List ℕ) → length (renamed-bytes l) ≡ length l
+unfolding renamed-bytes
+renamed-length l = map-length _ l
+
+module _ (l tab ends cs : List ℕ) (k : Spelt l tab ends cs) where
+  pub spelt-room : (us : Terms) × SpellsAll (arena l tab ends) (at cs) 0 1 us × (0 + sizes us ≤ 120)
+  unfolding sizes
+  spelt-room = (cons (k .term) nil, more (k .spells) no-more, omega (arith, k .small))
+
+  module _ (d e : List ℕ) (r : ℕ) (z : length d ≡ 120) (w : Writes (arena l tab ends) (at cs) 0 1 0 d r e) where
+    spelt-end : (u : Term) → Spells (arena l tab ends) (at cs) 0 u → r ≡ size u
+    unfolding sizes
+    spelt-end u p = omega (arith, w .ends (cons u nil) (more p no-more))
+
+    pub spelt-few : (r ≤ 120) × (length e ≡ 120)
+    spelt-few = (omega (arith, spelt-end (k .term) (k .spells), k .small), w .long ∙ z)
+
+    spelt-bytes : (u : Term) → Spells (arena l tab ends) (at cs) 0 u → take r e ≡ term-bytes u
+    unfolding terms-bytes
+    spelt-bytes u p =
+        let n : r ≡ length (term-bytes u) = omega (arith, spelt-end u p, length-bytes u) in
+        ap (λ (n : ℕ). take n e) n
+        ∙ ap (take (length (term-bytes u))) (w .bytes (cons u nil) (more p no-more) ∙ ap (λ (x : List ℕ). put 0 x d) (append-nil (term-bytes u)))
+        ∙ put-reads (term-bytes u) d (omega (arith, spelt-few .0))
+
+    pub prefix-length : r ≡ length (take r e)
+    prefix-length = sym (length-take-le r e (omega (arith, spelt-few .0, spelt-few .1)))
+
+    pub rename-room : (length (take r e) ≤ 120) × (length (collect [] (take r e)) ≤ 127)
+    rename-room = (omega (arith, prefix-length, spelt-few .0), omega (arith, prefix-length, spelt-few .0, collect-few [] (take r e)))
+
+    module _ (q : List ℕ) (h : q ≡ renamed-bytes (take r e)) where
+      pub again-length : length q ≡ r
+      again-length = ap length h ∙ renamed-length (take r e) ∙ sym prefix-length
+
+      pub again-within : r ≤ length (q ++ drop r e)
+      again-within = omega (arith, again-length, length-append q (drop r e))
+
+      pub again-count : r ≡ length (take r (q ++ drop r e))
+      again-count = sym (length-take-le r (q ++ drop r e) again-within)
+
+      pub again-few : length (take r (q ++ drop r e)) ≤ 120
+      again-few = omega (arith, again-count, spelt-few .0)
+
+      pub spelt-written : (n : ℕ) (d₀ d₁ : List ℕ) →
+          (n ≡ length (field-bytes (record { tag = 0x15; contents = take r (q ++ drop r e) }))) × (d₁ ≡ written (field-bytes (record { tag = 0x15; contents = take r (q ++ drop r e) })) d₀) →
+          WritesSpelt l tab ends cs n d₀ d₁
+      unfolding instance-field
+      spelt-written n d₀ d₁ f =
+          let c : (u : Term) → Spells (arena l tab ends) (at cs) 0 u → take r (q ++ drop r e) ≡ renamed-bytes (term-bytes u)
+          = λ u p. take-at q (drop r e) r again-length ∙ h ∙ ap renamed-bytes (spelt-bytes u p) in
+          record { count = λ u p. rw (c u p) at (f .0); leaves = λ u p. rw (c u p) at (f .1) }

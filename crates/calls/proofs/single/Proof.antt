@@ -1,0 +1,47 @@
+-- `calls::single` meets its contract. Assumes nothing.
+use Rattle.calls.proofs.Singles.{single-1, single-2, single-3, single-4, single-5}
+use native.Mathlib.Omega.{arith}
+use borrow.Author.Needs.{needs}
+use Rattle.calls.proofs.single.Statement.{statement}
+use Rattle.calls.proofs.single.Tie as tie
+
+returns : tie.Need-returns
+returns c = let A = rw (c .before .before .table-end .given .1) at (c .before .before .before .before .parse .ensures .1) in single-2 _ _ _ _ _ (A .1) (c .if1 .taken)
+
+add-due : tie.Need-add-due
+add-due c = let A = rw (c .before .before .table-end .given .1) at (c .before .before .before .before .parse .ensures .1) in omega (arith, A .1 .table .high)
+
+returns-2 : tie.Need-returns-2
+returns-2 c =
+    let A = rw (c .before .before .before .before .before .before .before .table-end .given .1) at (c .before .before .before .before .before .before .before .before .before .parse .ensures .1) in
+    single-4 _ _ _ _ _ (A .1) (c .before .before .before .before .before .if1 .left) _ (rw (c .before .before .second .given .1) at (c .before .before .before .before .due .ensures)) (c .if2 .taken)
+
+returns-3 : tie.Need-returns-3
+returns-3 c = single-1 _ _ _ (rw (c .before .number .given .1) at (c .before .before .before .parse .ensures .1))
+
+returns-4 : tie.Need-returns-4
+returns-4 c =
+    let A = rw (c .before .before .before .before .before .before .table-end .given .1) at (c .before .before .before .before .before .before .before .before .parse .ensures .1) in
+    single-3 _ _ _ _ _ (A .1) (c .before .before .before .before .if1 .left) _ _ (rw (c .before .number2 .given .1) at (c .before .before .before .due .ensures))
+
+returns-5 : tie.Need-returns-5
+returns-5 c =
+    let A = rw (c .before .before .before .before .before .before .before .table-end .given .1) at (c .before .before .before .before .before .before .before .before .before .parse .ensures .1) in
+    single-5 _ _ _ _ _ (A .1) (c .before .before .before .before .before .if1 .left) _ (rw (c .before .before .second .given .1) at (c .before .before .before .before .due .ensures)) (c .if2 .left)
+
+pub single-spec : {M : Type 1} → statement M
+single-spec =
+    tie.close
+    (tie.spec
+    (λ c κs. search needs)
+    (λ c. search needs)
+    (λ c. search needs)
+    returns
+    add-due
+    (λ c κs. search needs)
+    (λ c. search needs)
+    (λ c. search needs)
+    returns-2
+    returns-3
+    returns-4
+    returns-5)

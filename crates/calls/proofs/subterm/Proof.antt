@@ -1,0 +1,17 @@
+-- `calls::subterm` meets its contract. Assumes nothing.
+use mathlib.Core.Path.{refl}
+use native.Mathlib.Omega.{arith}
+use Rattle.calls.proofs.Singles.{part-bytes, part-only}
+use borrow.Author.Needs.{needs}
+use Rattle.calls.proofs.subterm.Statement.{statement}
+use Rattle.calls.proofs.subterm.Tie as tie
+
+returns : tie.Need-returns
+returns c =
+    let k = c .before .subterm-bounds .ensures in
+    (k .is, (record { block = refl; place = omega (arith, k .start); bytes = part-bytes _ _ _ _ k }, part-only _ _ _ _ k))
+
+pub subterm-spec : {M : Type 1} → statement M
+subterm-spec =
+    tie.close
+    (tie.spec (λ c κs. search needs) (λ c. search needs) (λ c. search needs) (λ c. search needs) returns)

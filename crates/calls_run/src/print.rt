@@ -1,0 +1,76 @@
+// What the calls answer, as text.
+use libc::STDOUT_FILENO;
+
+pub fn print(text: &[u8]) {
+    io::write_all(STDOUT_FILENO, text);
+}
+
+pub fn number(n: usize) {
+    io::print_decimal(STDOUT_FILENO, n as u64);
+}
+
+pub fn bytes(s: &[u8]) {
+    let mut i = 0;
+    while i < s.len() {
+        io::print_hex(STDOUT_FILENO, terms::wide(s[i]) as u64, 2);
+        i += 1;
+    }
+}
+
+fn refused(n: u8, place: usize) {
+    print(b"refused ");
+    number(n as usize);
+    print(b" at ");
+    number(place);
+}
+
+fn compared(problem: &[u8]) {
+    print(b": compare ");
+    match calls::compare(problem) {
+        calls::Compared::LeftAbove => print(b"1"),
+        calls::Compared::RightAbove => print(b"2"),
+        calls::Compared::Identical => print(b"3"),
+        calls::Compared::Neither => print(b"4"),
+        calls::Compared::Refused { number, place } => refused(number, place),
+    }
+}
+
+fn unified(problem: &[u8]) {
+    let mut result = [0u8; 16384];
+    print(b", unify ");
+    match calls::unify(problem, &mut result) {
+        calls::Unified::Instance(n) => {
+            if n <= 16384 {
+                bytes(&result[0..n]);
+            }
+        }
+        calls::Unified::Nothing => print(b"none"),
+        calls::Unified::TooLarge => print(b"refused 22"),
+        calls::Unified::Refused { number, place } => refused(number, place),
+    }
+}
+
+pub fn short_buffer(problem: &[u8]) {
+    let mut result = [0u8; 16383];
+    print(b": unify ");
+    if let calls::Unified::Refused { number, place } = calls::unify(problem, &mut result) {
+        refused(number, place);
+    }
+}
+
+pub fn part(problem: &[u8], position: usize) {
+    print(b", subterm ");
+    number(position);
+    print(b" ");
+    bytes(calls::subterm(problem, position));
+}
+
+// A line with the answers of compare, unify and subterm at the first two positions.
+pub fn calls_on(name: &[u8], problem: &[u8]) {
+    print(name);
+    compared(problem);
+    unified(problem);
+    part(problem, 0);
+    part(problem, 1);
+    print(b"\n");
+}
