@@ -1,0 +1,71 @@
+use Rattle.collapse.proofs.Siftings.{Going, going-start, going-more, going-end}
+use Rattle.collapse.specs.Sifting.{shelf}
+use native.Mathlib.Omega.{arith}
+use Prim.Native.Nat.{_-_}
+use mathlib.Core.Path.{_∙_, sym}
+use borrow.Author.Needs.{needs}
+use Rattle.collapse.proofs.collapse.Statement.{statement}
+use Rattle.collapse.proofs.collapse.Tie as tie
+use Rattle.collapse.proofs.collapse.Reads as reads
+use Rattle.collapse.proofs.collapse.Lts as lts
+use Rattle.collapse.proofs.sift.Reads as sift-reads
+
+abbrev Inv-loop : tie.InvT-loop
+Inv-loop rules₀ lens₀ numbers₀ waiting₀ lengths₀ origins₀ new sizes table n w k₀ i₀ rules lens numbers waiting lengths origins k i =
+    Going table new sizes (shelf rules₀ lens₀ numbers₀ waiting₀ lengths₀ origins₀) n w (shelf rules lens numbers waiting lengths origins) k i
+
+abbrev μ-loop : tie.MeasureT-loop
+μ-loop rules₀ lens₀ numbers₀ waiting₀ lengths₀ origins₀ new sizes table n w k₀ i₀ rules lens numbers waiting lengths origins k i =
+    n - i
+
+loop-holds : tie.Need-loop-holds Inv-loop μ-loop
+loop-holds c = going-start _ _ _ _ _ _ (c .before .before .before .before .before .before .before .before .before .pre .0 .0)
+
+sift-requires : tie.Need-sift-requires Inv-loop μ-loop
+sift-requires c κs =
+    ((c .before .before .before .before .before .before .before .loop .inv .safe, c .before .before .before .before .before .before .before .before .before .before .before .before .before .before .before .before .before .pre .0 .1), (c .before .before .before .before .before .before .before .loop .inv .low, c .before .before .before .before .before .before .loop-test .taken, c .before .before .before .before .before .before .before .before .before .before .before .before .before .before .before .before .before .pre .1 .0, let a = c .before .before .before .before .before .before .before .before .before .before .before .before .before .before .before .before .before .pre .1 .1 in let b = c .before .before .before .before .before .before .loop-test .taken in omega arith))
+
+loop-again : tie.Need-loop-again Inv-loop μ-loop
+loop-again c = going-more _ _ _ _ _ _ _ _ _ _ _ (c .before .before .before .before .before .before .before .before .before .before .before .before .before .before .before .before .before .before .before .before .loop .inv) (c .before .before .before .before .before .before .before .before .before .before .before .before .before .before .before .before .before .before .before .loop-test .taken) (c .before .before .before .before .before .before .before .before .before .before .before .before .sift .ensures)
+
+same-length : tie.Need-same-length Inv-loop μ-loop
+same-length c = c .before .loop .inv .safe .rules-long ∙ sym (c .before .before .before .before .before .before .before .before .before .before .before .pre .0 .0 .rules-long)
+
+same-length-2 : tie.Need-same-length-2 Inv-loop μ-loop
+same-length-2 c = c .before .loop .inv .safe .lens-long ∙ sym (c .before .before .before .before .before .before .before .before .before .before .before .pre .0 .0 .lens-long)
+
+same-length-3 : tie.Need-same-length-3 Inv-loop μ-loop
+same-length-3 c = c .before .loop .inv .safe .numbers-long ∙ sym (c .before .before .before .before .before .before .before .before .before .before .before .pre .0 .0 .numbers-long)
+
+same-length-4 : tie.Need-same-length-4 Inv-loop μ-loop
+same-length-4 c = c .before .loop .inv .safe .waiting-long ∙ sym (c .before .before .before .before .before .before .before .before .before .before .before .pre .0 .0 .waiting-long)
+
+same-length-5 : tie.Need-same-length-5 Inv-loop μ-loop
+same-length-5 c = c .before .loop .inv .safe .lengths-long ∙ sym (c .before .before .before .before .before .before .before .before .before .before .before .pre .0 .0 .lengths-long)
+
+same-length-6 : tie.Need-same-length-6 Inv-loop μ-loop
+same-length-6 c = c .before .loop .inv .safe .origins-long ∙ sym (c .before .before .before .before .before .before .before .before .before .before .before .pre .0 .0 .origins-long)
+
+returns : tie.Need-returns Inv-loop μ-loop
+returns c = going-end _ _ _ _ _ _ _ _ _ (c .before .loop .inv) (c .loop-test .left)
+
+pub collapse-spec : {M : Type 1} → statement M
+collapse-spec =
+    tie.close
+    (tie.spec
+    Inv-loop
+    μ-loop
+    loop-holds
+    (λ c. search needs)
+    (λ c. search needs)
+    sift-requires
+    (λ c. search needs)
+    (λ c. search needs)
+    loop-again
+    same-length
+    same-length-2
+    same-length-3
+    same-length-4
+    same-length-5
+    same-length-6
+    returns)

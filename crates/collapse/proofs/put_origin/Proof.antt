@@ -1,0 +1,18 @@
+use Rattle.collapse.proofs.Lists.{removed-bytes}
+use Rattle.store.specs.Slots.{patched}
+use mathlib.Core.Path.{_∙_, ap}
+use Prim.Native.Nat.{_*_}
+use borrow.Author.Needs.{needs}
+use Rattle.collapse.proofs.put_origin.Statement.{statement}
+use Rattle.collapse.proofs.put_origin.Tie as tie
+use Rattle.collapse.proofs.put_origin.Reads as reads
+use Rattle.collapse.proofs.put_origin.Lts as lts
+use Rattle.store.proofs.paste.Reads as paste-reads
+
+returns : tie.Need-returns
+returns c = c .before .before .paste .ensures ∙ ap (λ z. patched (6 * (c .before .before .before .before .before .before .args .w)) z (c .before .before .before .before .before .before .args .origins .now)) (removed-bytes (c .before .before .before .before .before .before .args .number))
+
+pub put-origin-spec : {M : Type 1} → statement M
+put-origin-spec =
+    tie.close
+    (tie.spec (λ c. search needs) (λ c. search needs) (λ c. search needs) (λ c. search needs) (λ c κs. search needs) (λ c. search needs) returns)

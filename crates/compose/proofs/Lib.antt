@@ -1,0 +1,3 @@
+pub mod Narrow
+pub mod Single
+pub mod Sweep

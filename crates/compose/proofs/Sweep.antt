@@ -1,0 +1,162 @@
+-- All right sides, one after the other. Assumes nothing.
+use mathlib.Core.Path.{_≡_, refl, sym, ap, _∙_, subst}
+use mathlib.Core.List.{List, [], _∷_, _++_, append-assoc, append-nil}
+use Prim.Native.Nat.{ℕ, _+_, _<_, _≤_}
+use native.Mathlib.Omega.{arith}
+use lib.ListN.{length, length-append}
+use Rattle.terms.specs.Term.{Term}
+use Rattle.rewriting.specs.Overlap.{Rule, sides-of}
+use Rattle.rewriting.specs.Rewrite.{Paid, done, stop, and-then, _>>=_, return, normalise}
+use Rattle.normaliser.specs.Stored.{Layout, Stored, code}
+use Rattle.completion.specs.Turn.{normalise-rights}
+use Rattle.completion.proofs.Ends.{with-right}
+use Rattle.completion.proofs.Limits.{numbers}
+use Rattle.store.specs.Slots.{SameSlot}
+use Rattle.compose.specs.Rights.{OneIs, One, Kept, AllIs, All}
+use Rattle.compose.specs.declared.Composed.{Composed}
+use Rattle.compose.proofs.Single.{code-above, sides-append}
+
+-- The rules `before` are done and the rules `later` are to come.
+pub record Midway (tab rules lens : List ℕ) (rs : List Rule) (new : Rule) (k units left : ℕ) (before later : List Rule) : Type 0 where
+  pub place : length before ≡ k
+  pub total : length before + length later ≡ length rs
+  pub stored : Stored tab rules lens 0 (sides-of (before ++ later ++ (new ∷ [])))
+  pub run : normalise-rights [] rs new units ≡ normalise-rights before later new left
+  pub same-numbers : numbers (before ++ later ++ (new ∷ [])) ≡ numbers (rs ++ (new ∷ []))
+
+pub record Going (tab rules lens rules′ lens′ : List ℕ) (older units k left : ℕ) : Type 0 where
+  pub within : k ≤ older
+  pub kept : Kept tab rules lens rules′ lens′ older units left
+  pub answer : (rs : List Rule) (new : Rule) → length rs ≡ older → Stored tab rules lens 0 (sides-of (rs ++ (new ∷ []))) →
+      (before : List Rule) × (later : List Rule) × Midway tab rules′ lens′ rs new k units left before later
+
+pub going-start : (tab rules lens : List ℕ) (older units : ℕ) → Layout tab rules lens (older + 1) → Going tab rules lens rules lens older units 0 units
+going-start tab rules lens older units y = record {
+  within = omega arith;
+  kept = record { same-bytes = refl; same-lengths = refl; layout = y; others = λ i h. record { left-length = refl; right-length = refl; content = refl }; left-over = omega arith };
+  answer = λ rs new e h. ([], rs, record { place = refl; total = omega arith; stored = h; run = refl; same-numbers = refl });
+}
+
+same-trans : {b l b₁ l₁ b₂ l₂ : List ℕ} {i : ℕ} → SameSlot b l b₁ l₁ i → SameSlot b₁ l₁ b₂ l₂ i → SameSlot b l b₂ l₂ i
+same-trans p q = record { left-length = q .left-length ∙ p .left-length; right-length = q .right-length ∙ p .right-length; content = q .content ∙ p .content }
+
+numbers-with : (before : List Rule) (old : Rule) (x : Term) (after : List Rule) → numbers (before ++ (with-right old x ∷ after)) ≡ numbers (before ++ (old ∷ after))
+numbers-with [] old x after = refl
+numbers-with (r ∷ before) old x after = ap (λ l. r .number ∷ l) (numbers-with before old x after)
+
+-- the definition's two cases
+abbrev then-rest : List Rule → Rule → List Rule → Rule → Paid Term → Paid (List Rule)
+then-rest before old later new p = and-then p (λ r. normalise-rights (before ++ (with-right old r ∷ [])) later new)
+
+next-right : (before : List Rule) (old : Rule) (later : List Rule) (new : Rule) (left : ℕ) →
+    normalise-rights before (old ∷ later) new left ≡ then-rest before old later new (normalise (before ++ (old ∷ (later ++ (new ∷ [])))) (old .sides .right) left)
+unfolding normalise-rights _>>=_
+next-right before old later new left = ap (λ z. then-rest before old later new (normalise z (old .sides .right) left)) (append-assoc before (old ∷ later) (new ∷ []))
+
+last-right : (before : List Rule) (new : Rule) (left : ℕ) → normalise-rights before [] new left ≡ done (before ++ (new ∷ [])) left
+unfolding normalise-rights return
+last-right before new left = refl
+
+module _ (tab rules lens rules₁ lens₁ : List ℕ) (older units k left : ℕ) (g : Going tab rules lens rules₁ lens₁ older units k left) where
+  module _ (more : k < older) (rules₂ lens₂ : List ℕ) (o : Composed) (one : One tab rules₁ lens₁ rules₂ lens₂ k older left o) where
+    still-kept : Kept tab rules lens rules₂ lens₂ older units (o .units)
+    still-kept =
+        let q = one .left-over in
+        let r = g .kept .left-over in
+        record {
+          same-bytes = one .only .same-bytes ∙ g .kept .same-bytes;
+          same-lengths = one .only .same-lengths ∙ g .kept .same-lengths;
+          layout = one .layout;
+          others = λ i h. same-trans (g .kept .others i h) (one .only .others i (λ e. omega arith));
+          left-over = omega arith;
+        }
+
+    module _ (rs : List Rule) (new : Rule) (number : length rs ≡ older) where
+      -- what was said of the next rule
+      module _ (before later : List Rule) (old : Rule) (m : Midway tab rules₁ lens₁ rs new k units left before (old ∷ later)) where
+        said : OneIs tab rules₂ lens₂ before old (later ++ (new ∷ [])) o (normalise (before ++ (old ∷ (later ++ (new ∷ [])))) (old .sides .right) left)
+        said =
+            let t = m .total in
+            one .answer before old (later ++ (new ∷ []))
+            (record {
+              place = m .place;
+              total = omega (arith, length-append later (new ∷ []));
+              stored = subst (λ z. Stored tab rules₁ lens₁ 0 (sides-of z)) (append-assoc before (old ∷ later) (new ∷ [])) (m .stored);
+            })
+
+        runs : normalise-rights [] rs new units ≡ then-rest before old later new (normalise (before ++ (old ∷ (later ++ (new ∷ [])))) (old .sides .right) left)
+        runs = m .run ∙ next-right before old later new left
+
+        behind : (x : Term) → before ++ (with-right old x ∷ []) ++ later ++ (new ∷ []) ≡ before ++ (with-right old x ∷ (later ++ (new ∷ [])))
+        behind x = ap (λ z. z ++ (new ∷ [])) (append-assoc before (with-right old x ∷ []) later) ∙ append-assoc before (with-right old x ∷ later) (new ∷ [])
+
+      further : o .verdict ≡ 0 → (before later : List Rule) (old : Rule) → Midway tab rules₁ lens₁ rs new k units left before (old ∷ later) →
+          (p : Paid Term) → OneIs tab rules₂ lens₂ before old (later ++ (new ∷ [])) o p → normalise-rights [] rs new units ≡ then-rest before old later new p →
+          (before : List Rule) × (later : List Rule) × Midway tab rules₂ lens₂ rs new (k + 1) units (o .units) before later
+      unfolding and-then
+      further v before later old m (done x n) e f =
+          let l = length-append before (with-right old x ∷ []) in
+          let q = m .place in
+          let t = m .total in (
+            before ++ (with-right old x ∷ []),
+            later,
+            record {
+              place = omega arith;
+              total = omega arith;
+              stored = subst (λ z. Stored tab rules₂ lens₂ 0 z) (sym (ap sides-of (behind before later old m x) ∙ sides-append before (with-right old x ∷ (later ++ (new ∷ []))))) (e .2);
+              run = f ∙ ap (normalise-rights (before ++ (with-right old x ∷ [])) later new) (sym (e .1));
+              same-numbers = ap numbers (behind before later old m x) ∙ numbers-with before old x (later ++ (new ∷ [])) ∙ ap numbers (sym (append-assoc before (old ∷ later) (new ∷ []))) ∙ m .same-numbers;
+            },
+          )
+      further v before later old m (stop c n) e f = let z : o .verdict ≡ code c = e .0 in absurd (omega (arith, code-above c))
+
+      ended : 0 < o .verdict → (before later : List Rule) (old : Rule) (p : Paid Term) → OneIs tab rules₂ lens₂ before old (later ++ (new ∷ [])) o p →
+          normalise-rights [] rs new units ≡ then-rest before old later new p → AllIs tab rules₂ lens₂ older (rs ++ (new ∷ [])) o (normalise-rights [] rs new units)
+      unfolding and-then
+      ended v before later old (done x n) e f = let z : o .verdict ≡ 0 = e .0 in absurd (omega arith)
+      ended v before later old (stop c n) e f = rw f e
+
+      next-midway : o .verdict ≡ 0 → (before later : List Rule) → Midway tab rules₁ lens₁ rs new k units left before later →
+          (before : List Rule) × (later : List Rule) × Midway tab rules₂ lens₂ rs new (k + 1) units (o .units) before later
+      next-midway v before [] m = absurd (omega (arith, m .place, m .total))
+      next-midway v before (old ∷ later) m = further v before later old m _ (said before later old m) (runs before later old m)
+
+      next-ended : 0 < o .verdict → (before later : List Rule) → Midway tab rules₁ lens₁ rs new k units left before later →
+          AllIs tab rules₂ lens₂ older (rs ++ (new ∷ [])) o (normalise-rights [] rs new units)
+      next-ended v before [] m = absurd (omega (arith, m .place, m .total))
+      next-ended v before (old ∷ later) m = ended v before later old _ (said before later old m) (runs before later old m)
+
+    pub going-on : o .verdict ≡ 0 → Going tab rules lens rules₂ lens₂ older units (k + 1) (o .units)
+    going-on v = record {
+      within = omega arith;
+      kept = still-kept;
+      answer = λ rs new number h. let m = g .answer rs new number h in next-midway rs new number v (m .0) (m .1) (m .2);
+    }
+
+    pub going-stop : 0 < o .verdict → All tab rules lens rules₂ lens₂ older units o
+    going-stop v = record {
+      kept = still-kept;
+      known = one .known;
+      answer = λ rs new number h. let m = g .answer rs new number h in next-ended rs new number v (m .0) (m .1) (m .2);
+    }
+
+  pub going-end : older ≤ k → All tab rules lens rules₁ lens₁ older units (record { verdict = 0; units = left })
+  going-end over = record {
+    kept = g .kept;
+    known = omega arith;
+    answer = λ rs new number h. let m = g .answer rs new number h in last rs new number (m .0) (m .1) (m .2);
+  }
+    where
+      last : (rs : List Rule) (new : Rule) → length rs ≡ older → (before later : List Rule) → Midway tab rules₁ lens₁ rs new k units left before later →
+          AllIs tab rules₁ lens₁ older (rs ++ (new ∷ [])) (record { verdict = 0; units = left }) (normalise-rights [] rs new units)
+      last rs new number before [] m =
+          let e : before ++ [] ≡ before = append-nil before in
+          let q = m .total in
+          rw (m .run ∙ last-right before new left) (
+            refl,
+            refl,
+            subst (λ z. Stored tab rules₁ lens₁ 0 (sides-of (z ++ (new ∷ [])))) e (m .stored),
+            omega (arith, length-append before (new ∷ [])),
+            ap (λ z. numbers (z ++ (new ∷ []))) (sym e) ∙ m .same-numbers,
+          )
+      last rs new number before (old ∷ later) m = absurd (omega (arith, m .place, m .total))

@@ -1,0 +1,71 @@
+// Step 7 of a turn: the older rules' right sides, ascending, each normalised by all live rules as they then read.
+ghost use mathlib.Core.Path.{_≡_};
+ghost use Prim.Native.Nat.{ℕ, _+_, _<_, _≤_};
+ghost use lib.ListN.{length};
+ghost use Rattle.normaliser.specs.Stored.{Layout};
+ghost use Rattle.compose.specs.Rights.{One, All};
+
+// Verdict 0: done; 1: a unit due and none left; 2: too large; 4: no term. `units` are left.
+pub struct Composed {
+    pub verdict: u8,
+    pub units: u32,
+}
+
+// The right side of rule k, normalised by the first older + 1 rules.
+fn compose_one(
+    rules: &mut [u8],
+    lens: &mut [u8],
+    k: usize,
+    older: usize,
+    table: &[u8],
+    units: u32,
+) -> Composed
+    requires { ⌜ Layout (now table) (now rules) (now lens) (older + 1) ⌝ }
+    requires { ⌜ k < older ⌝ }
+    ensures { λ r. ⌜ One (now (table .entry)) (now (rules .entry)) (now (lens .entry)) (now (rules .exit)) (now (lens .exit)) k older units r ⌝ }
+{
+    let mut t = [0u8; 120];
+    let n = store::get_right(rules, lens, k, &mut t);
+    let count = older + 1;
+    let r = normaliser::normalise(&mut t, n, table, rules, lens, count, units);
+    let left = units - r.paid;
+    if r.verdict != 0 {
+        return Composed {
+            verdict: r.verdict,
+            units: left,
+        };
+    }
+    let len = r.len;
+    store::put_right(rules, lens, k, &t[0..len]);
+    Composed {
+        verdict: 0,
+        units: left,
+    }
+}
+
+// The new rule stands in slot `older`, behind the older ones.
+pub fn compose(
+    rules: &mut [u8],
+    lens: &mut [u8],
+    older: usize,
+    table: &[u8],
+    units: u32,
+) -> Composed
+    requires { ⌜ Layout (now table) (now rules) (now lens) (older + 1) ⌝ }
+    ensures { λ r. ⌜ All (now (table .entry)) (now (rules .entry)) (now (lens .entry)) (now (rules .exit)) (now (lens .exit)) older units r ⌝ }
+{
+    let mut left = units;
+    let mut k = 0;
+    while k < older {
+        let r = compose_one(rules, lens, k, older, table, left);
+        if r.verdict != 0 {
+            return r;
+        }
+        left = r.units;
+        k += 1;
+    }
+    Composed {
+        verdict: 0,
+        units: left,
+    }
+}

@@ -1,0 +1,74 @@
+-- What the state's methods leave. Assumes nothing.
+use mathlib.Core.Path.{_≡_}
+use mathlib.Core.List.{List, [], _∷_, _++_, map}
+use Prim.Native.Nat.{ℕ, zero, suc, _+_, _≤_}
+use lib.ListN.{length}
+use Rattle.terms.specs.Base.{number-bytes}
+use Rattle.terms.specs.Term.{Pair, renamed}
+use Rattle.rewriting.specs.Overlap.{Rule}
+use Rattle.normaliser.specs.Stored.{RuleAt, Stored}
+use Rattle.problem.specs.Problem.{Problem}
+use Rattle.completion.specs.Turn.{Origin, waiting-input, Candidate, State as RunState, initial, kept, removed}
+use Rattle.completion.specs.Calls.{origin-bytes}
+use Rattle.engine.specs.State.{Fine, FineBut, Represents}
+use Rattle.engine.specs.declared.State.{State}
+
+-- the bytes of an entry
+abbrev pub entry-bytes : List ℕ → ℕ → List ℕ
+entry-bytes origin made = 0x13 ∷ 0 ∷ 8 ∷ (origin ++ number-bytes 2 made)
+
+-- the origins of n input equations, from number k on
+unfoldable pub numbered : ℕ → ℕ → List ℕ
+numbered k zero = []
+numbered k (suc n) = origin-bytes (waiting-input k) ++ numbered (suc k) n
+
+-- `begin`
+pub record Begun (inputs lens : List ℕ) (number budget : ℕ) (r : State) : Type 0 where
+  pub fine : Fine r
+  pub units : r .units ≡ budget
+  pub waits : r .waits ≡ number
+  pub represents : (tab : List ℕ) (P : Problem) → Stored tab inputs lens 0 (map (λ e. renamed (e .sides)) (P .equations)) → number ≡ length (P .equations) → Represents tab r (initial P)
+
+-- `take`: the waiting list without its oldest
+pub record TakenState (st r : State) : Type 0 where
+  pub fine : Fine r
+  pub count : r .count ≡ st .count
+  pub made : r .made ≡ st .made
+  pub waits : r .waits + 1 ≡ st .waits
+  pub entries : r .entries ≡ st .entries
+  pub units : r .units ≡ st .units
+  pub represents : (tab : List ℕ) (s : RunState) (c : Candidate) (cs : List Candidate) → Represents tab st s → s .waiting ≡ c ∷ cs →
+      Represents tab r (record { rules = s .rules; made = s .made; waiting = cs; log = s .log })
+
+-- `collapse`: the older rules that the new one leaves, the others behind the waiting equations
+pub record CollapsedState (tab new sizes : List ℕ) (st r : State) : Type 0 where
+  pub fine : Fine r
+  pub together : r .count + r .waits ≡ st .count + st .waits
+  pub fewer : r .count ≤ st .count
+  pub made : r .made ≡ st .made
+  pub entries : r .entries ≡ st .entries
+  pub units : r .units ≡ st .units
+  pub represents : (s : RunState) (n : Rule) → RuleAt tab new sizes 0 (n .sides) → Represents tab st s →
+      Represents tab r (record { rules = kept n (s .rules); made = s .made; waiting = s .waiting ++ removed n (s .rules); log = s .log })
+
+-- `orient`: the new rule behind the live ones
+pub record OrientedState (new sizes : List ℕ) (st r : State) : Type 0 where
+  pub fine : FineBut 1 r
+  pub count : r .count ≡ st .count + 1
+  pub made : r .made ≡ st .made + 1
+  pub waits : r .waits ≡ st .waits
+  pub entries : r .entries ≡ st .entries
+  pub units : r .units ≡ st .units
+  pub represents : (tab : List ℕ) (s : RunState) (p : Pair) → RuleAt tab new sizes 0 p → Represents tab st s →
+      Represents tab r (record { rules = s .rules ++ (record { number = suc (s .made); sides = p } ∷ []); made = suc (s .made); waiting = s .waiting; log = s .log })
+
+-- `with_entry`
+pub record LoggedState (st : State) (origin : List ℕ) (made : ℕ) (r : State) : Type 0 where
+  pub fine : Fine r
+  pub count : r .count ≡ st .count
+  pub made-same : r .made ≡ st .made
+  pub waits : r .waits ≡ st .waits
+  pub entries : r .entries ≡ st .entries + 1
+  pub units : r .units ≡ st .units
+  pub represents : (tab : List ℕ) (s : RunState) (o : Origin) → origin ≡ origin-bytes o → Represents tab st s →
+      Represents tab r (record { rules = s .rules; made = s .made; waiting = s .waiting; log = s .log ++ (record { origin = o; made = made } ∷ []) })
