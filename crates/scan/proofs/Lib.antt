@@ -1,0 +1,7 @@
+pub mod Pairs
+pub mod WellFormed
+pub mod Going
+pub mod Placing
+pub mod Places
+pub mod Inputs
+pub mod Reading

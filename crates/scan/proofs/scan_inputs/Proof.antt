@@ -1,0 +1,62 @@
+use Prim.Native.Nat.{_-_}
+use Rattle.normaliser.proofs.Choosing.{layout-below}
+use Rattle.scan.proofs.Inputs.{inputs-more, inputs-over, input-walk}
+use Rattle.scan.proofs.Going.{Going, going-start, going-on, going-stop, going-end, still-fits}
+use Rattle.scan.specs.Walk.{Given, of-inputs}
+use borrow.Author.Needs.{needs}
+use Rattle.scan.proofs.scan_inputs.Statement.{statement}
+use Rattle.scan.proofs.scan_inputs.Tie as tie
+use Rattle.scan.proofs.scan_inputs.Reads as reads
+use Rattle.scan.proofs.scan_inputs.Lts as lts
+use Rattle.scan.proofs.origins.origin.Reads as origin-reads
+use Rattle.scan.proofs.scan_slot.Reads as scan-slot-reads
+use Rattle.scan.proofs.stopped.Reads as stopped-reads
+
+abbrev Inv-loop : tie.InvT-loop
+Inv-loop rules lens count table inputs sizes number left₀ right₀ units k₀ u₀ left right k u =
+    Going (Given table rules lens count inputs sizes number) (of-inputs 0) left₀ right₀ left right units (of-inputs k) u
+
+abbrev μ-loop : tie.MeasureT-loop
+μ-loop rules lens count table inputs sizes number left₀ right₀ units k₀ u₀ left right k u =
+    number - k
+
+loop-holds : tie.Need-loop-holds Inv-loop μ-loop
+loop-holds c = going-start
+
+cast-origin : tie.Need-cast-origin Inv-loop μ-loop
+cast-origin c = let f = c .before .before .before .before .before .before .before .before .before .pre .1 .0 .few in let t = c .loop-test .taken in search needs
+
+scan-slot-requires : tie.Need-scan-slot-requires Inv-loop μ-loop
+scan-slot-requires c κs =
+    (c .before .before .before .before .before .before .before .before .before .before .before .before .pre .0, (layout-below _ _ _ _ _ (c .before .before .before .before .before .before .before .before .before .before .before .before .pre .1 .0) (c .before .before .before .loop-test .taken), (still-fits (c .before .before .before .before .loop .inv .left-kept) (c .before .before .before .before .before .before .before .before .before .before .before .before .pre .1 .1 .0), still-fits (c .before .before .before .before .loop .inv .right-kept) (c .before .before .before .before .before .before .before .before .before .before .before .before .pre .1 .1 .1))))
+
+returns : tie.Need-returns Inv-loop μ-loop
+returns c = going-stop (c .before .before .before .before .before .before .before .before .before .before .before .loop .inv) (inputs-more _ _ _ _ _ _ _ _ (c .before .before .before .before .before .before .before .before .before .before .loop-test .taken)) (input-walk _ _ _ _ _ _ _ _ (c .before .before .before .before .before .before .before .before .before .before .loop-test .taken) (c .before .before .before .before .before .before .before .before .before .origin .ensures) (c .before .before .before .before .before .before .scan-slot .ensures)) (c .if1 .taken)
+
+loop-again : tie.Need-loop-again Inv-loop μ-loop
+loop-again c = going-on (c .before .before .before .before .before .before .before .before .before .before .before .loop .inv) (inputs-more _ _ _ _ _ _ _ _ (c .before .before .before .before .before .before .before .before .before .before .loop-test .taken)) (input-walk _ _ _ _ _ _ _ _ (c .before .before .before .before .before .before .before .before .before .before .loop-test .taken) (c .before .before .before .before .before .before .before .before .before .origin .ensures) (c .before .before .before .before .before .before .scan-slot .ensures)) (c .if1 .left)
+
+returns-2 : tie.Need-returns-2 Inv-loop μ-loop
+returns-2 c = going-end (c .before .before .loop .inv) (inputs-over _ _ _ _ _ _ _ _ (c .before .loop-test .left)) (c .stopped .ensures)
+
+pub scan-inputs-spec : {M : Type 1} → statement M
+scan-inputs-spec =
+    tie.close
+    (tie.spec
+    Inv-loop
+    μ-loop
+    loop-holds
+    (λ c. search needs)
+    cast-origin
+    (λ c κs. search needs)
+    scan-slot-requires
+    (λ c. search needs)
+    (λ c. search needs)
+    returns
+    (λ c. search needs)
+    (λ c. search needs)
+    loop-again
+    (λ c κs. search needs)
+    (λ c. search needs)
+    (λ c. search needs)
+    returns-2)

@@ -1,0 +1,66 @@
+use mathlib.Core.Path.{refl}
+use Rattle.scan.proofs.Pairs.{pair-left, pair-right, pair-same, pair-found}
+use borrow.Author.Needs.{needs}
+use Rattle.scan.proofs.scan_pair.Statement.{statement}
+use Rattle.scan.proofs.scan_pair.Tie as tie
+use Rattle.scan.proofs.scan_pair.Reads as reads
+use Rattle.scan.proofs.scan_pair.Lts as lts
+use Rattle.check.proofs.same.Reads as same-reads
+use Rattle.normaliser.proofs.normalise.Reads as normalise-reads
+use Rattle.scan.proofs.stopped.Reads as stopped-reads
+
+returns : tie.Need-returns
+returns c = pair-left _ _ _ _ _ _ _ _ _ _ _ _ (c .before .before .before .before .before .before .normalise .ensures) _ (c .before .if1 .taken) (c .stopped .ensures)
+
+returns-2 : tie.Need-returns-2
+returns-2 c = pair-right _ _ _ _ _ _ _ _ _ _ _ _ (c .before .before .before .before .before .before .before .before .before .before .before .before .before .normalise .ensures) _ _ _ (c .before .before .before .before .before .before .normalise2 .ensures) (c .before .before .before .before .before .before .before .before .if1 .left) (c .before .if2 .taken) (c .stopped2 .ensures)
+
+part-same-end : tie.Need-part-same-end
+part-same-end c =
+    let a = c .before .before .before .before .before .before .before .before .before .before .before .before .before .normalise .ensures .small in
+    let b = c .before .before .before .before .before .before .before .before .before .before .before .before .before .normalise .ensures .same in
+    let p = c .before .before .before .before .before .before .before .before .before .before .before .before .before .before .before .before .before .before .before .before .pre .1 in
+    search needs
+
+part-same-end-2 : tie.Need-part-same-end-2
+part-same-end-2 c =
+    let a = c .before .before .before .before .before .before .before .before .normalise2 .ensures .small in
+    let b = c .before .before .before .before .before .before .before .before .normalise2 .ensures .same in
+    let p = c .before .before .before .before .before .before .before .before .before .before .before .before .before .before .before .before .before .before .before .before .before .before .pre .1 in
+    search needs
+
+returns-3 : tie.Need-returns-3
+returns-3 c = pair-same _ _ _ _ _ _ _ _ _ _ _ _ (c .before .before .before .before .before .before .before .before .before .before .before .before .before .before .before .before .before .before .before .normalise .ensures) _ _ _ (c .before .before .before .before .before .before .before .before .before .before .before .before .normalise2 .ensures) (c .before .before .before .before .before .before .before .before .before .before .before .before .before .before .if1 .left) (c .before .before .before .before .before .before .before .if2 .left) (c .before .before .same .ensures .0 (c .before .if3 .taken)) (c .stopped3 .ensures)
+
+returns-4 : tie.Need-returns-4
+returns-4 c = pair-found _ _ _ _ _ _ _ _ _ _ _ _ (c .before .before .before .before .before .before .before .before .before .before .before .before .before .before .before .before .before .before .normalise .ensures) _ _ _ (c .before .before .before .before .before .before .before .before .before .before .before .normalise2 .ensures) (c .before .before .before .before .before .before .before .before .before .before .before .before .before .if1 .left) (c .before .before .before .before .before .before .if2 .left) _ (c .if3 .left) (c .before .same .ensures .1) refl refl refl refl refl
+
+pub scan-pair-spec : {M : Type 1} → statement M
+scan-pair-spec =
+    tie.close
+    (tie.spec
+    (λ c κs. search needs)
+    (λ c. search needs)
+    (λ c κs. search needs)
+    (λ c. search needs)
+    returns
+    (λ c κs. search needs)
+    (λ c. search needs)
+    (λ c κs. search needs)
+    (λ c. search needs)
+    (λ c. search needs)
+    returns-2
+    (λ c. search needs)
+    (λ c. search needs)
+    part-same-end
+    (λ c. search needs)
+    (λ c. search needs)
+    part-same-end-2
+    (λ c κs. search needs)
+    (λ c κs. search needs)
+    (λ c. search needs)
+    (λ c. search needs)
+    returns-3
+    (λ c. search needs)
+    (λ c. search needs)
+    returns-4)

@@ -1,0 +1,395 @@
+// The scan: the overlaps of the rules in order, then the input equations, up to the first pair with two different normal forms.
+mod origins;
+
+ghost use mathlib.Core.Path.{_≡_};
+ghost use mathlib.Core.List.{List, [], _∷_, _++_};
+ghost use Prim.Native.Nat.{ℕ, _+_, _-_, _*_, _<_, _≤_};
+ghost use lib.ListN.{length, getD, take};
+ghost use Rattle.normaliser.specs.Stored.{Layout};
+ghost use Rattle.scan.specs.Walk.{Bare, PairWalk, Walks, Holds, at-place, at-positions, both-ways, with-earlier, of-rule, of-rules, SlotWalk, Given, of-inputs, Scanned};
+use overlaps::Met;
+
+// 0: a pair with two different normal forms, which stand in the buffers, m and n bytes long; 1: spent; 2: too large; 3: none so far; 4: bytes of
+// no term. `units` are left.
+pub struct Walk {
+    pub verdict: u8,
+    pub units: u32,
+    pub m: usize,
+    pub n: usize,
+    pub origin: [u8; 6],
+}
+
+fn stopped(verdict: u8, units: u32) -> Walk
+    ensures { λ r. ⌜ Bare verdict units r ⌝ }
+{
+    Walk {
+        verdict: verdict,
+        units: units,
+        m: 0,
+        n: 0,
+        origin: [0u8; 6],
+    }
+}
+
+// The two terms normalised, left then right, and compared.
+fn scan_pair(
+    rules: &[u8],
+    lens: &[u8],
+    count: usize,
+    table: &[u8],
+    left: &mut [u8],
+    m: usize,
+    right: &mut [u8],
+    n: usize,
+    origin: [u8; 6],
+    units: u32,
+) -> Walk
+    requires { ⌜ Layout (now table) (now rules) (now lens) count ⌝ }
+    requires { ⌜ (m ≤ 120) × (120 ≤ length (now left)) × (n ≤ 120) × (120 ≤ length (now right)) ⌝ }
+    ensures { λ r. ⌜ PairWalk (now (table .entry)) (now (rules .entry)) (now (lens .entry)) count (now (left .entry)) m (now (right .entry)) n (now (left .exit)) (now (right .exit)) origin units r ⌝ }
+{
+    let l = normaliser::normalise(left, m, table, rules, lens, count, units);
+    let u = units - l.paid;
+    if l.verdict != 0 {
+        return stopped(l.verdict, u);
+    }
+    let r = normaliser::normalise(right, n, table, rules, lens, count, u);
+    let v = u - r.paid;
+    if r.verdict != 0 {
+        return stopped(r.verdict, v);
+    }
+    let a = l.len;
+    let b = r.len;
+    if check::same(&left[0..a], &right[0..b]) {
+        return stopped(3, v);
+    }
+    Walk {
+        verdict: 0,
+        units: v,
+        m: a,
+        n: b,
+        origin: origin,
+    }
+}
+
+// One overlap: rule `inner` in rule `outer` at a position.
+fn scan_at(
+    rules: &[u8],
+    lens: &[u8],
+    numbers: &[u16],
+    count: usize,
+    table: &[u8],
+    inner: usize,
+    outer: usize,
+    position: usize,
+    left: &mut [u8],
+    right: &mut [u8],
+    units: u32,
+) -> Walk
+    requires { ⌜ Layout (now table) (now rules) (now lens) count × (count ≤ length (now numbers)) ⌝ }
+    requires { ⌜ (inner < count) × (outer < count) × (position < getD (now lens) (2 * outer) 0) ⌝ }
+    requires { ⌜ (120 ≤ length (now left)) × (120 ≤ length (now right)) ⌝ }
+    ensures { λ r. ⌜ Walks (Holds (now (table .entry)) (now (rules .entry)) (now (lens .entry)) (now (numbers .entry)) count) (at-place inner outer position) (now (table .entry)) (now (left .entry)) (now (right .entry)) (now (left .exit)) (now (right .exit)) units r ⌝ }
+{
+    match overlaps::overlap(rules, lens, table, inner, outer, position, left, right) {
+        Met::Nothing => stopped(3, units),
+        Met::TooLarge => stopped(2, units),
+        Met::Found(m, n) => {
+            let from = origins::origin(4, numbers[inner], numbers[outer], position);
+            scan_pair(rules, lens, count, table, left, m, right, n, from, units)
+        }
+    }
+}
+
+// Rule `inner` in rule `outer`, at the positions from `from` on.
+fn scan_positions(
+    rules: &[u8],
+    lens: &[u8],
+    numbers: &[u16],
+    count: usize,
+    table: &[u8],
+    inner: usize,
+    outer: usize,
+    from: usize,
+    left: &mut [u8],
+    right: &mut [u8],
+    units: u32,
+) -> Walk
+    requires { ⌜ Layout (now table) (now rules) (now lens) count × (count ≤ length (now numbers)) ⌝ }
+    requires { ⌜ (inner < count) × (outer < count) ⌝ }
+    requires { ⌜ (120 ≤ length (now left)) × (120 ≤ length (now right)) ⌝ }
+    ensures { λ r. ⌜ Walks (Holds (now (table .entry)) (now (rules .entry)) (now (lens .entry)) (now (numbers .entry)) count) (at-positions inner outer from) (now (table .entry)) (now (left .entry)) (now (right .entry)) (now (left .exit)) (now (right .exit)) units r ⌝ }
+{
+    let n = terms::wide(lens[2 * outer]);
+    let mut p = from;
+    let mut u = units;
+    while p < n {
+        let w = scan_at(
+            rules,
+            lens,
+            numbers,
+            count,
+            table,
+            inner,
+            outer,
+            p,
+            left,
+            right,
+            u,
+        );
+        if w.verdict != 3 {
+            return w;
+        }
+        u = w.units;
+        p += 1;
+    }
+    stopped(3, u)
+}
+
+// An earlier rule a in a later rule b, then b in a.
+fn scan_both(
+    rules: &[u8],
+    lens: &[u8],
+    numbers: &[u16],
+    count: usize,
+    table: &[u8],
+    a: usize,
+    b: usize,
+    left: &mut [u8],
+    right: &mut [u8],
+    units: u32,
+) -> Walk
+    requires { ⌜ Layout (now table) (now rules) (now lens) count × (count ≤ length (now numbers)) ⌝ }
+    requires { ⌜ (a < count) × (b < count) ⌝ }
+    requires { ⌜ (120 ≤ length (now left)) × (120 ≤ length (now right)) ⌝ }
+    ensures { λ r. ⌜ Walks (Holds (now (table .entry)) (now (rules .entry)) (now (lens .entry)) (now (numbers .entry)) count) (both-ways a b) (now (table .entry)) (now (left .entry)) (now (right .entry)) (now (left .exit)) (now (right .exit)) units r ⌝ }
+{
+    let w = scan_positions(
+        rules,
+        lens,
+        numbers,
+        count,
+        table,
+        a,
+        b,
+        0,
+        left,
+        right,
+        units,
+    );
+    if w.verdict != 3 {
+        return w;
+    }
+    scan_positions(
+        rules,
+        lens,
+        numbers,
+        count,
+        table,
+        b,
+        a,
+        0,
+        left,
+        right,
+        w.units,
+    )
+}
+
+// Each earlier rule with rule b.
+fn scan_with(
+    rules: &[u8],
+    lens: &[u8],
+    numbers: &[u16],
+    count: usize,
+    table: &[u8],
+    b: usize,
+    left: &mut [u8],
+    right: &mut [u8],
+    units: u32,
+) -> Walk
+    requires { ⌜ Layout (now table) (now rules) (now lens) count × (count ≤ length (now numbers)) ⌝ }
+    requires { ⌜ b < count ⌝ }
+    requires { ⌜ (120 ≤ length (now left)) × (120 ≤ length (now right)) ⌝ }
+    ensures { λ r. ⌜ Walks (Holds (now (table .entry)) (now (rules .entry)) (now (lens .entry)) (now (numbers .entry)) count) (with-earlier 0 b) (now (table .entry)) (now (left .entry)) (now (right .entry)) (now (left .exit)) (now (right .exit)) units r ⌝ }
+{
+    let mut a = 0;
+    let mut u = units;
+    while a < b {
+        let w = scan_both(rules, lens, numbers, count, table, a, b, left, right, u);
+        if w.verdict != 3 {
+            return w;
+        }
+        u = w.units;
+        a += 1;
+    }
+    stopped(3, u)
+}
+
+// Rule b with each earlier rule, then with itself, but not at the root.
+fn scan_rule(
+    rules: &[u8],
+    lens: &[u8],
+    numbers: &[u16],
+    count: usize,
+    table: &[u8],
+    b: usize,
+    left: &mut [u8],
+    right: &mut [u8],
+    units: u32,
+) -> Walk
+    requires { ⌜ Layout (now table) (now rules) (now lens) count × (count ≤ length (now numbers)) ⌝ }
+    requires { ⌜ b < count ⌝ }
+    requires { ⌜ (120 ≤ length (now left)) × (120 ≤ length (now right)) ⌝ }
+    ensures { λ r. ⌜ Walks (Holds (now (table .entry)) (now (rules .entry)) (now (lens .entry)) (now (numbers .entry)) count) (of-rule b) (now (table .entry)) (now (left .entry)) (now (right .entry)) (now (left .exit)) (now (right .exit)) units r ⌝ }
+{
+    let w = scan_with(rules, lens, numbers, count, table, b, left, right, units);
+    if w.verdict != 3 {
+        return w;
+    }
+    scan_positions(
+        rules,
+        lens,
+        numbers,
+        count,
+        table,
+        b,
+        b,
+        1,
+        left,
+        right,
+        w.units,
+    )
+}
+
+// All rules.
+fn scan_rules(
+    rules: &[u8],
+    lens: &[u8],
+    numbers: &[u16],
+    count: usize,
+    table: &[u8],
+    left: &mut [u8],
+    right: &mut [u8],
+    units: u32,
+) -> Walk
+    requires { ⌜ Layout (now table) (now rules) (now lens) count × (count ≤ length (now numbers)) ⌝ }
+    requires { ⌜ (120 ≤ length (now left)) × (120 ≤ length (now right)) ⌝ }
+    ensures { λ r. ⌜ Walks (Holds (now (table .entry)) (now (rules .entry)) (now (lens .entry)) (now (numbers .entry)) count) (of-rules 0) (now (table .entry)) (now (left .entry)) (now (right .entry)) (now (left .exit)) (now (right .exit)) units r ⌝ }
+{
+    let mut b = 0;
+    let mut u = units;
+    while b < count {
+        let w = scan_rule(rules, lens, numbers, count, table, b, left, right, u);
+        if w.verdict != 3 {
+            return w;
+        }
+        u = w.units;
+        b += 1;
+    }
+    stopped(3, u)
+}
+
+// The pair in slot k of a store, normalised and compared.
+pub fn scan_slot(
+    rules: &[u8],
+    lens: &[u8],
+    count: usize,
+    table: &[u8],
+    bytes: &[u8],
+    sizes: &[u8],
+    k: usize,
+    from: [u8; 6],
+    left: &mut [u8],
+    right: &mut [u8],
+    units: u32,
+) -> Walk
+    requires { ⌜ Layout (now table) (now rules) (now lens) count ⌝ }
+    requires { ⌜ Layout (now table) (now bytes) (now sizes) (k + 1) ⌝ }
+    requires { ⌜ (120 ≤ length (now left)) × (120 ≤ length (now right)) ⌝ }
+    ensures { λ r. ⌜ SlotWalk (now (table .entry)) (now (rules .entry)) (now (lens .entry)) count (now (bytes .entry)) (now (sizes .entry)) k (now (left .entry)) (now (right .entry)) (now (left .exit)) (now (right .exit)) from units r ⌝ }
+{
+    let m = store::get_left(bytes, sizes, k, left);
+    let n = store::get_right(bytes, sizes, k, right);
+    scan_pair(rules, lens, count, table, left, m, right, n, from, units)
+}
+
+// The input equations.
+fn scan_inputs(
+    rules: &[u8],
+    lens: &[u8],
+    count: usize,
+    table: &[u8],
+    inputs: &[u8],
+    sizes: &[u8],
+    number: usize,
+    left: &mut [u8],
+    right: &mut [u8],
+    units: u32,
+) -> Walk
+    requires { ⌜ Layout (now table) (now rules) (now lens) count ⌝ }
+    requires { ⌜ Layout (now table) (now inputs) (now sizes) number ⌝ }
+    requires { ⌜ (120 ≤ length (now left)) × (120 ≤ length (now right)) ⌝ }
+    ensures { λ r. ⌜ Walks (Given (now (table .entry)) (now (rules .entry)) (now (lens .entry)) count (now (inputs .entry)) (now (sizes .entry)) number) (of-inputs 0) (now (table .entry)) (now (left .entry)) (now (right .entry)) (now (left .exit)) (now (right .exit)) units r ⌝ }
+{
+    let mut k = 0;
+    let mut u = units;
+    while k < number {
+        let from = origins::origin(3, (k + 1) as u16, 0, 0);
+        let w = scan_slot(
+            rules,
+            lens,
+            count,
+            table,
+            inputs,
+            sizes,
+            k,
+            from,
+            left,
+            right,
+            u,
+        );
+        if w.verdict != 3 {
+            return w;
+        }
+        u = w.units;
+        k += 1;
+    }
+    stopped(3, u)
+}
+
+// All overlaps, then the input equations. Verdict 3: complete.
+pub fn scan(
+    rules: &[u8],
+    lens: &[u8],
+    numbers: &[u16],
+    count: usize,
+    table: &[u8],
+    inputs: &[u8],
+    sizes: &[u8],
+    number: usize,
+    left: &mut [u8],
+    right: &mut [u8],
+    units: u32,
+) -> Walk
+    requires { ⌜ Layout (now table) (now rules) (now lens) count × (count ≤ length (now numbers)) ⌝ }
+    requires { ⌜ Layout (now table) (now inputs) (now sizes) number ⌝ }
+    requires { ⌜ (120 ≤ length (now left)) × (120 ≤ length (now right)) ⌝ }
+    ensures { λ r. ⌜ Scanned (now (table .entry)) (now (rules .entry)) (now (lens .entry)) (now (numbers .entry)) count (now (inputs .entry)) (now (sizes .entry)) number (now (left .entry)) (now (right .entry)) (now (left .exit)) (now (right .exit)) units r ⌝ }
+{
+    let w = scan_rules(rules, lens, numbers, count, table, left, right, units);
+    if w.verdict != 3 {
+        return w;
+    }
+    scan_inputs(
+        rules,
+        lens,
+        count,
+        table,
+        inputs,
+        sizes,
+        number,
+        left,
+        right,
+        w.units,
+    )
+}
