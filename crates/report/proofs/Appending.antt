@@ -1,0 +1,54 @@
+-- Bytes put behind bytes. Assumes nothing.
+use mathlib.Core.Path.{_≡_, refl, sym, ap, ap₂, _∙_}
+use mathlib.Core.List.{List, [], _∷_, _++_, append-assoc}
+use Prim.Native.Nat.{ℕ, _+_, _≤_, _<_}
+use native.Mathlib.Omega.{arith}
+use native.Mathlib.Numerals.{add-one}
+use lib.ListN.{length, take, drop, set, length-append, take-append-drop}
+use lib.Seq.{length-take-le, take-at, drop-at, take-take, take-append-le, set-split}
+use Rattle.completion.specs.Calls.{written}
+use Rattle.store.specs.Slots.{patched}
+use Rattle.store.proofs.Patching.{patched-after}
+
+-- nothing put
+pub patched-none : (at : ℕ) (l : List ℕ) → patched at [] l ≡ l
+unfolding patched
+patched-none at l = let z : at + 0 ≡ at = omega arith in rw z (take-append-drop at l)
+
+module _ (at : ℕ) (xs ys l : List ℕ) (room : at + length xs ≤ length l) where
+  both : at + length xs + length ys ≡ at + length (xs ++ ys)
+  both = omega (arith, length-append xs ys)
+
+  joined : take at l ++ xs ++ (ys ++ drop (at + length xs + length ys) l) ≡ patched at (xs ++ ys) l
+  unfolding patched
+  joined = rw (← both) (simp append-assoc)
+
+  -- ys behind xs, which was put first
+  pub patched-behind : patched (at + length xs) ys (patched at xs l) ≡ patched at (xs ++ ys) l
+  unfolding patched
+  patched-behind =
+      let n : length (take at l ++ xs) ≡ at + length xs = length-append (take at l) xs ∙ omega (arith, length-take-le at l (omega arith)) in
+      let f : take (at + length xs) (patched at xs l) ≡ take at l ++ xs =
+      ap (take (at + length xs)) (sym (append-assoc (take at l) xs (drop (at + length xs) l))) ∙ take-at (take at l ++ xs) (drop (at + length xs) l) (at + length xs) n in
+      let g : drop (at + length xs + length ys) (patched at xs l) ≡ drop (at + length xs + length ys) l = patched-after at xs l (omega arith) (at + length xs + length ys) (omega arith) in
+      ap₂ (λ x y. x ++ (ys ++ y)) f g ∙ joined
+
+  -- xs before ys, which was put first
+  pub patched-before : patched at xs (patched (at + length xs) ys l) ≡ patched at (xs ++ ys) l
+  unfolding patched
+  patched-before =
+      let k : ℕ = at + length xs in
+      let n : length (take k l) ≡ k = length-take-le k l (omega arith) in
+      let f : take at (patched k ys l) ≡ take at l = take-append-le at (take k l) (ys ++ drop (k + length ys) l) (omega arith) ∙ take-take at k l (omega arith) in
+      let g : drop k (patched k ys l) ≡ ys ++ drop (k + length ys) l = drop-at (take k l) (ys ++ drop (k + length ys) l) k n in
+      ap₂ (λ x y. x ++ (xs ++ y)) f g ∙ sym (append-assoc (take at l) xs (ys ++ drop (k + length ys) l)) ∙ joined
+
+-- one byte
+pub patched-one : (at b : ℕ) (l : List ℕ) → at < length l → set l at b ≡ patched at (b ∷ []) l
+unfolding patched
+patched-one at b l h = rw (add-one at) (set-split l at b h)
+
+-- put at the front
+pub patched-front : (ys l : List ℕ) → patched 0 ys l ≡ written ys l
+unfolding patched written
+patched-front ys l = let z : 0 + length ys ≡ length ys = omega arith in rw z refl

@@ -1,0 +1,9 @@
+pub mod Appending
+pub mod Numbering
+pub mod Putting
+pub mod Listing
+pub mod Forms
+pub mod Lowness
+pub mod Whole
+pub mod Meaning
+pub mod Stated

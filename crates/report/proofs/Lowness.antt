@@ -1,0 +1,89 @@
+-- Bytes below 160: what the test says, and that terms with variables below 32 pass it. Assumes nothing.
+use mathlib.Core.Path.{_≡_, refl, sym, ap, _∙_}
+use mathlib.Core.Bool.{Bool, true, false, not, _&&_}
+use mathlib.Core.Logic.{⊎-elim}
+use mathlib.Core.List.{List, [], _∷_, _++_, List·Memᴰ, List·Memᴰ·not-nil, List·Memᴰ·cases-cons, List·Memᴰ·append-cases, append-assoc, append-nil}
+use Prim.Native.Nat.{ℕ, _+_, _≤_, _<_}
+use native.Mathlib.Omega.{arith}
+use native.Mathlib.Numerals.{add-one}
+use lib.Dec.{ltb}
+use lib.ListN.{length, getD, drop, drop-of-length-le}
+use lib.Seq.{drop-cons}
+use borrow.Author.Tests.{ltb-true, lt-ltb, le-ltb}
+use Rattle.terms.specs.Term.{Term, var, node, Terms, nil, cons, term-bytes, terms-bytes}
+use Rattle.terms.specs.Flat.{Wf, Wfs}
+use Rattle.unifier.specs.Names.{collect}
+use Rattle.orient.proofs.Placing.{names-few}
+use Rattle.report.specs.Fields.{low}
+
+low-cons : (b : ℕ) (l : List ℕ) → low (b ∷ l) ≡ ltb b 160 && low l
+unfolding low
+low-cons b l = refl
+
+low-more : (b : ℕ) (l : List ℕ) → b < 160 → low (b ∷ l) ≡ low l
+low-more b l h = low-cons b l ∙ rw (lt-ltb b 160 h) refl
+
+low-not : (b : ℕ) (l : List ℕ) → 160 ≤ b → low (b ∷ l) ≡ false
+low-not b l h = low-cons b l ∙ rw (le-ltb b 160 h) refl
+
+-- the loop: those passed are below 160
+pub record Looking (t : List ℕ) (i : ℕ) : Type 0 where
+  pub within : i ≤ length t
+  pub so-far : low (drop i t) ≡ low t
+
+pub looking-start : (t : List ℕ) → Looking t 0
+looking-start t = record { within = omega arith; so-far = refl }
+
+module _ (t : List ℕ) (i : ℕ) (h : Looking t i) where
+  here : i < length t → drop i t ≡ getD t i 0 ∷ drop (i + 1) t
+  here l = rw (add-one i) (drop-cons t i 0 l)
+
+  pub looking-more : i < length t → getD t i 0 < 160 → Looking t (i + 1)
+  looking-more l b = record { within = omega arith; so-far = sym (low-more (getD t i 0) (drop (i + 1) t) b) ∙ ap low (sym (here l)) ∙ h .so-far }
+
+  pub looking-no : i < length t → 160 ≤ getD t i 0 → false ≡ low t
+  looking-no l b = sym (low-not (getD t i 0) (drop (i + 1) t) b) ∙ ap low (sym (here l)) ∙ h .so-far
+
+  pub looking-end : length t ≤ i → true ≡ low t
+  unfolding low
+  looking-end l = ap low (sym (drop-of-length-le t l)) ∙ h .so-far
+
+-- the test's answer, turned round
+pub is-low : (l : List ℕ) (r : Bool) → r ≡ low l → not r ≡ false → low l ≡ true
+is-low l true e h = sym e
+is-low l false e h = absurd (let z : _≡_ {A = ℕ} 0 1 = cc in omega arith)
+
+pub is-high : (l : List ℕ) (r : Bool) → r ≡ low l → not r ≡ true → low l ≡ false
+is-high l true e h = absurd (let z : _≡_ {A = ℕ} 0 1 = cc in omega arith)
+is-high l false e h = sym e
+
+-- what the test says
+both : (a b : Bool) → (a && b) ≡ true → (a ≡ true) × (b ≡ true)
+both true b h = (refl, h)
+both false b h = (cc, cc)
+
+low-says : (l : List ℕ) → low l ≡ true → (b : ℕ) → List·Memᴰ b l → b < 160
+low-says [] h b i = absurd (List·Memᴰ·not-nil i)
+low-says (c ∷ l) h b i =
+    let k = both (ltb c 160) (low l) (sym (low-cons c l) ∙ h) in
+    ⊎-elim (λ e. let q : c < 160 = ltb-true c 160 (k .0) in rw e q) (λ j. low-says l (k .1) b j) (List·Memᴰ·cases-cons i)
+
+-- so their names are few
+pub low-names : (left right : List ℕ) → low left ≡ true → low right ≡ true → length (collect [] (left ++ right)) ≤ 127
+low-names left right h k = names-few (left ++ right) (λ b i. ⊎-elim (λ j. low-says left h b j) (λ j. low-says right k b j) (List·Memᴰ·append-cases left i))
+
+mutual
+  unfolding Wf term-bytes
+
+  low-term : (tab : List ℕ) (t : Term) → Wf 32 tab t → (l : List ℕ) → low (term-bytes t ++ l) ≡ low l
+  low-term tab (var x) w l = low-more (128 + x) l (let h : x < 32 = w in omega arith)
+  low-term tab (node f ts) w l = low-more f (terms-bytes ts ++ l) (let h : f < 16 = w .0 in omega arith) ∙ low-terms tab ts (w .2) l
+
+  low-terms : (tab : List ℕ) (ts : Terms) → Wfs 32 tab ts → (l : List ℕ) → low (terms-bytes ts ++ l) ≡ low l
+  low-terms tab nil w l = refl
+  low-terms tab (cons t ts) w l = ap low (append-assoc (term-bytes t) (terms-bytes ts) l) ∙ low-term tab t (w .0) (terms-bytes ts ++ l) ∙ low-terms tab ts (w .1) l
+
+-- A term's bytes pass it.
+pub term-low : (tab : List ℕ) (t : Term) → Wf 32 tab t → (l : List ℕ) → l ≡ term-bytes t → low l ≡ true
+unfolding low
+term-low tab t w l e = ap low (e ∙ sym (append-nil (term-bytes t))) ∙ low-term tab t w []

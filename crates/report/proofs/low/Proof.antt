@@ -1,0 +1,41 @@
+-- `low`: Those passed are below 160. Assumes nothing.
+use Prim.Native.Nat.{_-_}
+use lib.ListN.{length}
+use Rattle.report.proofs.Lowness.{Looking, looking-start, looking-more, looking-no, looking-end}
+use borrow.Author.Needs.{needs}
+use Rattle.report.proofs.low.Statement.{statement}
+use Rattle.report.proofs.low.Tie as tie
+use Rattle.report.proofs.low.Reads as reads
+use Rattle.report.proofs.low.Lts as lts
+
+abbrev Inv-loop : tie.InvT-loop
+Inv-loop t i₀ i = Looking t i
+
+abbrev μ-loop : tie.MeasureT-loop
+μ-loop t i₀ i = length t - i
+
+loop-holds : tie.Need-loop-holds Inv-loop μ-loop
+loop-holds c = looking-start _
+
+returns : tie.Need-returns Inv-loop μ-loop
+returns c = looking-no _ _ (c .before .before .before .loop .inv) (c .before .before .loop-test .taken) (c .if1 .taken)
+
+loop-again : tie.Need-loop-again Inv-loop μ-loop
+loop-again c = looking-more _ _ (c .before .before .before .loop .inv) (c .before .before .loop-test .taken) (c .if1 .left)
+
+returns-2 : tie.Need-returns-2 Inv-loop μ-loop
+returns-2 c = looking-end _ _ (c .before .loop .inv) (c .loop-test .left)
+
+pub low-spec : {M : Type 1} → statement M
+low-spec =
+    tie.close
+    (tie.spec
+    Inv-loop
+    μ-loop
+    loop-holds
+    (λ c. search needs)
+    returns
+    (λ c. search needs)
+    (λ c. search needs)
+    loop-again
+    returns-2)

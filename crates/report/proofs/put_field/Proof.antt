@@ -1,0 +1,17 @@
+-- `put_field`: A head, then the contents. Assumes nothing.
+use mathlib.Core.Path.{refl}
+use Rattle.report.proofs.Putting.{puts-field, puts-pasted}
+use borrow.Author.Needs.{needs}
+use Rattle.report.proofs.put_field.Statement.{statement}
+use Rattle.report.proofs.put_field.Tie as tie
+use Rattle.report.proofs.put_field.Reads as reads
+use Rattle.report.proofs.put_field.Lts as lts
+use Rattle.report.proofs.put_head.Reads as put-head-reads
+use Rattle.store.proofs.paste.Reads as paste-reads
+
+returns : tie.Need-returns
+returns c = puts-field _ _ _ _ _ _ _ _ _ (c .before .before .before .before .before .before .before .before .before .before .pre .0) (c .before .before .before .before .before .before .put-head .ensures) (puts-pasted _ _ _ _ _ (c .before .before .paste .ensures) refl)
+
+pub put-field-spec : {M : Type 1} → statement M
+put-field-spec =
+    tie.close (tie.spec (λ c κs. search needs) (λ c κs. search needs) (λ c. search needs) (λ c. search needs) returns)

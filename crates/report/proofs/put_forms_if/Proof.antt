@@ -1,0 +1,38 @@
+-- `put_forms_if`: Field 14 of two terms, or nothing. Assumes nothing.
+use Rattle.report.proofs.Whole.{forms-put, forms-none, left-high, right-high}
+use Rattle.report.proofs.Lowness.{low-names, is-low, is-high}
+use borrow.Author.Needs.{needs}
+use Rattle.report.proofs.put_forms_if.Statement.{statement}
+use Rattle.report.proofs.put_forms_if.Tie as tie
+use Rattle.report.proofs.put_forms_if.Reads as reads
+use Rattle.report.proofs.put_forms_if.Lts as lts
+use Rattle.report.proofs.low.Reads as low-reads
+use Rattle.report.proofs.put_forms.Reads as put-forms-reads
+
+returns : tie.Need-returns
+returns c = forms-none _ _ _ _ _ (c .if1 .taken)
+
+returns-2 : tie.Need-returns-2
+returns-2 c = left-high _ (c .before .before .before .before .before .before .args .left .now) (c .before .before .before .before .before .before .args .right .now) _ _ (c .before .before .if1 .left) (is-high _ _ (c .before .low .ensures) (c .if2 .taken))
+
+returns-3 : tie.Need-returns-3
+returns-3 c = right-high _ (c .before .before .before .before .before .before .before .before .args .left .now) (c .before .before .before .before .before .before .before .before .args .right .now) _ _ (c .before .before .before .before .if1 .left) (is-low _ _ (c .before .before .before .low .ensures) (c .before .before .if2 .left)) (is-high _ _ (c .before .low2 .ensures) (c .if3 .taken))
+
+put-forms-requires : tie.Need-put-forms-requires
+put-forms-requires c κs = (c .before .before .before .before .before .before .before .before .before .pre, low-names (c .before .before .before .before .before .before .before .before .before .args .left .now) (c .before .before .before .before .before .before .before .before .before .args .right .now) (is-low _ _ (c .before .before .before .before .low .ensures) (c .before .before .before .if2 .left)) (is-low _ _ (c .before .before .low2 .ensures) (c .before .if3 .left)))
+
+returns-4 : tie.Need-returns-4
+returns-4 c = forms-put _ (c .before .before .before .before .before .before .before .before .before .before .before .before .args .left .now) (c .before .before .before .before .before .before .before .before .before .before .before .before .args .right .now) _ _ _ _ (c .before .before .before .before .before .before .before .before .before .before .before .before .pre .1) (c .before .before .before .before .before .before .before .before .before .before .before .before .pre .2) (c .before .before .before .before .before .before .before .before .if1 .left) (is-low _ _ (c .before .before .before .before .before .before .before .low .ensures) (c .before .before .before .before .before .before .if2 .left)) (is-low _ _ (c .before .before .before .before .before .low2 .ensures) (c .before .before .before .before .if3 .left)) (c .before .before .put-forms .ensures)
+
+pub put-forms-if-spec : {M : Type 1} → statement M
+put-forms-if-spec =
+    tie.close
+    (tie.spec
+    returns
+    (λ c κs. search needs)
+    returns-2
+    (λ c κs. search needs)
+    returns-3
+    put-forms-requires
+    (λ c. search needs)
+    returns-4)

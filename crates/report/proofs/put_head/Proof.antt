@@ -1,0 +1,30 @@
+-- `put_head`: A tag and a length. Assumes nothing.
+use mathlib.Core.Path.{_∙_}
+use Rattle.report.proofs.Putting.{puts-head, puts-length}
+use lib.ListN.{length-set}
+use borrow.Author.Needs.{needs}
+use Rattle.report.proofs.put_head.Statement.{statement}
+use Rattle.report.proofs.put_head.Tie as tie
+use Rattle.report.proofs.put_head.Reads as reads
+use Rattle.report.proofs.put_head.Lts as lts
+use Rattle.report.proofs.put_number.Reads as put-number-reads
+
+put-number-requires : tie.Need-put-number-requires
+put-number-requires c κs = simp length-set (search needs)
+
+same-length : tie.Need-same-length
+same-length c = puts-length _ _ _ _ _ _ (simp length-set (search needs)) (c .before .before .put-number .ensures) ∙ simp length-set
+
+returns : tie.Need-returns
+returns c = puts-head _ _ _ _ _ _ (c .before .before .before .before .before .pre .0) (c .before .before .put-number .ensures)
+
+pub put-head-spec : {M : Type 1} → statement M
+put-head-spec =
+    tie.close
+    (tie.spec
+    (λ c. search needs)
+    (λ c. search needs)
+    (λ c. search needs)
+    put-number-requires
+    same-length
+    returns)

@@ -1,0 +1,16 @@
+-- `put_number_field`: A head, then a number. Assumes nothing.
+use Rattle.report.proofs.Putting.{puts-field}
+use borrow.Author.Needs.{needs}
+use Rattle.report.proofs.put_number_field.Statement.{statement}
+use Rattle.report.proofs.put_number_field.Tie as tie
+use Rattle.report.proofs.put_number_field.Reads as reads
+use Rattle.report.proofs.put_number_field.Lts as lts
+use Rattle.report.proofs.put_head.Reads as put-head-reads
+use Rattle.report.proofs.put_number.Reads as put-number-reads
+
+returns : tie.Need-returns
+returns c = puts-field _ _ _ _ _ _ _ _ _ (c .before .before .before .before .before .before .before .before .before .pre .0) (c .before .before .before .before .before .before .put-head .ensures) (c .before .before .put-number .ensures)
+
+pub put-number-field-spec : {M : Type 1} → statement M
+put-number-field-spec =
+    tie.close (tie.spec (λ c κs. search needs) (λ c κs. search needs) (λ c. search needs) returns)

@@ -1,0 +1,24 @@
+-- `put_part`: The part that was pasted. Assumes nothing.
+use Rattle.report.proofs.Putting.{puts-part}
+use borrow.Author.Needs.{needs}
+use Rattle.report.proofs.put_part.Statement.{statement}
+use Rattle.report.proofs.put_part.Tie as tie
+use Rattle.report.proofs.put_part.Reads as reads
+use Rattle.report.proofs.put_part.Lts as lts
+use Rattle.store.proofs.paste.Reads as paste-reads
+
+returns : tie.Need-returns
+returns c = puts-part _ (c .before .before .before .before .before .before .before .args .from .now) _ _ _ _ (c .before .before .before .before .before .before .before .pre .1) (c .before .before .paste .ensures)
+
+pub put-part-spec : {M : Type 1} → statement M
+put-part-spec =
+    tie.close
+    (tie.spec
+    (λ c. search needs)
+    (λ c. search needs)
+    (λ c. search needs)
+    (λ c. search needs)
+    (λ c κs. search needs)
+    (λ c. search needs)
+    (λ c. search needs)
+    returns)

@@ -1,0 +1,45 @@
+-- `put_rules`: One field a slot; what is still to put is the fields of the other slots. Assumes nothing.
+use Prim.Native.Nat.{_-_}
+use Rattle.report.proofs.Putting.{layout-one}
+use Rattle.report.proofs.Listing.{Listing, listing-start, listing-more, listing-end}
+use borrow.Author.Needs.{needs}
+use Rattle.report.proofs.put_rules.Statement.{statement}
+use Rattle.report.proofs.put_rules.Tie as tie
+use Rattle.report.proofs.put_rules.Reads as reads
+use Rattle.report.proofs.put_rules.Lts as lts
+use Rattle.report.proofs.put_rule.Reads as put-rule-reads
+
+abbrev Inv-loop : tie.InvT-loop
+Inv-loop out₀ at rules lens numbers count i₀ a₀ out i a = Listing rules lens numbers out₀ at count out i a
+
+abbrev μ-loop : tie.MeasureT-loop
+μ-loop out₀ at rules lens numbers count i₀ a₀ out i a = count - i
+
+loop-holds : tie.Need-loop-holds Inv-loop μ-loop
+loop-holds c = listing-start _ _ _ _ _ _
+
+put-rule-requires : tie.Need-put-rule-requires Inv-loop μ-loop
+put-rule-requires c κs = (search needs, (layout-one _ _ _ _ (c .before .before .before .before .before .before .before .pre .1 .0) (search needs), search needs))
+
+loop-again : tie.Need-loop-again Inv-loop μ-loop
+loop-again c = listing-more _ _ _ _ _ _ (c .before .before .before .before .before .before .before .before .before .before .pre .0) _ _ _ (c .before .before .before .before .before .loop .inv) _ _ (c .before .before .before .before .loop-test .taken) (c .before .before .put-rule .ensures)
+
+same-length : tie.Need-same-length Inv-loop μ-loop
+same-length c = c .before .loop .inv .same
+
+returns : tie.Need-returns Inv-loop μ-loop
+returns c = listing-end _ _ _ _ _ _ (c .before .before .before .before .before .before .pre .0) _ _ _ (c .before .loop .inv) (c .loop-test .left)
+
+pub put-rules-spec : {M : Type 1} → statement M
+put-rules-spec =
+    tie.close
+    (tie.spec
+    Inv-loop
+    μ-loop
+    loop-holds
+    put-rule-requires
+    (λ c. search needs)
+    (λ c. search needs)
+    loop-again
+    same-length
+    returns)
