@@ -1,0 +1,164 @@
+-- The call complete, from what its parts promise: ends, the run's result, an accepted problem, and the three answers. Assumes nothing.
+use mathlib.Core.Path.{_≡_, refl, sym, ap, _∙_, subst}
+use mathlib.Core.Bool.{Bool, true, false}
+use mathlib.Core.List.{List, _++_}
+use Prim.Native.Nat.{ℕ, _+_, _-_, _<_, _≤_}
+use native.Mathlib.Omega.{arith}
+use lib.Dec.{ltb}
+use lib.ListN.{length, take, drop}
+use borrow.Author.Tests.{lt-ltb, ltb-true}
+use Rattle.terms.specs.Term.{Pair}
+use Rattle.order.specs.Walk.{rank}
+use Rattle.problem.specs.Problem.{Reading, ok, refused, _>>=_, refuse-if, rank-of, Problem, parse}
+use Rattle.problem.specs.Parser.{symbols-of, Table, ParsedAt}
+use Rattle.problem.proofs.Scanned.{rank-is}
+use Rattle.rewriting.specs.Rewrite.{End, complete, neither-above, spent, too-large, rules-full, log-full}
+use Rattle.completion.specs.Turn.{Finished, run}
+use Rattle.completion.specs.Calls.{end-number, result-bytes, enough, complete-call, written, after-complete}
+use Rattle.report.specs.Fields.{Writes}
+use Rattle.report.specs.Report.{OfState, Ended, Forms}
+use Rattle.completion.proofs.Accepts.{accepts}
+use Rattle.inputs.specs.Inputs.{Filled}
+use Rattle.inputs.proofs.Fields.{parsed-few}
+use Rattle.run.specs.Turned.{stop-code, Shown, Given, RanIs, Runs}
+use Rattle.run.specs.declared.Ran.{Ran}
+use Rattle.complete.specs.Answer.{told, counted, Delivery, EndIs, WritesRun, WritesProblem}
+use Rattle.complete.specs.declared.Completed.{Completed}
+use Rattle.complete.specs.declared.Completed.the-variants.{Written, Refused}
+use Rattle.complete.proofs.Delivering.{delivery}
+
+-- `end_number`
+pub end-complete : (v : ℕ) → v ≡ 3 → EndIs v 0
+unfolding stop-code end-number
+end-complete v z complete q = refl
+end-complete v z (neither-above e) q = absurd (omega arith)
+end-complete v z spent q = absurd (omega arith)
+end-complete v z too-large q = absurd (omega arith)
+end-complete v z rules-full q = absurd (omega arith)
+end-complete v z log-full q = absurd (omega arith)
+
+pub end-neither : (v : ℕ) → v ≡ 6 → EndIs v 20
+unfolding stop-code end-number
+end-neither v z complete q = absurd (omega arith)
+end-neither v z (neither-above e) q = refl
+end-neither v z spent q = absurd (omega arith)
+end-neither v z too-large q = absurd (omega arith)
+end-neither v z rules-full q = absurd (omega arith)
+end-neither v z log-full q = absurd (omega arith)
+
+pub end-spent : (v : ℕ) → v ≡ 1 → EndIs v 21
+unfolding stop-code end-number
+end-spent v z complete q = absurd (omega arith)
+end-spent v z (neither-above e) q = absurd (omega arith)
+end-spent v z spent q = refl
+end-spent v z too-large q = absurd (omega arith)
+end-spent v z rules-full q = absurd (omega arith)
+end-spent v z log-full q = absurd (omega arith)
+
+pub end-large : (v : ℕ) → v ≡ 2 → EndIs v 22
+unfolding stop-code end-number
+end-large v z complete q = absurd (omega arith)
+end-large v z (neither-above e) q = absurd (omega arith)
+end-large v z spent q = absurd (omega arith)
+end-large v z too-large q = refl
+end-large v z rules-full q = absurd (omega arith)
+end-large v z log-full q = absurd (omega arith)
+
+pub end-full : (v : ℕ) → (v ≡ 3 → ⊥) → (v ≡ 6 → ⊥) → (v ≡ 1 → ⊥) → (v ≡ 2 → ⊥) → EndIs v 23
+unfolding stop-code end-number
+end-full v a b c d complete q = absurd (a q)
+end-full v a b c d (neither-above e) q = absurd (b q)
+end-full v a b c d spent q = absurd (c q)
+end-full v a b c d too-large q = absurd (d q)
+end-full v a b c d rules-full q = refl
+end-full v a b c d log-full q = refl
+
+minus-zero : (n : ℕ) → n - 0 ≡ n
+minus-zero n = omega arith
+
+-- `write`
+pub write-run : (o : Ran) (end : ℕ) (left right before after : List ℕ) (r : ℕ) → EndIs (o .verdict) end → left ≡ take (o .m - 0) (o .left) → right ≡ take (o .n - 0) (o .right) →
+    OfState (o .state) end (o .paid) left right before after r → WritesRun o before after r
+write-run o end left right before after r E ql qr W tab f I =
+    W tab f (I .state)
+    (record {
+      end-is = E (f .end) (I .end);
+      units-are = I .paid;
+      forms = λ e q.
+          let S = I .forms e q in
+          record {
+            left-wf = S .left-wf;
+            right-wf = S .right-wf;
+            left-bytes = ql ∙ ap (λ k. take k (o .left)) (minus-zero (o .m)) ∙ S .left-bytes;
+            right-bytes = qr ∙ ap (λ k. take k (o .right)) (minus-zero (o .n)) ∙ S .right-bytes;
+          };
+    })
+
+-- `accepted`
+ranks-are : (tab : List ℕ) → Table tab → rank-of (symbols-of tab) ≡ rank tab
+unfolding rank
+ranks-are tab T = λ i f. rank-is tab T f i
+
+pub accepted-run : (l : List ℕ) (e b n : ℕ) (slots lens slots′ lens′ before after : List ℕ) (o : Ran) (r : ℕ) → Filled l e n slots lens slots′ lens′ →
+    Runs (take (e - 3) (drop 3 l)) slots′ lens′ n b o → WritesRun o before after r → WritesProblem l e b n before after r
+accepted-run l e b n slots lens slots′ lens′ before after o r F R W P A =
+    let G : Given (take (e - 3) (drop 3 l)) slots′ lens′ n P =
+    record { ranks = ap rank-of (A .symbols-are) ∙ ranks-are (take (e - 3) (drop 3 l)) (A .table .table); stored = F .stored b P A; counted = sym (A .number) } in
+    W (take (e - 3) (drop 3 l)) (run P) (R .answer P G (sym (A .budget-is)))
+
+pub record Needs (l : List ℕ) (e b n : ℕ) : Type 0 where
+  pub low : 3 ≤ e
+  pub within : e ≤ length l
+  pub small : length l ≤ 65536
+  pub few : n ≤ 16
+  pub budget : b ≤ 1000000
+
+pub accepted-needs : (l : List ℕ) (e b n : ℕ) → ((P : Problem) × ParsedAt l e b n P) → Needs l e b n
+accepted-needs l e b n (P, A) =
+    record {
+      low = omega (arith, A .table .low);
+      within = A .table .within;
+      small = omega (arith, A .small);
+      few = parsed-few l e b n P A;
+      budget = omega (arith, A .budget-is, accepts l P (A .is) .budget-few);
+    }
+
+-- `complete`
+pub record Answered (problem before after : List ℕ) (r : Completed) : Type 0 where
+  pub answer : told r ≡ counted (complete-call problem (length before))
+  pub bytes : after ≡ after-complete (complete-call problem (length before)) before
+
+module _ (problem before : List ℕ) where
+  short-false : 16_384 ≤ length before → ltb (length before) 16_384 ≡ false
+  short-false h = go (ltb (length before) 16_384) refl
+    where
+      go : (b : Bool) → ltb (length before) 16_384 ≡ b → b ≡ false
+      go false e = refl
+      go true e = absurd (omega (arith, ltb-true (length before) 16_384 e))
+
+  refused-short : length before < 16_384 → complete-call problem (length before) ≡ refused 1 0
+  unfolding complete-call enough refuse-if _>>=_
+  refused-short h = ap (λ b. refuse-if b 1 0 >>= λ _. parse problem >>= λ P. ok (result-bytes (run P))) (lt-ltb (length before) 16_384 h)
+
+  past-enough : 16_384 ≤ length before → complete-call problem (length before) ≡ (parse problem >>= λ P. ok (result-bytes (run P)))
+  unfolding complete-call enough refuse-if _>>=_
+  past-enough h = ap (λ b. refuse-if b 1 0 >>= λ _. parse problem >>= λ P. ok (result-bytes (run P))) (short-false h)
+
+  answered : (after : List ℕ) (r : Completed) (c : Reading (List ℕ)) → complete-call problem (length before) ≡ c → told r ≡ counted c → after ≡ after-complete c before → Answered problem before after r
+  answered after r c e a b = record { answer = a ∙ ap counted (sym e); bytes = b ∙ ap (λ x. after-complete x before) (sym e) }
+
+  pub answers-short : length before < 16_384 → Answered problem before before (Refused 1 0)
+  unfolding told counted after-complete
+  answers-short h = answered before (Refused 1 0) (refused 1 0) (refused-short h) refl refl
+
+  pub answers-refused : 16_384 ≤ length before → (n at : ℕ) → parse problem ≡ refused n at → Answered problem before before (Refused n at)
+  unfolding told counted after-complete _>>=_
+  answers-refused h n at e = answered before (Refused n at) (refused n at) (past-enough h ∙ ap (λ x. x >>= λ P. ok (result-bytes (run P))) e) refl refl
+
+  pub answers-written : 16_384 ≤ length before → (P : Problem) → parse problem ≡ ok P → (after : List ℕ) (r : ℕ) → Writes before (result-bytes (run P)) after r → Answered problem before after (Written r)
+  unfolding told counted after-complete _>>=_
+  answers-written h P e after r w =
+      answered after (Written r) (ok (result-bytes (run P))) (past-enough h ∙ ap (λ x. x >>= λ P. ok (result-bytes (run P))) e) (ap ok (w .count)) (w .bytes)
+
+  pub delivers : (after : List ℕ) (r : Completed) → Answered problem before after r → Delivery problem after r
+  delivers after r a = delivery problem before after r (a .answer) (a .bytes)

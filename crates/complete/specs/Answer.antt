@@ -1,0 +1,42 @@
+-- Document 01, "The result and settle": what `complete` answers, and demand 3 of the bytes it takes and leaves. Assumes nothing.
+use mathlib.Core.Path.{_≡_}
+use mathlib.Core.List.{List}
+use Prim.Native.Nat.{ℕ}
+use lib.ListN.{length, take, drop}
+use Rattle.problem.specs.Problem.{Reading, ok, refused, Problem}
+use Rattle.problem.specs.Parser.{ParsedAt}
+use Rattle.rewriting.specs.Rewrite.{End}
+use Rattle.completion.specs.Turn.{Finished, run}
+use Rattle.completion.specs.Calls.{end-number, result-bytes}
+use Rattle.completion.specs.Promise.{Delivers}
+use Rattle.report.specs.Fields.{Writes}
+use Rattle.run.specs.Turned.{stop-code, RanIs}
+use Rattle.run.specs.declared.Ran.{Ran}
+use Rattle.complete.specs.declared.Completed.{Completed}
+use Rattle.complete.specs.declared.Completed.the-variants.{Written, Refused}
+
+-- "Complete and unify return the count of result bytes"; a refusal has its number and its place.
+unfoldable pub told : Completed → Reading ℕ
+told (Written count) = ok count
+told (Refused number place) = refused number place
+
+unfoldable pub counted : Reading (List ℕ) → Reading ℕ
+counted (ok bytes) = ok (length bytes)
+counted (refused number place) = refused number place
+
+-- "a promise of complete about the bytes it takes and leaves": the written result delivers
+unfoldable pub Delivery : List ℕ → List ℕ → Completed → Type 0
+Delivery problem result (Written count) = Delivers problem (take count result)
+Delivery problem result (Refused number place) = Unit {0}
+
+-- `end_number`
+abbrev pub EndIs : ℕ → ℕ → Type 0
+EndIs verdict r = (e : End) → verdict ≡ stop-code e → r ≡ end-number e
+
+-- `write`
+abbrev pub WritesRun : Ran → List ℕ → List ℕ → ℕ → Type 0
+WritesRun ran before after r = (tab : List ℕ) (f : Finished) → RanIs tab f ran → Writes before (result-bytes f) after r
+
+-- `accepted`
+abbrev pub WritesProblem : List ℕ → ℕ → ℕ → ℕ → List ℕ → List ℕ → ℕ → Type 0
+WritesProblem l e b n before after r = (P : Problem) → ParsedAt l e b n P → Writes before (result-bytes (run P)) after r

@@ -1,0 +1,89 @@
+// The call complete: from a problem's bytes to a result's.
+ghost use mathlib.Core.Path.{_≡_};
+ghost use Prim.Native.Nat.{ℕ, _+_, _*_, _<_, _≤_};
+ghost use lib.ListN.{length};
+ghost use Rattle.problem.specs.Problem.{Problem};
+ghost use Rattle.completion.specs.Calls.{complete-call, after-complete};
+ghost use Rattle.engine.specs.State.{Fine};
+ghost use Rattle.complete.specs.Answer.{told, counted, Delivery, EndIs, WritesRun, WritesProblem};
+
+pub enum Completed {
+    // The count of result bytes.
+    Written(usize),
+    // Refused, with the number and the place.
+    Refused { number: u8, place: usize },
+}
+
+// The end's number in the result, for the verdict of a run.
+fn end_number(verdict: u8) -> u8
+    ensures { λ r. ⌜ EndIs verdict r ⌝ }
+{
+    if verdict == 3 {
+        return 0;
+    }
+    if verdict == 6 {
+        return 20;
+    }
+    if verdict == 1 {
+        return 21;
+    }
+    if verdict == 2 {
+        return 22;
+    }
+    23
+}
+
+// The result of a run, at the front of the lent bytes: the count of its bytes.
+fn write(ran: run::Ran, result: &mut [u8]) -> usize
+    requires { ⌜ Fine (ran .state) × (ran .m ≤ 120) × (ran .n ≤ 120) ⌝ }
+    requires { ⌜ 13726 ≤ length (now result) ⌝ }
+    ensures { λ r. ⌜ WritesRun ran (now (result .entry)) (now (result .exit)) r ⌝ }
+{
+    let left = ran.left;
+    let right = ran.right;
+    let m = ran.m;
+    let n = ran.n;
+    let end = end_number(ran.verdict);
+    let state = ran.state;
+    report::of_state(state, end, ran.paid, &left[0..m], &right[0..n], result)
+}
+
+// An accepted problem, whose table ends at `behind`: its run, and the result's bytes.
+fn accepted(problem: &[u8], behind: usize, count: usize, budget: usize, result: &mut [u8]) -> usize
+    requires { ⌜ (3 ≤ behind) × (behind ≤ length (now problem)) × (length (now problem) ≤ 65536) ⌝ }
+    requires { ⌜ (count ≤ 16) × (budget ≤ 1000000) × (13726 ≤ length (now result)) ⌝ }
+    ensures { λ r. ⌜ WritesProblem (now (problem .entry)) behind budget count (now (result .entry)) (now (result .exit)) r ⌝ }
+{
+    let mut slots = [0u8; 3840];
+    let mut lens = [0u8; 32];
+    inputs::fill(problem, behind, count, &mut slots, &mut lens);
+    let ran = run::run(&slots, &lens, count, &problem[3..behind], budget as u32);
+    write(ran, result)
+}
+
+// Completion of the problem's equations. For every input the answer and the lent result bytes are the definition's (refused: every byte as it was;
+// accepted: the result's fields, then what stood there). And demand 3: where field 10 of what is written holds 0, the rules that its fields 12 hold
+// settle the problem's equations.
+pub fn complete(problem: &[u8], result: &mut [u8]) -> Completed
+    ensures answer { λ r. ⌜ told r ≡ counted (complete-call (now (problem .entry)) (length (now (result .entry)))) ⌝ }
+    ensures bytes { λ r. ⌜ now (result .exit) ≡ after-complete (complete-call (now (problem .entry)) (length (now (result .entry)))) (now (result .entry)) ⌝ }
+    ensures delivery { λ r. ⌜ Delivery (now (problem .entry)) (now (result .exit)) r ⌝ }
+{
+    if result.len() < 16384 {
+        return Completed::Refused {
+            number: 1,
+            place: 0,
+        };
+    }
+    match problem::parse(problem) {
+        problem::Input::Refused { number, place } => Completed::Refused { number, place },
+        problem::Input::Fine {
+            table_end,
+            budget,
+            count,
+        } => {
+            let n = accepted(problem, table_end, count, budget, result);
+            Completed::Written(n)
+        }
+    }
+}
