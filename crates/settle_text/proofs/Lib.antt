@@ -1,0 +1,5 @@
+pub mod Decimal
+pub mod Hex
+pub mod Lining
+pub mod Settling
+pub mod Printing

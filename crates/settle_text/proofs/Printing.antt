@@ -1,0 +1,56 @@
+-- What settle prints, from the answer and the bytes of `complete`. Assumes nothing.
+use mathlib.Core.Path.{_≡_, refl, sym, ap, _∙_, subst}
+use mathlib.Core.List.{List, _++_}
+use Prim.Native.Nat.{ℕ, _-_, _≤_}
+use native.Mathlib.Omega.{arith}
+use lib.ListN.{length, take, drop}
+use lib.Seq.{take-at}
+use Rattle.problem.specs.Problem.{Reading, ok, refused}
+use Rattle.problem.proofs.Reading.{no-ok, ok-injective}
+use Rattle.completion.specs.Calls.{complete-call, written, after-complete}
+use Rattle.completion.specs.Settle.{settle}
+use Rattle.completion.proofs.Capacity.{complete-writes}
+use Rattle.report.specs.Fields.{Writes}
+use Rattle.complete.specs.Answer.{told, counted}
+use Rattle.complete.specs.declared.Completed.{Completed}
+use Rattle.complete.specs.declared.Completed.the-variants.{Written, Refused}
+use Rattle.settle_text.specs.Text.{Lines, Refusal}
+use Rattle.settle_text.proofs.Settling.{settle-lines, settle-refused}
+
+-- the result stands in the first n bytes of the buffer, and is short
+pub record Got (problem : List ℕ) (buffer n : ℕ) (after : List ℕ) : Type 0 where
+  pub is : complete-call problem buffer ≡ ok (take (n - 0) after)
+  pub few : n ≤ 13_715
+
+front : (bytes before : List ℕ) (n : ℕ) → n ≡ length bytes → take (n - 0) (written bytes before) ≡ bytes
+unfolding written
+front bytes before n e = take-at bytes (drop (length bytes) before) (n - 0) (omega arith)
+
+pub got : (problem before after : List ℕ) (r : Completed) (n buffer : ℕ) → r ≡ Written n → told r ≡ counted (complete-call problem buffer) →
+    after ≡ after-complete (complete-call problem buffer) before → Got problem buffer n after
+unfolding told counted after-complete
+got problem before after r n buffer w a b = go (complete-call problem buffer) refl (sym (ap told w) ∙ a) b
+  where
+    go : (c : Reading (List ℕ)) → complete-call problem buffer ≡ c → ok n ≡ counted c → after ≡ after-complete c before → Got problem buffer n after
+    go (refused k at) e a b = absurd (no-ok (sym a))
+    go (ok bytes) e a b =
+        let q : n ≡ length bytes = ok-injective a in
+        let f : take (n - 0) after ≡ bytes = ap (take (n - 0)) b ∙ front bytes before n q in
+        record { is = e ∙ ap ok (sym f); few = omega (arith, q, complete-writes problem buffer bytes e .few) }
+
+pub prints-lines : (problem after : List ℕ) (n buffer : ℕ) (out out′ : List ℕ) (r : ℕ) → Got problem buffer n after → 16_384 ≤ buffer → Lines (take (n - 0) after) out out′ r → Writes out (settle problem) out′ r
+prints-lines problem after n buffer out out′ r G big h = settle-lines problem buffer big (take (n - 0) after) out out′ r (G .is) h
+
+pub prints-refused : (problem : List ℕ) (c : Completed) (n n′ at buffer : ℕ) (out out′ : List ℕ) (r : ℕ) → c ≡ Refused n at →
+    told c ≡ counted (complete-call problem buffer) → n′ ≡ n → 16_384 ≤ buffer → Refusal n′ at out out′ r → Writes out (settle problem) out′ r
+unfolding told counted after-complete
+prints-refused problem c n n′ at buffer out out′ r w a wide big h = go (complete-call problem buffer) refl (sym (ap told w) ∙ a)
+  where
+    go : (d : Reading (List ℕ)) → complete-call problem buffer ≡ d → refused n at ≡ counted d → Writes out (settle problem) out′ r
+    go (ok bytes) e a = absurd (no-ok a)
+    go (refused k place) e a =
+        let q : _≡_ {A = Reading ℕ} (refused n at) (refused k place) = a in
+        let x : k ≡ n = cc in
+        let y : place ≡ at = cc in
+        let z : complete-call problem buffer ≡ refused n at = e ∙ ap (λ u. refused u place) x ∙ ap (λ u. refused n u) y in
+        settle-refused problem buffer big n at out out′ r z (subst (λ u. Refusal u at out out′ r) wide h)

@@ -1,0 +1,13 @@
+-- `put_byte`: One byte. Assumes nothing.
+use Rattle.settle_text.proofs.Hex.{puts-byte}
+use borrow.Author.Needs.{needs}
+use Rattle.settle_text.proofs.put_byte.Statement.{statement}
+use Rattle.settle_text.proofs.put_byte.Tie as tie
+use Rattle.settle_text.proofs.put_byte.Reads as reads
+use Rattle.settle_text.proofs.put_byte.Lts as lts
+
+returns : tie.Need-returns
+returns c = puts-byte _ _ _ (c .pre)
+
+pub put-byte-spec : {M : Type 1} → statement M
+put-byte-spec = tie.close (tie.spec (λ c. search needs) (λ c. search needs) (λ c. search needs) returns)

@@ -1,0 +1,23 @@
+-- `put_hex`: Two digits. Assumes nothing.
+use Rattle.settle_text.proofs.Hex.{puts-hex}
+use borrow.Author.Needs.{needs}
+use Rattle.settle_text.proofs.put_hex.Statement.{statement}
+use Rattle.settle_text.proofs.put_hex.Tie as tie
+use Rattle.settle_text.proofs.put_hex.Reads as reads
+use Rattle.settle_text.proofs.put_hex.Lts as lts
+use Rattle.settle_text.proofs.digit.Reads as digit-reads
+use Rattle.settle_text.proofs.put_byte.Reads as put-byte-reads
+
+returns : tie.Need-returns
+returns c = puts-hex _ _ _ _ _ _ _ _ _ (c .before .before .before .before .before .before .before .before .before .before .before .pre) (c .before .before .before .before .before .before .before .before .digit .ensures) (c .before .before .before .digit2 .ensures) (c .before .before .before .before .before .before .before .put-byte .ensures) (c .before .before .put-byte2 .ensures)
+
+pub put-hex-spec : {M : Type 1} → statement M
+put-hex-spec =
+    tie.close
+    (tie.spec
+    (λ c κs. search needs)
+    (λ c κs. search needs)
+    (λ c κs. search needs)
+    (λ c κs. search needs)
+    (λ c. search needs)
+    returns)

@@ -1,0 +1,43 @@
+-- `put_hexes`: Two digits a byte; what is still to put is the bytes that follow. Assumes nothing.
+use Prim.Native.Nat.{_-_}
+use lib.ListN.{length}
+use Rattle.settle_text.proofs.Hex.{Hexing, hexing-start, hexing-more, hexing-end}
+use borrow.Author.Needs.{needs}
+use Rattle.settle_text.proofs.put_hexes.Statement.{statement}
+use Rattle.settle_text.proofs.put_hexes.Tie as tie
+use Rattle.settle_text.proofs.put_hexes.Reads as reads
+use Rattle.settle_text.proofs.put_hexes.Lts as lts
+use Rattle.settle_text.proofs.put_hex.Reads as put-hex-reads
+
+abbrev Inv-loop : tie.InvT-loop
+Inv-loop out₀ at from i₀ a₀ out i a = Hexing from out₀ at out i a
+
+abbrev μ-loop : tie.MeasureT-loop
+μ-loop out₀ at from i₀ a₀ out i a = length from - i
+
+loop-holds : tie.Need-loop-holds Inv-loop μ-loop
+loop-holds c = hexing-start _ _ _
+
+loop-again : tie.Need-loop-again Inv-loop μ-loop
+loop-again c = hexing-more _ _ _ (c .before .before .before .before .before .before .before .before .before .pre) _ _ _ (c .before .before .before .before .before .before .loop .inv) _ _ (c .before .before .before .before .before .loop-test .taken) (c .before .before .put-hex .ensures)
+
+same-length : tie.Need-same-length Inv-loop μ-loop
+same-length c = c .before .loop .inv .same
+
+returns : tie.Need-returns Inv-loop μ-loop
+returns c = hexing-end _ _ _ (c .before .before .before .before .pre) _ _ _ (c .before .loop .inv) (c .loop-test .left)
+
+pub put-hexes-spec : {M : Type 1} → statement M
+put-hexes-spec =
+    tie.close
+    (tie.spec
+    Inv-loop
+    μ-loop
+    loop-holds
+    (λ c. search needs)
+    (λ c κs. search needs)
+    (λ c. search needs)
+    (λ c. search needs)
+    loop-again
+    same-length
+    returns)
