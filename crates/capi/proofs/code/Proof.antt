@@ -1,0 +1,15 @@
+-- `capi::code` meets its contract. Assumes nothing.
+use mathlib.Core.Path.{ap}
+use Prim.Native.Nat.{ℕ, _+_, _*_, _%_}
+use Rattle.capi.specs.Codes.{code}
+use borrow.Author.Needs.{needs}
+use Rattle.capi.proofs.code.Statement.{statement}
+use Rattle.capi.proofs.code.Tie as tie
+
+returns : tie.Need-returns
+unfolding code
+returns c = ap (λ (n : ℕ). c .before .args .kind * 281_474_976_710_656 + n * 4_294_967_296 + c .before .args .value % 4_294_967_296) (c .wide .ensures .0)
+
+pub code-spec : {M : Type 1} → statement M
+code-spec =
+    tie.close (tie.spec (λ c. search needs) (λ c κs. search needs) (λ c. search needs) (λ c. search needs) (λ c. search needs) returns)

@@ -1,0 +1,45 @@
+-- `capi::vb_unify` meets its contract. Assumes nothing.
+use mathlib.Core.Path.{ap, _∙_}
+use Rattle.calls.specs.Answers.{unified-told}
+use Rattle.capi.specs.Codes.{unify-code}
+use borrow.Author.Needs.{needs}
+use Rattle.capi.proofs.vb_unify.Statement.{statement}
+use Rattle.capi.proofs.vb_unify.Tie as tie
+
+returns : tie.Need-returns
+unfolding unified-told unify-code
+returns c = (c .code .ensures ∙ ap unify-code (rw (c .before .before .n .given .1) at (c .before .before .before .before .before .before .unify .ensures .told)), c .before .before .before .before .before .before .unify .ensures .leaves)
+
+returns-2 : tie.Need-returns-2
+unfolding unified-told unify-code
+returns-2 c = (c .code2 .ensures ∙ ap unify-code (rw (c .before .enum-told .given .1) at (c .before .before .before .before .before .unify .ensures .told)), c .before .before .before .before .before .unify .ensures .leaves)
+
+returns-3 : tie.Need-returns-3
+unfolding unified-told unify-code
+returns-3 c = (c .code3 .ensures ∙ ap unify-code (rw (c .before .enum-told2 .given .1) at (c .before .before .before .before .before .unify .ensures .told)), c .before .before .before .before .before .unify .ensures .leaves)
+
+returns-4 : tie.Need-returns-4
+unfolding unified-told unify-code
+returns-4 c = (c .code4 .ensures ∙ ap unify-code (rw (c .before .before .number .given .1) at (c .before .before .before .before .before .before .unify .ensures .told)), c .before .before .before .before .before .before .unify .ensures .leaves)
+
+pub vb-unify-spec : {M : Type 1} → statement M
+vb-unify-spec =
+    tie.close
+    (tie.spec
+    (λ c κs. search needs)
+    (λ c. search needs)
+    (λ c κs. search needs)
+    (λ c. search needs)
+    (λ c κs. search needs)
+    (λ c. search needs)
+    (λ c κs. search needs)
+    (λ c. search needs)
+    (λ c κs. search needs)
+    (λ c. search needs)
+    returns
+    (λ c. search needs)
+    returns-2
+    (λ c. search needs)
+    returns-3
+    (λ c. search needs)
+    returns-4)

@@ -1,0 +1,62 @@
+// The public calls for C: a slice is a pointer and a length, an answer is one number.
+ghost use mathlib.Core.Path.{_≡_};
+ghost use Prim.Native.Nat.{_≤_};
+ghost use lib.ListN.{length};
+ghost use Rattle.completion.specs.Calls.{complete-call, compare-call, unify-call, after-complete, after-unify};
+ghost use Rattle.complete.specs.Answer.{counted};
+ghost use Rattle.calls.specs.Answers.{unify-returns, subterm-part};
+ghost use Rattle.capi.specs.Codes.{code, answer-code, unify-code, part-code};
+
+fn code(kind: u64, number: u8, value: usize) -> u64
+    requires { ⌜ kind ≤ 3 ⌝ }
+    ensures { λ r. ⌜ r ≡ code kind number value ⌝ }
+{
+    kind * 281474976710656 + terms::wide(number) as u64 * 4294967296 + value as u64 % 4294967296
+}
+
+#[no_mangle]
+pub extern "C" fn vb_compare(problem: &[u8]) -> u64
+    ensures { λ r. ⌜ r ≡ answer-code (compare-call (now (problem .entry))) ⌝ }
+{
+    match calls::compare(problem) {
+        calls::Compared::LeftAbove => code(1, 0, 1),
+        calls::Compared::RightAbove => code(1, 0, 2),
+        calls::Compared::Identical => code(1, 0, 3),
+        calls::Compared::Neither => code(1, 0, 4),
+        calls::Compared::Refused { number, place } => code(0, number, place),
+    }
+}
+
+#[no_mangle]
+pub extern "C" fn vb_unify(problem: &[u8], result: &mut [u8]) -> u64
+    ensures { λ r. ⌜ r ≡ unify-code (unify-returns (unify-call (now (problem .entry)) (length (now (result .entry))))) ⌝ }
+    ensures { λ r. ⌜ now (result .exit) ≡ after-unify (unify-call (now (problem .entry)) (length (now (result .entry)))) (now (result .entry)) ⌝ }
+{
+    match calls::unify(problem, result) {
+        calls::Unified::Instance(n) => code(1, 0, n),
+        calls::Unified::Nothing => code(2, 0, 0),
+        calls::Unified::TooLarge => code(3, 22, 0),
+        calls::Unified::Refused { number, place } => code(0, number, place),
+    }
+}
+
+#[no_mangle]
+pub extern "C" fn vb_subterm(problem: &[u8], position: usize) -> u64
+    ensures { λ r. ⌜ r ≡ part-code (subterm-part (now (problem .entry)) position) ⌝ }
+{
+    let b = calls::subterm_bounds(problem, position);
+    let start = b.start;
+    let bytes = b.end - start;
+    start as u64 % 4294967296 * 4294967296 + bytes as u64 % 4294967296
+}
+
+#[no_mangle]
+pub extern "C" fn vb_complete(problem: &[u8], result: &mut [u8]) -> u64
+    ensures { λ r. ⌜ r ≡ answer-code (counted (complete-call (now (problem .entry)) (length (now (result .entry))))) ⌝ }
+    ensures { λ r. ⌜ now (result .exit) ≡ after-complete (complete-call (now (problem .entry)) (length (now (result .entry)))) (now (result .entry)) ⌝ }
+{
+    match complete::complete(problem, result) {
+        complete::Completed::Written(n) => code(1, 0, n),
+        complete::Completed::Refused { number, place } => code(0, number, place),
+    }
+}
