@@ -1,0 +1,41 @@
+/* Asks each call about one problem: x + (0 + s(y)) and s(z) + (0 + x), instance 8 of document 01.
+ *
+ *   rt staticlib capi
+ *   gcc -Iinclude examples/calls.c target/staticlib/libcapi.a -o calls
+ */
+#include <stdio.h>
+#include "vigilbarn.h"
+
+static const uint8_t problem[] = {
+    0x01, 0x00, 0x06, 0x00, 0x00, 0x01, 0x02, 0x02, 0x01,                                                   /* 0, s, + */
+    0x02, 0x00, 0x04, 0x00, 0x00, 0x00, 0x09,                                                               /* the budget, 9 */
+    0x03, 0x00, 0x0c, 0x02, 0x80, 0x02, 0x00, 0x01, 0x81, 0x02, 0x01, 0x82, 0x02, 0x00, 0x80,               /* the two sides */
+};
+
+static void print_bytes(const uint8_t *bytes, size_t count) {
+    for (size_t i = 0; i < count; i++) printf("%02x", bytes[i]);
+    printf("\n");
+}
+
+int main(void) {
+    static uint8_t result[16384];
+
+    uint64_t compared = vb_compare(problem, sizeof problem);
+    printf("compare: kind %u, number %u, value %u\n", vb_kind(compared), vb_number(compared), vb_value(compared));
+
+    uint64_t completed = vb_complete(problem, sizeof problem, result, sizeof result);
+    printf("complete: kind %u, number %u, value %u\n", vb_kind(completed), vb_number(completed), vb_value(completed));
+    if (vb_kind(completed) == 1) print_bytes(result, vb_value(completed));
+
+    uint64_t unified = vb_unify(problem, sizeof problem, result, sizeof result);
+    printf("unify: kind %u, number %u, value %u\n", vb_kind(unified), vb_number(unified), vb_value(unified));
+    if (vb_kind(unified) == 1) print_bytes(result, vb_value(unified));
+
+    uint64_t part = vb_subterm(problem, sizeof problem, 2);
+    printf("subterm 2: place %u, bytes %u\n", (unsigned)(part >> 32), vb_value(part));
+    print_bytes(problem + (part >> 32), vb_value(part));
+
+    uint64_t refused = vb_unify(problem, sizeof problem, result, 16383);
+    printf("short buffer: kind %u, number %u, value %u\n", vb_kind(refused), vb_number(refused), vb_value(refused));
+    return 0;
+}

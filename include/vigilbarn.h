@@ -1,0 +1,51 @@
+/* The proved calls, from C. Each takes a problem: `problem_bytes` bytes at `problem` (document 01, "The problem's fields"). It reads no others,
+ * changes none of them, keeps no pointer, and calls nothing of C.
+ *
+ * A pointer must be valid for as many bytes as its length says, and a result buffer may not overlap the problem.
+ *
+ * An answer is one number: a kind in the bits from 48 up, document 01's number in bits 32 to 47, and a value in bits 0 to 31.
+ */
+#ifndef VIGILBARN_H
+#define VIGILBARN_H
+
+#include <stddef.h>
+#include <stdint.h>
+
+#ifdef __cplusplus
+extern "C" {
+#endif
+
+/* The parts of the answers of vb_complete, vb_compare and vb_unify. */
+static inline unsigned vb_kind(uint64_t answer) { return (unsigned)(answer >> 48); }
+static inline unsigned vb_number(uint64_t answer) { return (unsigned)((answer >> 32) & 0xffff); }
+static inline uint32_t vb_value(uint64_t answer) { return (uint32_t)answer; }
+
+/* Completion of the problem's equations: the result's fields (document 01, "The result and settle").
+ * kind 0: refused; number 1 to 11, value the place. The result is left as it was.
+ * kind 1: written; value the count of result bytes, the others are left as they were.
+ * A result buffer under 16,384 bytes is refused with number 1 at place 0. Where field 10 of the result holds 0, the rules in its fields 12 settle
+ * the equations: rewriting by them ends, last terms are unique, and two terms have the same one exactly when the equations lead from one to the other. */
+uint64_t vb_complete(const uint8_t *problem, size_t problem_bytes, uint8_t *result, size_t result_bytes);
+
+/* Which side of the problem's one equation is above the other in the path order.
+ * kind 0: refused; number 2 to 12, value the place.
+ * kind 1: value 1 (left above), 2 (right above), 3 (identical) or 4 (neither). */
+uint64_t vb_compare(const uint8_t *problem, size_t problem_bytes);
+
+/* The most general common instance of the two sides of the problem's one equation, renamed, as one field of tag 15 (hexadecimal).
+ * kind 0: refused; number 1 to 12, value the place. The result is left as it was.
+ * kind 1: written; value the count of result bytes, the others are left as they were.
+ * kind 2: there is none. The result is left as it was.
+ * kind 3: it is over 120 nodes; number 22. The result is left as it was.
+ * A result buffer under 16,384 bytes is refused with number 1 at place 0. */
+uint64_t vb_unify(const uint8_t *problem, size_t problem_bytes, uint8_t *result, size_t result_bytes);
+
+/* The part of the problem's bytes that is the subterm at a position of the left side of its one equation.
+ * 0: refused. Else bits 32 to 63 are the place of the part's first byte, and bits 0 to 31 how many bytes it has, which is above 0. */
+uint64_t vb_subterm(const uint8_t *problem, size_t problem_bytes, size_t position);
+
+#ifdef __cplusplus
+}
+#endif
+
+#endif
