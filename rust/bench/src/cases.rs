@@ -1,0 +1,175 @@
+//! The fixed problems of the benchmark.
+
+use kb_engine::notation::Theory;
+use kb_engine::theories::{self, monoid, power};
+
+/// Which call is timed.
+#[derive(Clone, Copy, Debug, PartialEq, Eq)]
+pub enum Call {
+    Complete,
+    Compare,
+    Unify,
+    Subterm(usize),
+}
+
+/// A named call on a problem.
+pub struct Case {
+    pub name: String,
+    pub call: Call,
+    pub problem: Vec<u8>,
+}
+
+const BUDGET: u32 = 1_000_000;
+
+fn case(name: &str, call: Call, theory: Theory) -> Case {
+    Case {
+        name: name.to_string(),
+        call,
+        problem: theory.problem(BUDGET),
+    }
+}
+
+/// All cases in the order of the table.
+pub fn all() -> Vec<Case> {
+    let mut list = papers();
+    list.extend(groups());
+    list.extend(limits());
+    list.extend(terms());
+    list
+}
+
+fn papers() -> Vec<Case> {
+    let complete = |name, theory| case(name, Call::Complete, theory);
+    vec![
+        complete("001 three axioms", theories::fragment_axioms()),
+        complete("001 printed list", theories::fragment_rules()),
+        complete("002 group axioms", theories::group_axioms()),
+        complete("002 ten rules", theories::group_rules()),
+        complete("003 six rules", theories::arithmetic_axioms()),
+        complete("003 ten rules", theories::arithmetic_rules()),
+    ]
+}
+
+fn groups() -> Vec<Case> {
+    let list: [(&str, &str, &[&str]); 7] = [
+        ("symmetric group S3", "ab", &["aaa=", "bb=", "abab="]),
+        ("dihedral group D4", "ab", &["aaaa=", "bb=", "abab="]),
+        ("dihedral group D8", "ab", &["aaaaaaaa=", "bb=", "abab="]),
+        ("alternating group A4", "ab", &["aaa=", "bbb=", "abab="]),
+        (
+            "symmetric group S4",
+            "abc",
+            &["aa=", "bb=", "cc=", "aba=bab", "bcb=cbc", "ac=ca"],
+        ),
+        ("quaternion group Q8", "ab", &["aaaa=", "aa=bb", "aba=b"]),
+        (
+            "free abelian group",
+            "aAbB",
+            &["aA=", "Aa=", "bB=", "Bb=", "ba=ab", "bA=Ab"],
+        ),
+    ];
+    let complete = |(name, generators, relations): (&str, &str, &[&str])| {
+        case(name, Call::Complete, monoid(generators, relations))
+    };
+    list.into_iter().map(complete).collect()
+}
+
+fn limits() -> Vec<Case> {
+    let complete = |name, theory| case(name, Call::Complete, theory);
+    vec![
+        complete("1,000,000 units", theories::countdown(15, 1)),
+        complete("32 rules, end 0", theories::products(2, 10)),
+        complete("33rd rule, end 23", theories::endless_rules()),
+        complete(
+            "512 entries, end 0",
+            theories::descents(&[84, 84, 84]).equation("x = x"),
+        ),
+        complete("no equation", Theory::new(theories::GROUP)),
+    ]
+}
+
+fn terms() -> Vec<Case> {
+    let (is, js) = (power("i", 119, "x"), power("j", 119, "y"));
+    let trees = trees();
+    let cycle = [("x0", "x15")];
+    vec![
+        case(
+            "compare i^119(x), j^119(y)",
+            Call::Compare,
+            chains(&is, &js),
+        ),
+        case(
+            "compare i^119(x), j^119(x)",
+            Call::Compare,
+            chains(&is, &power("j", 119, "x")),
+        ),
+        case("compare full binary trees", Call::Compare, trees.clone()),
+        case("unify full binary trees", Call::Unify, trees),
+        case("unify doubling, 4 variables", Call::Unify, doubling(4, &[])),
+        case(
+            "unify doubling, 15 variables",
+            Call::Unify,
+            doubling(15, &[]),
+        ),
+        case(
+            "unify doubling, 15, cycle",
+            Call::Unify,
+            doubling(15, &cycle),
+        ),
+        case(
+            "unify doubling, 15, clash",
+            Call::Unify,
+            doubling(15, &[("c", "d")]),
+        ),
+        case(
+            "subterm of i^119(x) at 60",
+            Call::Subterm(60),
+            chains(&is, &js),
+        ),
+        case("read 16 equations of 240", Call::Compare, sixteen_long()),
+    ]
+}
+
+/// One equation over unary i above j.
+fn chains(left: &str, right: &str) -> Theory {
+    Theory::new("j/1/0 i/1/1").equation(&format!("{left} = {right}"))
+}
+
+/// Two full binary trees of 63 nodes that differ in the last leaf.
+fn trees() -> Theory {
+    let mut leaves = ["x"; 32];
+    let same = tree(&leaves);
+    leaves[31] = "y";
+    Theory::new("f/2/0").equation(&format!("{same} = {}", tree(&leaves)))
+}
+
+/// As many and as large equations as a problem can have.
+fn sixteen_long() -> Theory {
+    let side = [vec![1; 119], vec![0x80]].concat();
+    let long = [side.clone(), side].concat();
+    (0..16).fold(Theory::new("c/0/0 f/1/1"), |theory, _| {
+        theory.raw_equation(long.clone())
+    })
+}
+
+/// A full binary tree with the given leaves.
+fn tree(leaves: &[&str]) -> String {
+    if let [leaf] = leaves {
+        return leaf.to_string();
+    }
+    let (left, right) = leaves.split_at(leaves.len() / 2);
+    format!("f({},{})", tree(left), tree(right))
+}
+
+/// x1 = f(x0,x0), x2 = f(x1,x1), .. and the extra pairs, as one equation.
+fn doubling(n: usize, extra: &[(&str, &str)]) -> Theory {
+    let (mut left, mut right) = ("c".to_string(), "c".to_string());
+    for (l, r) in extra {
+        (left, right) = (format!("t({l},{left})"), format!("t({r},{right})"));
+    }
+    for i in (1..=n).rev() {
+        left = format!("t(x{i},{left})");
+        right = format!("t(f(x{0},x{0}),{right})", i - 1);
+    }
+    Theory::new("c/0/0 d/0/1 t/2/2 f/2/3").equation(&format!("{left} = {right}"))
+}

@@ -1,0 +1,160 @@
+//! One problem through both engines: answers, whole buffers, lent bytes.
+
+use crate::engines::Engine;
+
+/// Bytes before and behind a result that no call may touch.
+pub const GUARD: usize = 64;
+/// Fewest result bytes that are accepted.
+pub const RESULT: usize = 16384;
+
+/// Where two engines differ.
+#[derive(Clone, Debug, PartialEq, Eq)]
+pub struct Difference {
+    pub call: String,
+    pub left: u64,
+    pub right: u64,
+    /// First place at which the buffers differ, counted from the result.
+    pub place: Option<isize>,
+}
+
+/// What the first engine answered, for the summary.
+#[derive(Clone, Copy, Debug, Default)]
+pub struct Answers {
+    pub complete: u64,
+    /// The end in the result, if one was written.
+    pub end: Option<u8>,
+    pub unify: u64,
+    pub compare: u64,
+}
+
+/// Two engines, and buffers that are used again for every problem.
+pub struct Checker<'e> {
+    left: &'e dyn Engine,
+    right: &'e dyn Engine,
+    buffers: [Vec<u8>; 2],
+}
+
+type Call = fn(&dyn Engine, &[u8], &mut [u8]) -> u64;
+
+impl<'e> Checker<'e> {
+    pub fn new(left: &'e dyn Engine, right: &'e dyn Engine) -> Checker<'e> {
+        Checker {
+            left,
+            right,
+            buffers: Default::default(),
+        }
+    }
+
+    /// Compares the four calls on a problem. `number` varies the pattern in
+    /// the buffers, their length, and the positions of subterm.
+    pub fn problem(&mut self, problem: &[u8], number: u64) -> Result<Answers, Difference> {
+        let length = result_length(number);
+        let complete = self.written("complete", problem, length, number, |e, p, r| {
+            e.complete(p, r)
+        })?;
+        let end = (complete >> 48 == 1).then(|| self.buffers[0][GUARD + 3]);
+        let unify = self.written("unify", problem, length, number, |e, p, r| e.unify(p, r))?;
+        let compare = self.equal("compare".to_string(), |e| e.compare(problem))?;
+        for position in positions(number) {
+            let call = format!("subterm at {position}");
+            self.equal(call, |e| part(e.subterm(problem, position)))?;
+        }
+        Ok(Answers {
+            complete,
+            end,
+            unify,
+            compare,
+        })
+    }
+
+    fn equal(&self, call: String, answer: impl Fn(&dyn Engine) -> u64) -> Result<u64, Difference> {
+        let (left, right) = (answer(self.left), answer(self.right));
+        if left == right {
+            return Ok(left);
+        }
+        let place = None;
+        Err(Difference {
+            call,
+            left,
+            right,
+            place,
+        })
+    }
+
+    /// A call that writes: the answer and the whole buffer with its guards.
+    fn written(
+        &mut self,
+        name: &str,
+        problem: &[u8],
+        length: usize,
+        number: u64,
+        call: Call,
+    ) -> Result<u64, Difference> {
+        let lent = problem.to_vec();
+        let mut answers = [0; 2];
+        for (i, engine) in [self.left, self.right].into_iter().enumerate() {
+            let buffer = &mut self.buffers[i];
+            fill(buffer, length + 2 * GUARD, number);
+            answers[i] = call(engine, &lent, &mut buffer[GUARD..GUARD + length]);
+        }
+        let place = first_difference(&self.buffers[0], &self.buffers[1]);
+        if answers[0] == answers[1] && place.is_none() && lent == problem {
+            return Ok(answers[0]);
+        }
+        let lent = if lent == problem {
+            ""
+        } else {
+            ", lent bytes changed"
+        };
+        Err(Difference {
+            call: format!("{name}, buffer of {length}{lent}"),
+            left: answers[0],
+            right: answers[1],
+            place: place.map(|p| p as isize - GUARD as isize),
+        })
+    }
+}
+
+fn first_difference(a: &[u8], b: &[u8]) -> Option<usize> {
+    if a == b {
+        return None;
+    }
+    a.iter().zip(b).position(|(x, y)| x != y)
+}
+
+/// An empty part has no place.
+fn part(answer: u64) -> u64 {
+    if answer & 0xffff_ffff == 0 {
+        0
+    } else {
+        answer
+    }
+}
+
+/// Fills with a pattern that differs from problem to problem.
+fn fill(buffer: &mut Vec<u8>, length: usize, number: u64) {
+    let start = (number.wrapping_mul(0x9e37_79b9_7f4a_7c15) >> 56) as u8;
+    buffer.clear();
+    buffer.extend((0..length).map(|i| start.wrapping_add((i as u8).wrapping_mul(29))));
+}
+
+/// Mostly the least length, at times shorter or longer.
+fn result_length(number: u64) -> usize {
+    match number % 101 {
+        50 => 0,
+        51 => 1 + (number / 101 % 16382) as usize,
+        52 => RESULT - 1,
+        53 => RESULT + 1,
+        54 => RESULT + 1000,
+        _ => RESULT,
+    }
+}
+
+/// All positions at times, else a few.
+fn positions(number: u64) -> Vec<usize> {
+    match number % 23 {
+        0 => (0..=121).collect(),
+        1 => vec![usize::MAX, 1 << 32, 1 << 31, 8192, 0],
+        _ => vec![0, 1, (number / 23 % 121) as usize],
+    }
+}

@@ -1,0 +1,68 @@
+//! What both engines answer, each answer as one number.
+//!
+//! kind * 2^48 + number * 2^32 + place or count. Complete and unify: kind 0
+//! refused (number, place), 1 written (count), 2 no common instance, 3 too
+//! large (number 22). Compare: kind 0 refused, 1 the answer 1 to 4. Subterm:
+//! start * 2^32 + length, length 0 if refused.
+
+use kb_engine::calls::TOO_LARGE;
+use kb_engine::{CompareAnswer, CompleteAnswer, Refusal, UnifyAnswer};
+
+/// The four calls with encoded answers.
+pub trait Engine {
+    fn complete(&self, problem: &[u8], result: &mut [u8]) -> u64;
+    fn unify(&self, problem: &[u8], result: &mut [u8]) -> u64;
+    fn compare(&self, problem: &[u8]) -> u64;
+    fn subterm(&self, problem: &[u8], position: usize) -> u64;
+}
+
+/// One answer as a number.
+pub fn encode(kind: u64, number: u8, low: usize) -> u64 {
+    (kind << 48) | ((number as u64) << 32) | low as u64
+}
+
+/// Kind, number, and place or count.
+pub fn decode(answer: u64) -> (u64, u64, u64) {
+    (answer >> 48, (answer >> 32) & 0xffff, answer & 0xffff_ffff)
+}
+
+/// The independent engine.
+pub struct RustEngine;
+
+fn refused(refusal: Refusal) -> u64 {
+    encode(0, refusal.number, refusal.place)
+}
+
+impl Engine for RustEngine {
+    fn complete(&self, problem: &[u8], result: &mut [u8]) -> u64 {
+        match kb_engine::complete(problem, result) {
+            CompleteAnswer::Refused(refusal) => refused(refusal),
+            CompleteAnswer::Written(count) => encode(1, 0, count),
+        }
+    }
+
+    fn unify(&self, problem: &[u8], result: &mut [u8]) -> u64 {
+        match kb_engine::unify(problem, result) {
+            UnifyAnswer::Refused(refusal) => refused(refusal),
+            UnifyAnswer::Written(count) => encode(1, 0, count),
+            UnifyAnswer::None => encode(2, 0, 0),
+            UnifyAnswer::TooLarge => encode(3, TOO_LARGE, 0),
+        }
+    }
+
+    fn compare(&self, problem: &[u8]) -> u64 {
+        match kb_engine::compare(problem) {
+            CompareAnswer::Refused(refusal) => refused(refusal),
+            CompareAnswer::Compared(order) => encode(1, 0, order as usize),
+        }
+    }
+
+    fn subterm(&self, problem: &[u8], position: usize) -> u64 {
+        let part = kb_engine::subterm(problem, position);
+        if part.is_empty() {
+            return 0;
+        }
+        let start = part.as_ptr() as usize - problem.as_ptr() as usize;
+        ((start as u64) << 32) | part.len() as u64
+    }
+}

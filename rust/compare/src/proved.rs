@@ -1,0 +1,54 @@
+//! The C functions of the proved library, wrapped.
+
+use crate::engines::Engine;
+
+extern "C" {
+    fn vb_complete(
+        problem: *const u8,
+        problem_len: usize,
+        result: *mut u8,
+        result_len: usize,
+    ) -> u64;
+    fn vb_unify(problem: *const u8, problem_len: usize, result: *mut u8, result_len: usize) -> u64;
+    fn vb_compare(problem: *const u8, problem_len: usize) -> u64;
+    fn vb_subterm(problem: *const u8, problem_len: usize, position: usize) -> u64;
+}
+
+/// The proved library.
+pub struct ProvedEngine;
+
+impl Engine for ProvedEngine {
+    fn complete(&self, problem: &[u8], result: &mut [u8]) -> u64 {
+        // SAFETY: both pointers come with the lengths of live slices.
+        unsafe {
+            vb_complete(
+                problem.as_ptr(),
+                problem.len(),
+                result.as_mut_ptr(),
+                result.len(),
+            )
+        }
+    }
+
+    fn unify(&self, problem: &[u8], result: &mut [u8]) -> u64 {
+        // SAFETY: both pointers come with the lengths of live slices.
+        unsafe {
+            vb_unify(
+                problem.as_ptr(),
+                problem.len(),
+                result.as_mut_ptr(),
+                result.len(),
+            )
+        }
+    }
+
+    fn compare(&self, problem: &[u8]) -> u64 {
+        // SAFETY: the pointer comes with the length of a live slice.
+        unsafe { vb_compare(problem.as_ptr(), problem.len()) }
+    }
+
+    fn subterm(&self, problem: &[u8], position: usize) -> u64 {
+        // SAFETY: the pointer comes with the length of a live slice.
+        unsafe { vb_subterm(problem.as_ptr(), problem.len(), position) }
+    }
+}

@@ -1,0 +1,76 @@
+//! The fields of a result.
+
+use crate::run::{End, Entry, Origin, Outcome};
+use crate::term::Term;
+
+const TAG_END: u8 = 0x10;
+const TAG_UNITS: u8 = 0x11;
+const TAG_RULE: u8 = 0x12;
+const TAG_ENTRY: u8 = 0x13;
+const TAG_PAIR: u8 = 0x14;
+const TAG_INSTANCE: u8 = 0x15;
+
+/// Appends a field: tag, length in two bytes, contents.
+fn push_field(out: &mut Vec<u8>, tag: u8, contents: &[u8]) {
+    out.push(tag);
+    out.extend((contents.len() as u16).to_be_bytes());
+    out.extend(contents);
+}
+
+/// The result bytes of a run.
+pub fn outcome_bytes(outcome: &Outcome) -> Vec<u8> {
+    let mut out = Vec::new();
+    push_field(&mut out, TAG_END, &[outcome.end.number()]);
+    push_field(&mut out, TAG_UNITS, &outcome.units.to_be_bytes());
+    for rule in outcome.rules.iter() {
+        let mut contents = rule.number.to_be_bytes().to_vec();
+        rule.left.write(&mut contents);
+        rule.right.write(&mut contents);
+        push_field(&mut out, TAG_RULE, &contents);
+    }
+    for entry in &outcome.log {
+        push_field(&mut out, TAG_ENTRY, &entry_bytes(entry));
+    }
+    if let End::Unorientable(left, right) = &outcome.end {
+        let mut contents = Vec::new();
+        left.write(&mut contents);
+        right.write(&mut contents);
+        push_field(&mut out, TAG_PAIR, &contents);
+    }
+    out
+}
+
+/// The result bytes of a unification.
+pub fn instance_bytes(instance: &Term) -> Vec<u8> {
+    let mut contents = Vec::new();
+    instance.write(&mut contents);
+    let mut out = Vec::new();
+    push_field(&mut out, TAG_INSTANCE, &contents);
+    out
+}
+
+fn entry_bytes(entry: &Entry) -> [u8; 8] {
+    let (kind, first, second, position) = match entry.origin {
+        Origin::WaitingInput { equation } => (1, equation, 0, 0),
+        Origin::WaitingRule { rule } => (2, rule, 0, 0),
+        Origin::ScannedInput { equation } => (3, equation, 0, 0),
+        Origin::Overlap {
+            inner,
+            outer,
+            position,
+        } => (4, inner, outer, position),
+    };
+    let [first_high, first_low] = first.to_be_bytes();
+    let [second_high, second_low] = u16::to_be_bytes(second);
+    let [made_high, made_low] = entry.made.to_be_bytes();
+    [
+        kind,
+        first_high,
+        first_low,
+        second_high,
+        second_low,
+        position,
+        made_high,
+        made_low,
+    ]
+}

@@ -1,0 +1,62 @@
+//! Problems by seed and index, for comparing engines.
+//!
+//! `problem` is a function of its two numbers alone. The index modulo the
+//! number of families chooses the family, the rest varies it. Most budgets
+//! are small, so that many problems can be run. `damage::exhaustive` lists
+//! all truncations and single-byte changes of some problems.
+
+pub mod damage;
+pub mod edges;
+pub mod limits;
+pub mod random;
+pub mod terms;
+pub mod theory;
+pub mod words;
+
+use random::Random;
+
+type Family = fn(&mut Random) -> Vec<u8>;
+
+/// The families in the order of the index.
+const FAMILIES: [(&str, Family); 20] = [
+    ("random theory", theory::random),
+    ("orientable theory", theory::orientable),
+    ("non-linear theory", theory::non_linear),
+    ("rich theory", theory::rich),
+    ("shuffled paper theory", theory::papers),
+    ("random words", words::random),
+    ("group presentation", words::groups),
+    ("single equation", terms::related_sides),
+    ("unrelated sides", terms::unrelated_sides),
+    ("doubling unifier", terms::doubling),
+    ("doubling overlap", limits::doubling_overlap),
+    ("chains and trees", terms::chains_and_trees),
+    ("size limit", limits::size),
+    ("variable limit", limits::variables),
+    ("room limit", limits::room),
+    ("unorientable", limits::unorientable),
+    ("edges", edges::edges),
+    ("damaged", damage::random),
+    ("bytes", damage::bytes),
+    ("budget sweep", theory::random),
+];
+
+/// Number of families.
+pub const FAMILY_COUNT: u64 = FAMILIES.len() as u64;
+const SWEEP: u64 = FAMILY_COUNT - 1;
+/// Budgets of one theory in the sweep.
+const SWEPT_BUDGETS: u64 = 48;
+
+/// The name of the index's family.
+pub fn family(index: u64) -> &'static str {
+    FAMILIES[(index % FAMILY_COUNT) as usize].0
+}
+
+/// The problem of a seed and an index.
+pub fn problem(seed: u64, index: u64) -> Vec<u8> {
+    let (number, variant) = (index % FAMILY_COUNT, index / FAMILY_COUNT);
+    if number == SWEEP {
+        return theory::sweep(seed, variant / SWEPT_BUDGETS, variant % SWEPT_BUDGETS);
+    }
+    FAMILIES[number as usize].1(&mut Random::new(seed, index))
+}

@@ -1,0 +1,168 @@
+//! Fixed theories: those of the source papers and some with a known end.
+
+use crate::notation::Theory;
+
+/// e, i, * with i above * above e.
+pub const GROUP: &str = "e/0/0 i/1/2 */2/1";
+/// 0, s, p, +, - with + and - above s and p.
+pub const ARITHMETIC: &str = "0/0/0 s/1/1 p/1/2 +/2/3 -/2/4";
+
+/// The three group axioms of 002.
+pub fn group_axioms() -> Theory {
+    Theory::new(GROUP).equations(&["*(e,x) = x", "*(i(x),x) = e", "*(x,*(y,z)) = *(*(x,y),z)"])
+}
+
+/// The ten group rules of 002 as equations.
+pub fn group_rules() -> Theory {
+    Theory::new(GROUP).equations(&[
+        "*(e,x) = x",
+        "*(i(x),x) = e",
+        "*(*(x,y),z) = *(x,*(y,z))",
+        "*(i(x),*(x,y)) = y",
+        "i(e) = e",
+        "*(x,e) = x",
+        "i(i(x)) = x",
+        "*(x,i(x)) = e",
+        "*(x,*(i(x),y)) = y",
+        "i(*(x,y)) = *(i(y),i(x))",
+    ])
+}
+
+/// The three axioms of 001.
+pub fn fragment_axioms() -> Theory {
+    Theory::new(GROUP).equations(&["*(x,e) = x", "*(e,x) = x", "*(i(x),*(x,y)) = y"])
+}
+
+/// The list printed at the end of 001, with i(e) = e twice.
+pub fn fragment_rules() -> Theory {
+    Theory::new(GROUP).equations(&[
+        "*(x,e) = x",
+        "*(e,x) = x",
+        "*(i(x),*(x,y)) = y",
+        "*(i(x),x) = e",
+        "i(e) = e",
+        "i(e) = e",
+        "*(x,i(x)) = e",
+        "i(i(x)) = x",
+        "*(x,*(i(x),y)) = y",
+    ])
+}
+
+/// The six rules 003 begins with.
+pub fn arithmetic_axioms() -> Theory {
+    Theory::new(ARITHMETIC).equations(&[
+        "+(x,0) = x",
+        "+(x,s(y)) = s(+(x,y))",
+        "-(x,0) = x",
+        "-(x,s(y)) = p(-(x,y))",
+        "p(s(x)) = x",
+        "s(p(x)) = x",
+    ])
+}
+
+/// The ten rules of 003.
+pub fn arithmetic_rules() -> Theory {
+    arithmetic_axioms().equations(&[
+        "s(+(x,p(y))) = +(x,y)",
+        "p(-(x,p(y))) = -(x,y)",
+        "+(x,p(y)) = p(+(x,y))",
+        "-(x,p(y)) = s(-(x,y))",
+    ])
+}
+
+/// The symbol applied n times: "s(s(0))".
+pub fn power(symbol: &str, n: usize, inside: &str) -> String {
+    let open = format!("{symbol}(").repeat(n);
+    format!("{open}{inside}{}", ")".repeat(n))
+}
+
+/// A monoid by unary symbols: generators as letters, relations "aba=bab".
+/// Rank ascends with the letter's place.
+pub fn monoid(generators: &str, relations: &[&str]) -> Theory {
+    let symbols = generators
+        .chars()
+        .enumerate()
+        .map(|(i, g)| format!("{g}/1/{i}"));
+    let signature: Vec<String> = symbols.collect();
+    let mut theory = Theory::new(&signature.join(" "));
+    for relation in relations {
+        let (left, right) = relation.split_once('=').expect("a relation");
+        theory = theory.equation(&format!("{} = {}", word(left), word(right)));
+    }
+    theory
+}
+
+fn word(letters: &str) -> String {
+    let open: String = letters.chars().map(|g| format!("{g}(")).collect();
+    format!("{open}X{}", ")".repeat(letters.len()))
+}
+
+/// Rules f g^n f over without end: ends 23 by the 33rd rule.
+pub fn endless_rules() -> Theory {
+    Theory::new("g/1/0 f/1/1").equation("f(g(f(x))) = g(f(x))")
+}
+
+/// At most six outer rules times inner rules: each pair of them overlaps
+/// and makes one rule more, (outer + 1)(inner + 1) - 1 in all.
+pub fn products(outer: usize, inner: usize) -> Theory {
+    let names = ["A", "B", "C", "D", "E", "F"];
+    let mut signature = "0/0/0 s/1/1 t/1/2 b/1/3 e/2/4".to_string();
+    for (i, name) in names.iter().enumerate() {
+        signature += &format!(" {name}/2/{}", i + 5);
+    }
+    let mut theory = Theory::new(&signature);
+    for j in 1..=inner {
+        let (from, to) = (power("s", j, "0"), power("t", j, "0"));
+        theory = theory.equation(&format!("b({from}) = {to}"));
+    }
+    for name in &names[..outer] {
+        theory = theory.equation(&format!("{name}(u,b(x)) = e(u,x)"));
+    }
+    theory
+}
+
+/// P_k(s^n(x)) = a loses one s a rule, and each new rule removes the one
+/// before: a log of many entries with few live rules. One chain a length.
+pub fn descents(lengths: &[usize]) -> Theory {
+    let mut signature = "a/0/0 s/1/1 u/1/2".to_string();
+    for k in 0..lengths.len() {
+        signature += &format!(" P{k}/1/{}", k + 3);
+    }
+    let mut theory = Theory::new(&signature).equation("u(a) = a");
+    for (k, n) in lengths.iter().enumerate() {
+        theory = theory
+            .equation(&format!("u(P{k}(s(x))) = P{k}(x)"))
+            .equation(&format!("P{k}({}) = a", power("s", *n, "x")));
+    }
+    theory
+}
+
+/// An overlap whose pair has `extra` variables besides four others.
+pub fn many_variables(extra: usize) -> Theory {
+    let list: Vec<String> = (0..extra).map(|i| format!("z{i}")).collect();
+    let tuple = list
+        .iter()
+        .rfold("c".to_string(), |rest, z| format!("t({z},{rest})"));
+    Theory::new("c/0/0 t/2/1 q/2/2 h/1/3 f/4/4 k/2/5")
+        .equation("h(f(x,y,z,w)) = c")
+        .equation(&format!("k(h(y),{tuple}) = q(y,{tuple})"))
+}
+
+/// Two nested counters run down by rewriting, three digits outside and two
+/// inside, each from s^n(0): about (n + 1)^5 steps for each of the equations.
+pub fn countdown(n: usize, equations: usize) -> Theory {
+    let full = power("s", n, "0");
+    let mut theory = Theory::new("0/0/0 s/1/1 a/0/2 w/4/3 f/4/4").equations(&[
+        "w(x,s(y),v,z) = w(x,y,v,z)",
+        "w(s(x),0,v,z) = w(x,v,v,z)",
+        "w(0,0,v,z) = z",
+        "f(x,y,s(z),v) = f(x,y,z,w(v,v,v,v))",
+        "f(x,s(y),0,v) = f(x,y,v,v)",
+        "f(s(x),0,0,v) = f(x,v,v,v)",
+        "f(0,0,0,v) = a",
+    ]);
+    for _ in 0..equations {
+        theory = theory.equation(&format!("f({full},{full},{full},{full}) = a"));
+    }
+    theory
+}

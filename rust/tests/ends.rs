@@ -1,0 +1,245 @@
+//! The ends 20 to 23 and the edges of budget, sizes, rules and log.
+
+mod common;
+
+use common::{bytes, hex, rule_sides, run, Fields};
+use kb_engine::notation::Theory;
+use kb_engine::theories::{self, power, GROUP};
+
+const BUDGET: u32 = 1_000_000;
+
+fn end_and_units(theory: &Theory) -> (u8, u32) {
+    let fields = run(theory, BUDGET);
+    (fields.end, fields.units)
+}
+
+#[test]
+fn end_20_keeps_the_state_and_shows_the_pair() {
+    let theory = Theory::new(GROUP).equations(&["*(x,e) = x", "*(*(x,e),y) = *(y,*(x,e))"]);
+    let fields = run(&theory, BUDGET);
+    assert_eq!((fields.end, fields.units), (20, 4));
+    assert_eq!(rule_sides(&fields), ["02800080"]);
+    assert_eq!(fields.log, [bytes("01 0001 0000 00 0001")]);
+    assert_eq!(hex(&fields.pair.unwrap()), "028081028180");
+}
+
+#[test]
+fn field_14_is_in_taken_order() {
+    let fields = run(&Theory::new(GROUP).equation("i(y) = *(x,y)"), 9);
+    assert_eq!(hex(&fields.pair.unwrap()), "0180028180");
+}
+
+/// Units of the whole run, and its result at every smaller budget.
+fn assert_21_at_every_unit(theory: &Theory) {
+    let whole = run(theory, BUDGET);
+    let mut log_length = 0;
+    for budget in 0..whole.units {
+        let fields = run(theory, budget);
+        assert_eq!((fields.end, fields.units), (21, budget));
+        assert!(fields.pair.is_none());
+        assert!(fields.log.len() >= log_length && fields.log.len() <= whole.log.len());
+        log_length = fields.log.len();
+        assert_eq!(fields.log, whole.log[..log_length]);
+        assert_numbers_follow(&fields);
+    }
+    assert_eq!(run(theory, whole.units), whole);
+    assert_eq!(run(theory, whole.units + 1), whole);
+}
+
+/// Live rules are among those the log says were made.
+fn assert_numbers_follow(fields: &Fields) {
+    let made = fields.log.iter().map(|e| u16::from_be_bytes([e[6], e[7]]));
+    let made: Vec<u16> = made.filter(|n| *n > 0).collect();
+    assert!(made.iter().copied().eq(1..=made.len() as u16));
+    assert!(fields.rules.iter().all(|(n, _)| made.contains(n)));
+    assert!(fields.rules.windows(2).all(|w| w[0].0 < w[1].0));
+}
+
+#[test]
+fn end_21_at_every_unit() {
+    let list = [
+        theories::group_axioms(),
+        theories::group_rules(),
+        theories::fragment_axioms(),
+        theories::fragment_rules(),
+        theories::arithmetic_axioms(),
+        theories::arithmetic_rules(),
+        theories::descents(&[3, 2]),
+        theories::many_variables(13),
+        theories::monoid("ab", &["aaa=", "bb=", "abab="]),
+        Theory::new(GROUP),
+        Theory::new(GROUP).equation("x = x"),
+    ];
+    list.iter().for_each(assert_21_at_every_unit);
+}
+
+#[test]
+fn budget_0_ends_21() {
+    let fields = run(&Theory::new(GROUP), 0);
+    assert_eq!((fields.end, fields.units, fields.count), (21, 0, 11));
+}
+
+#[test]
+fn budget_of_a_million_is_spent() {
+    let fields = run(&theories::countdown(15, 1), BUDGET);
+    assert_eq!((fields.end, fields.units), (21, BUDGET));
+    assert_eq!((fields.rules.len(), fields.log.len()), (7, 8));
+}
+
+#[test]
+fn end_22_by_a_step() {
+    let grow = |n: usize| {
+        let nested = power("d", n, "s(0)");
+        Theory::new("0/0/0 s/1/1 d/1/2 a/0/3")
+            .equations(&["d(0) = 0", "d(s(x)) = s(s(d(x)))"])
+            .equation(&format!("{nested} = a"))
+    };
+    assert_eq!(run(&grow(6), BUDGET).end, 0);
+    let fields = run(&grow(7), BUDGET);
+    assert_eq!(
+        (fields.end, fields.rules.len(), fields.log.len()),
+        (22, 2, 2)
+    );
+    // The step that overflows is paid; one unit less is 21.
+    assert_eq!(run(&grow(7), fields.units).end, 22);
+    let less = run(&grow(7), fields.units - 1);
+    assert_eq!((less.end, less.units), (21, fields.units - 1));
+}
+
+#[test]
+fn end_22_by_a_step_to_120_and_121_nodes() {
+    let theory = |n: usize| {
+        Theory::new("a/0/0 s/1/1 h/1/2")
+            .equation("h(x) = s(s(x))")
+            .equation(&format!("s(h({})) = a", power("s", n, "x")))
+    };
+    // s(h(s^n(x))) has n + 3 nodes, its next term one more.
+    assert_eq!(end_and_units(&theory(116)), (22, 4));
+    assert_eq!(run(&theory(116), BUDGET).log.len(), 2);
+    assert_eq!(end_and_units(&theory(117)), (22, 3));
+    assert_eq!(run(&theory(117), BUDGET).log.len(), 1);
+}
+
+#[test]
+fn end_22_by_a_peak_that_joins() {
+    let theory = |n: usize| Theory::new("f/1/0").equation(&format!("{} = x", power("f", n, "x")));
+    let fields = run(&theory(60), BUDGET);
+    assert_eq!((fields.end, fields.units, fields.rules.len()), (0, 3, 1));
+    let fields = run(&theory(61), BUDGET);
+    assert_eq!((fields.end, fields.units, fields.rules.len()), (22, 2, 1));
+}
+
+#[test]
+fn end_22_by_the_left_of_a_pair() {
+    let theory = |n: usize| {
+        Theory::new("0/0/0 s/1/1 t/2/2 h/2/3 k/2/4")
+            .equation(&format!("k(h({},z),z) = 0", power("s", n, "0")))
+            .equation("h(x,0) = t(x,x)")
+    };
+    // k(t(X,X),0) has 2n + 5 nodes.
+    let fields = run(&theory(57), BUDGET);
+    assert_eq!(
+        (fields.end, fields.rules.len(), fields.log.len()),
+        (0, 3, 3)
+    );
+    let fields = run(&theory(58), BUDGET);
+    assert_eq!((fields.end, fields.units, fields.rules.len()), (22, 3, 2));
+}
+
+#[test]
+fn end_22_by_the_right_of_a_pair() {
+    let theory = |n: usize| {
+        Theory::new("0/0/0 s/1/1 t/2/2 h/1/3 k/1/4")
+            .equation(&format!("h({}) = 0", power("s", n, "0")))
+            .equation("k(h(x)) = t(x,x)")
+    };
+    // t(X,X) has 2n + 3 nodes.
+    let fields = run(&theory(58), BUDGET);
+    assert_eq!((fields.end, fields.rules.len()), (0, 3));
+    let fields = run(&theory(59), BUDGET);
+    assert_eq!((fields.end, fields.units, fields.rules.len()), (22, 3, 2));
+}
+
+#[test]
+fn end_22_by_an_astronomic_peak() {
+    let (mut first, mut second) = ("c".to_string(), "c".to_string());
+    for i in (1..=12).rev() {
+        first = format!("t(x{i},t(f(x{i},x{i}),{first}))");
+        second = format!("t(f(y{},y{}),t(y{i},{second}))", i - 1, i - 1);
+    }
+    let theory = Theory::new("c/0/0 d/0/1 t/2/2 f/2/3")
+        .equation(&format!("{first} = c"))
+        .equation(&format!("{second} = d"));
+    let fields = run(&theory, BUDGET);
+    assert_eq!((fields.end, fields.units, fields.rules.len()), (22, 3, 2));
+}
+
+/// Like `many_variables`, with an orientable pair.
+fn orientable_pair(extra: usize) -> Theory {
+    let list = (0..extra).map(|i| format!("z{i}"));
+    let tuple = list.rfold("c".to_string(), |rest, z| format!("t({z},{rest})"));
+    Theory::new("c/0/0 t/2/1 q/2/2 g/4/3 f/4/4 h/1/5 k/2/6")
+        .equation("h(f(x,y,z,w)) = g(w,x,y,z)")
+        .equation(&format!("k(h(y),{tuple}) = q(y,{tuple})"))
+}
+
+#[test]
+fn end_22_by_17_variables() {
+    assert_eq!(end_and_units(&theories::many_variables(12)), (20, 3));
+    assert_eq!(end_and_units(&theories::many_variables(13)), (22, 3));
+    let fields = run(&orientable_pair(12), BUDGET);
+    assert_eq!((fields.end, fields.rules.len()), (0, 3));
+    assert_eq!(end_and_units(&orientable_pair(13)), (22, 3));
+}
+
+#[test]
+fn end_23_by_the_33rd_rule() {
+    let fields = run(&theories::endless_rules(), BUDGET);
+    assert_eq!((fields.end, fields.units), (23, 6497));
+    assert_eq!((fields.rules.len(), fields.log.len()), (32, 32));
+    assert_eq!(run(&theories::endless_rules(), 6497).end, 23);
+    assert_eq!(run(&theories::endless_rules(), 6496).end, 21);
+}
+
+#[test]
+fn end_0_with_32_rules() {
+    let fields = run(&theories::products(2, 10), BUDGET);
+    assert_eq!(
+        (fields.end, fields.rules.len(), fields.log.len()),
+        (0, 32, 32)
+    );
+    let fields = run(&theories::products(3, 8), BUDGET);
+    assert_eq!(
+        (fields.end, fields.rules.len(), fields.log.len()),
+        (23, 32, 32)
+    );
+}
+
+#[test]
+fn end_23_by_the_513th_entry() {
+    let theory = theories::descents(&[84, 84, 84]);
+    assert_eq!(run(&theory, BUDGET).log.len(), 511);
+    let theory = theory.equation("x = x");
+    let fields = run(&theory, BUDGET);
+    assert_eq!((fields.end, fields.log.len()), (0, 512));
+    let theory = theory.equation("x = x");
+    let fields = run(&theory, BUDGET);
+    assert_eq!((fields.end, fields.log.len()), (23, 512));
+    // The turn's unit and its rewriting come before the test of the log.
+    assert_eq!(run(&theory, fields.units - 1).end, 21);
+}
+
+#[test]
+fn removed_rules_wait_at_the_end() {
+    // Rule 3 removes rules 1 and 2; both come after the waiting input 4.
+    let theory = Theory::new("a/0/0 b/0/1 c/0/2 f/1/3 g/1/4").equations(&[
+        "g(f(x)) = a",
+        "f(f(x)) = x",
+        "f(x) = x",
+        "c = b",
+    ]);
+    let fields = run(&theory, BUDGET);
+    let kinds: Vec<(u8, u8)> = fields.log.iter().map(|e| (e[0], e[2])).collect();
+    assert_eq!(kinds, [(1, 1), (1, 2), (1, 3), (1, 4), (2, 1), (2, 2)]);
+    assert_eq!(fields.end, 0);
+}

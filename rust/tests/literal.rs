@@ -1,0 +1,104 @@
+//! The engine against the definitions word for word, on generated problems.
+
+mod common;
+
+use common::literal::{apply, rename, Bytes, Symbols};
+use common::{completed, hex, literal_run};
+use kb_engine::problem::Problem;
+use kb_engine::{compare, generate, unify, CompareAnswer, UnifyAnswer};
+use std::collections::HashMap;
+
+const SEED: u64 = 20;
+/// Longer runs are left to the comparison of engines.
+const MOST_BUDGET: u32 = 60;
+
+/// Symbols and equations of a problem the engine's reader accepts.
+fn parts(problem: &Problem) -> (Symbols, Vec<(Bytes, Bytes)>) {
+    let table = &problem.bytes[3..3 + problem.bytes[2] as usize];
+    let symbols = table.chunks(2).map(|pair| (pair[0], pair[1])).collect();
+    let side = |range: &std::ops::Range<usize>| problem.bytes[range.clone()].to_vec();
+    let equations = problem
+        .equations
+        .iter()
+        .map(|e| (side(&e.left), side(&e.right)));
+    (Symbols(symbols), equations.collect())
+}
+
+fn problems(count: u64) -> impl Iterator<Item = Vec<u8>> {
+    (0..count).map(|index| generate::problem(SEED, index))
+}
+
+#[test]
+fn runs_follow_the_definitions() {
+    let mut decided = 0;
+    for mut bytes in problems(if cfg!(debug_assertions) { 1000 } else { 8000 }) {
+        let Ok(problem) = Problem::read(&bytes) else {
+            continue;
+        };
+        let (symbols, equations) = parts(&problem);
+        let budget = problem.budget.min(MOST_BUDGET);
+        let at = 3 + bytes[2] as usize + 3;
+        bytes[at..at + 4].copy_from_slice(&budget.to_be_bytes());
+        if let Some(mut expected) = literal_run::run(symbols, budget, &equations) {
+            let fields = completed(&bytes);
+            expected.count = fields.count;
+            assert_eq!(fields, expected, "{}", hex(&bytes));
+            decided += 1;
+        }
+    }
+    assert!(decided > 500, "only {decided}");
+}
+
+#[test]
+fn comparing_follows_the_clauses() {
+    for bytes in problems(if cfg!(debug_assertions) { 3000 } else { 20000 }) {
+        let CompareAnswer::Compared(order) = compare(&bytes) else {
+            continue;
+        };
+        let problem = Problem::read(&bytes).unwrap();
+        let (symbols, equations) = parts(&problem);
+        let (left, right) = &equations[0];
+        let mut memo = HashMap::new();
+        let expected = if left == right {
+            3
+        } else if symbols.above(left, right, &mut memo) {
+            assert!(!symbols.above(right, left, &mut memo));
+            1
+        } else if symbols.above(right, left, &mut memo) {
+            2
+        } else {
+            4
+        };
+        assert_eq!(order as u8, expected, "{}", hex(&bytes));
+    }
+}
+
+#[test]
+fn unifying_follows_the_definition() {
+    let mut result = vec![0; common::BUFFER];
+    for bytes in problems(if cfg!(debug_assertions) { 3000 } else { 20000 }) {
+        let answer = unify(&bytes, &mut result);
+        if let UnifyAnswer::Refused(_) = answer {
+            continue;
+        }
+        let problem = Problem::read(&bytes).unwrap();
+        let (symbols, equations) = parts(&problem);
+        let (left, right) = &equations[0];
+        let Ok(found) = symbols.unifier(left, right) else {
+            continue;
+        };
+        let Some(unifier) = found else {
+            assert_eq!(answer, UnifyAnswer::None, "{}", hex(&bytes));
+            continue;
+        };
+        let instance = apply(&unifier, left);
+        assert_eq!(instance, apply(&unifier, right));
+        if instance.len() > 120 {
+            assert_eq!(answer, UnifyAnswer::TooLarge, "{}", hex(&bytes));
+        } else {
+            assert_eq!(answer, UnifyAnswer::Written(instance.len() + 3));
+            let expected = rename(&instance, &[]).0;
+            assert_eq!(result[3..3 + instance.len()], expected, "{}", hex(&bytes));
+        }
+    }
+}
