@@ -1,5 +1,6 @@
 -- What is read fits: a problem that is accepted has at most 16 symbols and 16 equations, whose sides have at most 120 nodes and variables below 16.
 -- Assumes nothing.
+-- Read first: problem/proofs/Reading, proofs/Limits.
 use mathlib.Core.Path.{_≡_}
 use mathlib.Core.Bool.{Bool, true, false, _||_}
 use mathlib.Core.List.{List, [], _∷_}

@@ -1,5 +1,5 @@
--- End 0 certifies: the rules that a run leaves with `complete` have the certificate of `Certificate`. Read `Ends` (what each end says) and
--- `Invariant` (what rules keep) first. Assumes nothing.
+-- End 0 certifies: the rules that a run leaves with `complete` have the certificate of `Certificate`. Assumes nothing.
+-- Read first: proofs/Ends (what each end says), proofs/Invariant (what rules keep).
 use mathlib.Core.Path.{_≡_, subst₂}
 use mathlib.Core.List.{List, [], _∷_}
 use Prim.Native.Nat.{ℕ, zero, suc, _<_}

@@ -1,4 +1,5 @@
 -- The limits that fixed arrays rely on, for every problem that is accepted: in one place. Assumes nothing.
+-- Read first: proofs/Kept, proofs/Result.
 use mathlib.Core.Path.{_≡_, refl, subst}
 use mathlib.Core.List.{List, [], _++_, List·Memᴰ}
 use mathlib.Core.Option.{some}

@@ -1,5 +1,6 @@
--- From a certificate to delivery, over any rules and equations: nothing here asks how the rules were found. Read `Settles` of specs/ first, then
--- `Deliver` (from all trees to terms over the symbols) and rewriting/proofs/PathOrder (joinable overlaps give unique last terms). Assumes nothing.
+-- From a certificate to delivery, over any rules and equations: nothing here asks how the rules were found. Assumes nothing.
+-- Read first: specs/Settles, proofs/Deliver (from all trees to terms over the symbols), rewriting/proofs/PathOrder (joinable overlaps give unique
+-- last terms).
 use mathlib.Core.Path.{_≡_}
 use mathlib.Core.Bool.{true}
 use mathlib.Core.List.{List}

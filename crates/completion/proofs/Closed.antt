@@ -1,4 +1,5 @@
 -- What a run keeps: a property of rules and one of waiting pairs, closed under the few things that a turn does. Assumes nothing.
+-- Read first: proofs/Ends, proofs/Reachable.
 use mathlib.Core.Path.{_≡_, refl, sym, subst}
 use mathlib.Core.Bool.{Bool, true, false}
 use mathlib.Core.List.{List, [], _∷_, List·Memᴰ, List·Memᴰ·head, List·Memᴰ·tail}

@@ -1,4 +1,5 @@
 -- One name for all of the definitions: a proof that computes with them writes `unfolding computes`. Assumes nothing.
+-- Read first: any file that uses it, e.g. proofs/Instances.
 use Rattle.terms.specs.Base
 use Rattle.terms.specs.Term
 use Rattle.problem.specs.Problem

@@ -1,4 +1,5 @@
 -- The delivery theorem in the words of document 01, from what a convergent system gives among all trees. Assumes nothing.
+-- Read first: specs/Settles, proofs/Words, proofs/Replacements.
 use mathlib.Core.Path.{_≡_, sym, _∙_, subst}
 use mathlib.Core.List.{List}
 use Prim.Native.Nat.{suc}

@@ -1,5 +1,6 @@
--- The delivery theorem: a rule set delivered as complete settles the buyer's equations, with no hypothesis but the run's end.
--- It is a certificate (`AtEnd`) and what a certificate gives (`Certificate`). Assumes nothing.
+-- The delivery theorem: a rule set delivered as complete settles the buyer's equations, with no hypothesis but the run's end. It is a certificate
+-- (`AtEnd`) and what a certificate gives (`Certificate`). Assumes nothing.
+-- Read first: specs/Settles, proofs/Certificate, proofs/AtEnd.
 use mathlib.Core.Path.{_≡_}
 use mathlib.Core.List.{List}
 use Prim.Native.Nat.{ℕ}

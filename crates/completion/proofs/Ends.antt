@@ -1,4 +1,5 @@
 -- What a turn does, and what each of its ends says of the state that it began with. Assumes nothing.
+-- Read first: specs/Turn, rewriting/proofs/Holds.
 use mathlib.Core.Path.{_≡_}
 use mathlib.Core.Bool.{true, false}
 use mathlib.Core.Logic.{_⊎_}

@@ -1,4 +1,5 @@
 -- Document 01, "Worked instances, all thirteen to be proved": one table, each line by computation. Assumes nothing.
+-- Read first: specs/Calls, specs/Settle, proofs/Computes.
 use mathlib.Core.Path.{_≡_, refl}
 use mathlib.Core.List.{List, [], _∷_, _++_, flatMap}
 use mathlib.Core.Option.{Option, none, some}

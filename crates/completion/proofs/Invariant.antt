@@ -1,5 +1,6 @@
--- Every rule of a run goes down in the order, has variables below 16 and is an equality of the input equations; every waiting pair is such an equality.
--- Assumes nothing.
+-- Every rule of a run goes down in the order, has variables below 16 and is an equality of the input equations; every waiting pair is such an
+-- equality. Assumes nothing.
+-- Read first: proofs/Closed, proofs/Words.
 use mathlib.Core.Path.{_≡_}
 use mathlib.Core.Bool.{true}
 use mathlib.Core.List.{List}

@@ -1,4 +1,5 @@
 -- Every state of a run keeps the limits. Assumes nothing.
+-- Read first: proofs/Limits, proofs/Closed.
 use mathlib.Core.Path.{_≡_, refl, sym, ap, _∙_, subst}
 use mathlib.Core.Bool.{Bool, true, false}
 use mathlib.Core.List.{List, [], _∷_, _++_, append-assoc, append-nil}

@@ -1,4 +1,5 @@
 -- What returning, the ends other than 21, sequencing, paying and normalising have, a whole turn has. Assumes nothing.
+-- Read first: specs/Turn.
 use mathlib.Core.Bool.{Bool, true, false}
 use mathlib.Core.List.{List, [], _∷_}
 use mathlib.Core.Option.{Option, none, some}

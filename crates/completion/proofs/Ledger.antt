@@ -1,5 +1,6 @@
--- "The count equals the definition's steps and turns": what a run does for its units, in order, is a list of turns begun and steps of `step`
--- made, and the units paid are its length. Assumes nothing.
+-- "The count equals the definition's steps and turns": what a run does for its units, in order, is a list of turns begun and steps of `step` made,
+-- and the units paid are its length. Assumes nothing.
+-- Read first: specs/Turn, proofs/Reachable.
 use mathlib.Core.Path.{_≡_, refl}
 use mathlib.Core.Bool.{Bool, true, false}
 use mathlib.Core.List.{List, [], _∷_, _++_}

@@ -1,5 +1,6 @@
--- The limits of a run: live rules, numbers, log, waiting list, sizes and variables, in every state that turns reach; and what each end says.
--- Assumes nothing.
+-- The limits of a run: live rules, numbers, log, waiting list, sizes and variables, in every state that turns reach; and what each end says. Assumes
+-- nothing.
+-- Read first: specs/Turn, terms/proofs/Limits.
 use mathlib.Core.Path.{_≡_, refl, ap}
 use mathlib.Core.List.{List, [], _∷_, map}
 use Prim.Native.Nat.{ℕ, suc, _+_, _≤_, _<_}
@@ -80,9 +81,6 @@ later-origin a b l (overlapping i o p) h = (h .0, omega arith, h .2, omega arith
 
 pub later-candidate : (n v a b : ℕ) → a ≤ b → (c : Candidate) → CandidateFits n v a c → CandidateFits n v b c
 later-candidate n v a b l c h = record { from = later-origin a b l (c .origin) (h .from); fits = h .fits }
-
-pub later-rule : (n a b : ℕ) → a ≤ b → (r : Rule) → RuleFits n a r → RuleFits n b r
-later-rule n a b l r h = record { first = h .first; last = omega arith; fits = h .fits }
 
 pub later-entry : (a b : ℕ) → a ≤ b → (e : Entry) → EntryFits a e → EntryFits b e
 later-entry a b l e h = record { from = later-origin a b l (e .origin) (h .from); last = omega arith }

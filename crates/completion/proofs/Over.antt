@@ -1,11 +1,12 @@
 -- Terms over the symbols: what keeps them so. Instances, renaming, parts, replacement, unification, overlaps, steps and normalising. Assumes nothing.
+-- Read first: problem/specs/Over.
 use mathlib.Core.Path.{_≡_, refl, sym, _∙_, ap, subst}
-use mathlib.Core.List.{List, [], List·Memᴰ·head, Memᴰ·append-left, Memᴰ·append-right}
+use mathlib.Core.List.{List, List·Memᴰ·head, Memᴰ·append-left, Memᴰ·append-right}
 use mathlib.Core.Option.{some}
 use Prim.Native.Nat.{ℕ, suc}
 use lib.Dec.{eqb}
 use Rattle.terms.specs.Term.{Term, Terms, var, node, nil, cons, variables, variables-of, subst-term, subst-terms, Pair, renamed, subterm-at, replace-at}
-use Rattle.terms.proofs.Subst.{Subst, In, VarsIn}
+use Rattle.terms.proofs.Subst.{Subst, In, VarsIn, count-subst}
 use Rattle.terms.proofs.Every.{Every}
 use Rattle.terms.proofs.Context.{Ctx, Ctxs, hole, beneath, first, later, plug, plugs}
 use Rattle.terms.proofs.Positions.{Found, found}
@@ -13,8 +14,6 @@ use Rattle.unify.specs.Unify.{single, Binding, under, mgu}
 use Rattle.unify.proofs.Limits.{Replaces, Answers, chosen-keeps, mgu-keeps, under-keeps}
 use Rattle.rewriting.specs.Overlap.{Overlap, overlap, apart}
 use Rattle.rewriting.proofs.Relations.{Rules, Step, here, Star, stop, move}
-use Rattle.rewriting.specs.Rewrite.{matching, instantiate}
-use Rattle.rewriting.proofs.Matching.{by, matching-sound}
 use Rattle.rewriting.proofs.Order.{StepAt, step-at}
 use Rattle.rewriting.proofs.Overlaps.{Made, made}
 use Rattle.problem.specs.Problem.{Symbol, Equation}
@@ -22,12 +21,7 @@ use Rattle.problem.specs.Over.{Over, OverAll}
 use Rattle.terms.specs.Scan.{count}
 use Rattle.completion.proofs.Words.{over-plug, over-at}
 
--- an instance and a filled context have as many arguments
-pub count-subst : (σ : Subst) (ts : Terms) → count (subst-terms σ ts) ≡ count ts
-unfolding subst-terms count
-count-subst σ nil = refl
-count-subst σ (cons t ts) = ap suc (count-subst σ ts)
-
+-- a filled context has as many arguments
 pub count-plugs : (cs : Ctxs) (a b : Term) → count (plugs cs a) ≡ count (plugs cs b)
 unfolding plugs count
 count-plugs (first c ts) a b = refl
@@ -86,11 +80,6 @@ module _ (Σ : List Symbol) where
   over-replace t p u v e o q =
       let f : Found t p u = found t p u e in
       subst (Over Σ) (sym (f .replaced v)) (over-refill (f .c) u v (subst (Over Σ) (f .whole) o) q)
-
-  -- what matching binds
-  pub over-matching : (l t : Term) (bs : List Binding) → matching l t [] ≡ some bs → Over Σ t → VarsIn (λ x. Over Σ (by bs x)) l
-  unfolding instantiate
-  over-matching l t bs e o = over-at Σ (by bs) l (subst (Over Σ) (matching-sound l t bs e) o)
 
   -- a step by rules over the symbols whose right sides have no variables of their own
   pub over-step : (R : Rules) → ((l r : Term) → R l r → Over Σ r) → ((l r : Term) → R l r → VarsIn (λ x. In x (variables l)) r) →

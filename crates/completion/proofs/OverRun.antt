@@ -1,5 +1,6 @@
--- The run over a problem whose equations are over its symbols: every rule and every waiting pair is over them too, and the right side of a
--- rule has no variable of its own. Assumes nothing.
+-- The run over a problem whose equations are over its symbols: every rule and every waiting pair is over them too, and the right side of a rule has
+-- no variable of its own. Assumes nothing.
+-- Read first: proofs/Over, proofs/Closed.
 use mathlib.Core.Path.{_≡_}
 use mathlib.Core.Bool.{true}
 use mathlib.Core.List.{List}

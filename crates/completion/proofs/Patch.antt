@@ -1,5 +1,6 @@
 -- A tree is patched to a term over the symbols: a variable takes the place of each node with an unknown symbol or a wrong number of arguments.
 -- Assumes nothing.
+-- Read first: problem/specs/Over, proofs/Over.
 use mathlib.Core.Path.{_≡_, refl, sym, _∙_, ap, ap₂}
 use mathlib.Core.Bool.{Bool, true, false, _&&_}
 use mathlib.Core.List.{List}
@@ -9,12 +10,12 @@ use lib.ListN.{length}
 use Rattle.terms.specs.Base.{if_then_else_}
 use Rattle.terms.specs.Term.{Term, Terms, var, node, nil, cons, subst-term, subst-terms}
 use Rattle.terms.proofs.Shape.{Says, Decides, dec-says, dec-and, ltb-dec, eqb-dec}
-use Rattle.terms.proofs.Subst.{Subst}
+use Rattle.terms.proofs.Subst.{Subst, count-subst}
 use Rattle.terms.proofs.Context.{Ctx, Ctxs, hole, beneath, first, later, plug, plugs}
 use Rattle.problem.specs.Problem.{Symbol, arity-of}
 use Rattle.problem.specs.Over.{Over, OverAll}
 use Rattle.terms.specs.Scan.{count}
-use Rattle.completion.proofs.Over.{count-subst, count-plugs}
+use Rattle.completion.proofs.Over.{count-plugs}
 
 -- a known symbol with so many arguments as its arity
 abbrev proper : List Symbol → ℕ → ℕ → Bool

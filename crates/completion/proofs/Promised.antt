@@ -1,5 +1,6 @@
--- Demand 3, the delivery theorem, as a promise about bytes: what complete writes, read back, holds the end and the live rules of the run, and
--- where the end is 0 these rules settle the buyer's equations. Assumes nothing.
+-- Demand 3, the delivery theorem, as a promise about bytes: what complete writes, read back, holds the end and the live rules of the run, and where
+-- the end is 0 these rules settle the buyer's equations. Assumes nothing.
+-- Read first: specs/Promise, proofs/Delivered, proofs/ReadBack.
 use mathlib.Core.Path.{_≡_, refl, sym, ap, subst, _∙_}
 use mathlib.Core.Bool.{false}
 use mathlib.Core.List.{List, [], _∷_, _++_, map, append-assoc}
@@ -24,7 +25,7 @@ use Rattle.completion.proofs.OverRun.{OverRule, run-over}
 use Rattle.completion.proofs.Kept.{run-limits}
 use Rattle.completion.proofs.Accepts.{accepts}
 use Rattle.completion.proofs.Result.{fields-fit}
-use Rattle.completion.proofs.ReadBack.{fields-are, named, Fits, no-rules, rules-back}
+use Rattle.completion.proofs.ReadBack.{fields-are, Fits, no-rules, rules-back}
 use Rattle.completion.proofs.Delivered.{delivered}
 
 apart : _≡_ {A = ℕ} 0 1 → ⊥
@@ -71,8 +72,8 @@ module _ (bytes : List ℕ) (P : Problem) (read : parse bytes ≡ ok P) where
         number = omega arith;
         left-over = h .0 .over .0;
         right-over = h .0 .over .1;
-        left-named = named _ _ (h .1 .fits .left .made);
-        right-named = named _ _ (h .1 .fits .right .made);
+        left-named = h .1 .fits .left .made;
+        right-named = h .1 .fits .right .made;
       }
 
   -- The fields of the result are those that its bytes hold.

@@ -1,4 +1,5 @@
 -- A run that ends other than with 21 ends so with any greater budget: the same end, units, rules and log. Assumes nothing.
+-- Read first: proofs/Steady, proofs/Reachable.
 use mathlib.Core.Path.{_≡_, refl, sym, ap, subst, _∙_}
 use mathlib.Core.List.{List, [], _∷_}
 use Prim.Native.Nat.{ℕ, zero, suc, _+_, _-_, _<_}

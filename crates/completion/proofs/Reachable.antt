@@ -1,4 +1,5 @@
 -- The states of a run, and how it ends: with a turn that stops, for the cause that its end names. Assumes nothing.
+-- Read first: proofs/Ends, proofs/Traced, proofs/Units.
 use mathlib.Core.Path.{_≡_, refl, sym, ap, subst, _∙_}
 use mathlib.Core.List.{[], _∷_}
 use Prim.Native.Nat.{ℕ, zero, suc, _+_, _-_, _≤_, _<_}

@@ -1,4 +1,5 @@
 -- Fields are read back from their bytes, and a rule from its field. Assumes nothing.
+-- Read first: specs/Promise, problem/proofs/Reading.
 use mathlib.Core.Path.{_≡_, refl, sym, ap, ap₂, _∙_}
 use mathlib.Core.Bool.{false}
 use mathlib.Core.List.{List, [], _∷_, _++_, map, flatMap, append-nil}
@@ -9,14 +10,14 @@ use lib.ListN.{length, take, drop, length-append}
 use lib.Seq.{take-at, drop-at}
 use borrow.Author.Tests.{le-ltb}
 use Rattle.terms.specs.Base.{if_then_else_, number-bytes, number-from, Tagged, field-bytes}
-use Rattle.terms.specs.Term.{Term, var, node, Terms, nil, cons, size, term-bytes}
+use Rattle.terms.specs.Term.{Term, size, term-bytes}
 use Rattle.terms.proofs.Bytes.{length-bytes}
-use Rattle.terms.proofs.Limits.{Made, MadeAll}
+use Rattle.terms.proofs.Limits.{Made}
 use Rattle.terms.proofs.Every.{Every, of-cons}
 use Rattle.terms.proofs.Numerals.{number-back}
 use Rattle.problem.specs.Problem.{ok, _>>=_, refuse-if, read-field, read-term, Symbol}
 use Rattle.problem.specs.Over.{Over}
-use Rattle.problem.proofs.Reading.{Named, NamedAll, read-back}
+use Rattle.problem.proofs.Reading.{read-back}
 use Rattle.rewriting.specs.Overlap.{Rule}
 use Rattle.completion.specs.Calls.{pair-bytes, rule-field}
 use Rattle.completion.specs.Promise.{fields-from, fields-of, rule-of, rules-in}
@@ -60,19 +61,11 @@ pub fields-are : (fs : List Tagged) → Every (λ f. length (f .contents) < 65_5
 unfolding fields-of
 fields-are fs h = fields-back (suc (length (flatMap field-bytes fs))) 0 fs h (omega (arith, fields-few fs))
 
--- Variables below 16 have a byte each.
-mutual
-  unfolding Made Named
-
-  pub named : (n : ℕ) (t : Term) → Made (λ f. f < n) (λ x. x < 16) t → Named t
-  named n (var x) h = h
-  named n (node f ts) h = named-all n ts (h .1)
-
-  named-all : (n : ℕ) (ts : Terms) → MadeAll (λ f. f < n) (λ x. x < 16) ts → NamedAll ts
-  named-all n nil h = tt
-  named-all n (cons t ts) h = (named n t (h .0), named-all n ts (h .1))
-
 module _ (Σ : List Symbol) (few : length Σ ≤ 16) where
+  -- symbols of the table, and variables that have a byte each
+  abbrev Named : Term → Type 0
+  Named t = Made (λ f. f < length Σ) (λ x. x < 16) t
+
   -- a rule that its field can hold
   pub record Fits (r : Rule) : Type 0 where
     pub number : r .number < 65_536

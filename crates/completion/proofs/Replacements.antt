@@ -1,5 +1,6 @@
--- Replacement of equals by equals among the terms over the symbols, and conversion among all trees: between terms over the symbols they are
--- the same. Assumes nothing.
+-- Replacement of equals by equals among the terms over the symbols, and conversion among all trees: between terms over the symbols they are the same.
+-- Assumes nothing.
+-- Read first: specs/Delivery, proofs/Patch, proofs/Words.
 use mathlib.Core.Path.{_≡_, refl, sym, _∙_, ap, subst, subst₂}
 use mathlib.Core.Logic.{inl, inr, ⊎-elim, _↔_}
 use mathlib.Core.List.{List}

@@ -1,4 +1,5 @@
 -- The result: at most 13,715 bytes, each below 256, and every field's length below 256. Assumes nothing.
+-- Read first: specs/Calls, proofs/Kept.
 use mathlib.Core.Path.{_≡_, refl, sym, ap, _∙_}
 use mathlib.Core.List.{List, [], _∷_, _++_, map, flatMap, append-assoc}
 use Prim.Native.Nat.{ℕ, _+_, _*_, _≤_, _<_}

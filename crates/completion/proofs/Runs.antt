@@ -1,4 +1,5 @@
 -- Document 01, "Run by a program": the source documents' examples and one stop each, which the definitions run to the end too. Assumes nothing.
+-- Read first: proofs/Instances.
 use mathlib.Core.Path.{_≡_, refl}
 use mathlib.Core.List.{List, [], _∷_}
 use mathlib.Core.Option.{Option, none, some}

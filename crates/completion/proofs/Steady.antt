@@ -1,4 +1,6 @@
--- More units change nothing but what is left: what comes to an end with some units, other than for want of them, comes to it with more. Assumes nothing.
+-- More units change nothing but what is left: what comes to an end with some units, other than for want of them, comes to it with more. Assumes
+-- nothing.
+-- Read first: proofs/Lawful.
 use mathlib.Core.Path.{_≡_, refl, sym, ap, subst}
 use mathlib.Core.Bool.{Bool, true, false}
 use mathlib.Core.List.{List}

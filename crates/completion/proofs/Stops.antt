@@ -1,4 +1,5 @@
 -- Document 01, "Stops and what they leave": each cause once, and each place where the order of the tests decides. Assumes nothing.
+-- Read first: proofs/Instances.
 use mathlib.Core.Path.{_≡_, refl}
 use mathlib.Core.List.{List, [], _∷_, _++_}
 use Prim.Native.Nat.{ℕ, zero, suc}

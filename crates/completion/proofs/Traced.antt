@@ -1,4 +1,5 @@
 -- A turn comes to a next state, or to an end for its cause: the one proof that follows a turn step by step. Assumes nothing.
+-- Read first: specs/Turn, proofs/Ends.
 use mathlib.Core.Path.{_≡_, refl, sym, ap, subst, _∙_}
 use mathlib.Core.Bool.{false}
 use mathlib.Core.Logic.{inl, inr}

@@ -1,5 +1,6 @@
 -- A turn case by case: what `turn` comes to, from what its steps come to, for code that follows them one after the other. No invariant is assumed.
--- Read specs/Turn first. Assumes nothing.
+-- Assumes nothing.
+-- Read first: specs/Turn.
 use mathlib.Core.Path.{_≡_, refl, sym, ap, _∙_, subst}
 use mathlib.Core.Bool.{Bool, true, false}
 use mathlib.Core.List.{List, [], _∷_, _++_}
@@ -10,11 +11,11 @@ use lib.Dec.{ltb, leb}
 use lib.ListN.{length}
 use borrow.Author.Tests.{le-leb, lt-ltb, ltb-true, leb-true}
 use Rattle.terms.specs.Base.{if_then_else_}
-use Rattle.terms.specs.Term.{Term, Pair, same, pair-variables, renamed}
-use Rattle.rewriting.specs.Overlap.{Rule, Overlap, overlap, Place, all-places}
-use Rattle.rewriting.specs.Rewrite.{End, complete, spent, too-large, rules-full, log-full, Paid, done, stop, Paying, return, end-with, and-then, _>>=_, end-if, pay, hold, normalise, normalise-pair}
+use Rattle.terms.specs.Term.{Pair, same, pair-variables}
+use Rattle.rewriting.specs.Overlap.{Rule, overlap, Place, all-places}
+use Rattle.rewriting.specs.Rewrite.{End, spent, too-large, rules-full, log-full, Paid, done, stop, Paying, return, end-with, and-then, _>>=_, end-if, pay, normalise-pair}
 use Rattle.problem.specs.Problem.{Problem}
-use Rattle.completion.specs.Turn.{Origin, overlapping, scanned-input, Candidate, Entry, State, Taken, candidates, scan-overlap, if-different, if-different-overlap, scan-inputs, scan, take-pair, orient, kept, removed, normalise-rights, make-rule, settled, turn, Finished, initial, turns, run}
+use Rattle.completion.specs.Turn.{Origin, scanned-input, Candidate, State, Taken, candidates, scan-overlap, if-different, if-different-overlap, scan-inputs, scan, take-pair, orient, kept, removed, normalise-rights, make-rule, settled, turn, Finished, initial, turns, run}
 
 -- Step 1 behind its unit, and the rest of a turn.
 pub turn-unpaid : (P : Problem) (s : State) → turn P s 0 ≡ stop spent 0

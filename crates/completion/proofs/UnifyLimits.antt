@@ -1,4 +1,5 @@
 -- What unify writes: one field of at most 123 bytes. Assumes nothing.
+-- Read first: specs/Calls, proofs/Accepts.
 use mathlib.Core.Path.{_≡_, refl, subst}
 use mathlib.Core.Bool.{Bool, true, false}
 use mathlib.Core.List.{List, [], _∷_}

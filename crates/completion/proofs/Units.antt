@@ -1,4 +1,5 @@
 -- The units: nothing that pays leaves more than it had, a turn leaves less, and so one turn more than the budget is enough turns. Assumes nothing.
+-- Read first: specs/Turn, proofs/Lawful.
 use mathlib.Core.Path.{_≡_, refl}
 use mathlib.Core.Bool.{Bool, true, false}
 use mathlib.Core.List.{List}

@@ -1,5 +1,6 @@
--- The words of the delivery theorem and the relations of rewriting: a step at a node is a step, and a step from a term over the symbols is a
--- step at a node. Assumes nothing.
+-- The words of the delivery theorem and the relations of rewriting: a step at a node is a step, and a step from a term over the symbols is a step at
+-- a node. Assumes nothing.
+-- Read first: specs/Delivery, rewriting/proofs/Relations.
 use mathlib.Core.Path.{_≡_, refl, sym, _∙_, ap, ap₂, subst}
 use mathlib.Core.Bool.{Bool, true, false}
 use mathlib.Core.Logic.{⊎-elim}

@@ -1,4 +1,5 @@
 -- `above` is what the document's three clauses say, word for word; where the lists are equally long no test of that is left. Assumes nothing.
+-- Read first: specs/Order, proofs/Decide.
 use mathlib.Core.Path.{_≡_, refl, ap, _∙_}
 use mathlib.Core.Bool.{Bool, true, false, _&&_, _||_}
 use Prim.Native.Nat.{ℕ}

@@ -1,4 +1,5 @@
--- `Above rank` is closed under substitution and under contexts, and has the subterm property.
+-- `Above rank` is closed under substitution and under contexts, and has the subterm property. Assumes nothing.
+-- Read first: proofs/PathOrder.
 use mathlib.Core.Logic.{⊎-elim}
 use mathlib.Core.List.{List·Memᴰ·not-nil, Memᴰ·append-left, Memᴰ·append-right, List·Memᴰ·append-cases}
 use Prim.Native.Nat.{ℕ}

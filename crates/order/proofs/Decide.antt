@@ -1,4 +1,5 @@
--- The test `above rank s t` decides `Above rank s t`.
+-- The test `above rank s t` decides `Above rank s t`. Assumes nothing.
+-- Read first: specs/Order, proofs/PathOrder.
 use mathlib.Core.Path.{_≡_, refl, sym, subst}
 use mathlib.Core.Bool.{Bool, true, false, false≢true}
 use mathlib.Core.Logic.{_⊎_, inl, inr}

@@ -1,4 +1,5 @@
--- The test run on the rules of groups: 0 is the unit, 1 the product, 2 the inverse, and a symbol's rank is its number.
+-- The test run on the rules of groups: 0 is the unit, 1 the product, 2 the inverse, and a symbol's rank is its number. Assumes nothing.
+-- Read first: specs/Order, proofs/Decide.
 use mathlib.Core.Path.{_≡_, refl}
 use mathlib.Core.Bool.{true, false}
 use Prim.Native.Nat.{ℕ}

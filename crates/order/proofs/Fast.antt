@@ -1,4 +1,5 @@
--- The faster test: where the symbols at the root decide, the other clauses are not tried. It agrees with `above`.
+-- The faster test: where the symbols at the root decide, the other clauses are not tried. It agrees with `above`. Assumes nothing.
+-- Read first: specs/Order, proofs/Decide.
 use mathlib.Core.Path.{_≡_, refl, sym, subst}
 use mathlib.Core.Bool.{Bool, true, false, _&&_, _||_, cond, false≢true}
 use mathlib.Core.Logic.{_⊎_, inl, inr}
@@ -66,10 +67,6 @@ module _ (rank : ℕ → ℕ) where
 
   no-cycle : {s t : Term} → Above rank s t → Above rank t s → ⊥
   no-cycle a b = above-irrefl rank (above-trans rank a b)
-
-  -- A symbol of higher rank: only the arguments of the other matter.
-  pub above-higher : {f g : ℕ} {ss ts : Terms} → rank g < rank f → AboveAll rank (node f ss) ts → Above rank (node f ss) (node g ts)
-  above-higher lt all = by-rank lt all
 
   -- A symbol of lower rank, or of the same rank and another: only clause 1.
   pub above-lower : {f g : ℕ} {ss ts : Terms} → (rank g < rank f → ⊥) → (f ≡ g → ⊥) → Above rank (node f ss) (node g ts) → Within rank ss (node g ts)

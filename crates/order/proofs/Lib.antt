@@ -4,7 +4,6 @@ pub mod Trans
 pub mod Decide
 pub mod Clauses
 pub mod Fast
-pub mod Plain
 pub mod Examples
 pub mod Steps
 pub mod PathOrder

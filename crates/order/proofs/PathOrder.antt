@@ -1,5 +1,6 @@
--- The lexicographic path order over raw terms: `Above s t`, s is above t.
--- `rank` is the rank of a symbol; two symbols may have the same rank. Assumes nothing.
+-- The lexicographic path order over raw terms: `Above s t`, s is above t. `rank` is the rank of a symbol; two symbols may have the same rank. Assumes
+-- nothing.
+-- Read first: specs/Order.
 use Prim.Native.Nat.{ℕ, _<_}
 use Rattle.terms.specs.Term.{Term, Terms, node, nil, cons}
 

@@ -1,4 +1,5 @@
 -- What each answer of the comparison on bytes says of terms: a lemma for each place where a function returns. Assumes nothing.
+-- Read first: specs/Walk, proofs/Fast, terms/proofs/Starts.
 use mathlib.Core.Path.{_≡_, refl, ap, ap₂, sym, _∙_}
 use mathlib.Core.Bool.{Bool, true, false, _&&_, _||_, cond}
 use mathlib.Core.List.{List}
@@ -8,7 +9,8 @@ use lib.ListN.{length, getD, List·getD-eq-default}
 use borrow.Author.Tests.{lt-ltb, le-ltb, eq-eqb, ne-eqb}
 use Rattle.terms.specs.Base.{if_then_else_}
 use Rattle.terms.specs.Term.{Term, var, node, Terms, nil, cons, same}
-use Rattle.terms.specs.Scan.{count, owes, Starts, StartAll, IsSame}
+use Rattle.terms.specs.Scan.{count, owes}
+use Rattle.terms.specs.Flat.{Starts, StartAll, IsSame}
 use Rattle.terms.proofs.Starts.{from, head-var, head-node, first, none-left, starts-some, IsEnd, ended}
 use Rattle.order.specs.Order.{same-length, by-clauses, above, some-reaches, comparison}
 use Rattle.order.specs.Walk.{rank, all-above, walked, IsAbove, IsSome, IsAll, IsWalk, IsCompared}

@@ -1,4 +1,5 @@
--- `Above rank` is transitive.
+-- `Above rank` is transitive. Assumes nothing.
+-- Read first: proofs/PathOrder.
 use Prim.Native.Nat.{ℕ, _<_}
 use native.Mathlib.Omega.{arith}
 use Rattle.terms.specs.Term.{Term, Terms, var, node}

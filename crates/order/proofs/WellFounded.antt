@@ -1,4 +1,5 @@
--- Every term is accessible for the inverse of `Above rank`.
+-- Every term is accessible for the inverse of `Above rank`. Assumes nothing.
+-- Read first: proofs/PathOrder.
 use mathlib.Core.WellFounded.{Acc, Acc·intro, Acc·inv, WellFounded}
 use Prim.Native.Nat.{ℕ, _<_}
 use lib.WfN.{Nat·lt-wfRel}

@@ -1,4 +1,5 @@
 -- The parser's fields: a lemma for each place where `due`, `rank_seen`, `check_table`, `symbols` and `budget` return. Assumes nothing.
+-- Read first: specs/Problem, specs/Parser.
 use mathlib.Core.Path.{_≡_, refl, ap, ap₂, sym, _∙_}
 use mathlib.Core.Bool.{Bool, true, false, _||_}
 use mathlib.Core.List.{List, [], _∷_}

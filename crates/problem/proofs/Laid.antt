@@ -1,4 +1,5 @@
 -- Where the equations of an accepted problem lie: field behind field, each with the bytes of its two sides. Assumes nothing.
+-- Read first: specs/Parser, proofs/Sides.
 use mathlib.Core.Path.{_≡_, refl, ap, sym, _∙_}
 use mathlib.Core.Bool.{Bool, true, false}
 use mathlib.Core.List.{List, [], _∷_}

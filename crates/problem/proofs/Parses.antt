@@ -1,4 +1,5 @@
 -- The loop over equation fields, and the problem as a whole: a lemma for each step and each return. Assumes nothing.
+-- Read first: specs/Parser, proofs/Fields, proofs/Scanned.
 use mathlib.Core.Path.{_≡_, refl, ap, sym, _∙_}
 use mathlib.Core.List.{List, [], _∷_, _++_, append-assoc, append-nil}
 use Prim.Native.Nat.{ℕ, zero, suc, _+_, _-_, _<_, _≤_}

@@ -1,6 +1,7 @@
 -- What is read from bytes: a term over the symbols, with variables below 16, whose bytes stand at the front. Assumes nothing.
+-- Read first: specs/Problem, specs/Over.
 use mathlib.Core.Path.{_≡_, refl, sym, ap, subst, subst⁻¹, _∙_}
-use mathlib.Core.Bool.{Bool, true, false, not, _&&_}
+use mathlib.Core.Bool.{Bool, true, false, _&&_}
 use mathlib.Core.List.{List, [], _∷_, _++_, append-assoc}
 use Prim.Native.Nat.{ℕ, zero, suc, _+_, _-_, _≤_, _<_}
 use native.Mathlib.Omega.{arith}
@@ -34,9 +35,6 @@ passed false n at u e = refl
 
 true-is : (b : Bool) → b ≡ true → T b
 true-is b h = subst⁻¹ T h tt
-
-false-is : (b : Bool) → b ≡ false → T (not b)
-false-is b h = subst⁻¹ (λ (b : Bool). T (not b)) h tt
 
 pub both : (a b : Bool) → (a && b) ≡ true → (a ≡ true) × (b ≡ true)
 both true b h = (refl, h)
@@ -173,16 +171,6 @@ module _ (Σ : List Symbol) where
       (λ at bs p e. rest-shorter at bs p (reads d at bs p e))
       (arity-of Σ f) (at + 1) bytes (omega arith) j)
 
--- Terms whose variables are 0 to 15.
-unfoldable mutual
-  pub Named : Term → Type 0
-  Named (var x) = x < 16
-  Named (node f ts) = NamedAll ts
-
-  pub NamedAll : Terms → Type 0
-  NamedAll nil = Unit {0}
-  NamedAll (cons t ts) = Named t × NamedAll ts
-
 is-true : (b : Bool) → T b → b ≡ true
 is-true true t = refl
 is-true false t = absurd t
@@ -230,17 +218,17 @@ module _ (Σ : List Symbol) (few : length Σ ≤ 16) where
 
   -- Every term over the symbols, its variables 0 to 15, is read back from its bytes, whatever stands behind them.
   mutual
-    unfolding term-bytes size Over count Named
+    unfolding term-bytes size Over count Made
 
-    pub read-back : (t : Term) (depth at end : ℕ) (rest : List ℕ) → Over Σ t → Named t → size t ≤ depth → end ≡ at + size t →
+    pub read-back : (t : Term) (depth at end : ℕ) (rest : List ℕ) → Over Σ t → Made (λ f. f < length Σ) (λ x. x < 16) t → size t ≤ depth → end ≡ at + size t →
         read-term Σ depth at (term-bytes t ++ rest) ≡ ok (record { part = t; end = end; rest = rest })
     read-back (var x) zero at end rest o n h e = absurd (omega arith)
     read-back (var x) (suc d) at end rest o n h e = var-step x d at end rest n e
     read-back (node f ts) zero at end rest o n h e = absurd (omega arith)
     read-back (node f ts) (suc d) at end rest o n h e =
-        node-step f ts d at end (terms-bytes ts ++ rest) rest (o .0) (o .1) (read-back-all ts d (at + 1) end rest (o .2) n (omega arith) (omega arith))
+        node-step f ts d at end (terms-bytes ts ++ rest) rest (o .0) (o .1) (read-back-all ts d (at + 1) end rest (o .2) (n .1) (omega arith) (omega arith))
 
-    pub read-back-all : (ts : Terms) (depth at end : ℕ) (rest : List ℕ) → OverAll Σ ts → NamedAll ts → sizes ts ≤ depth → end ≡ at + sizes ts →
+    pub read-back-all : (ts : Terms) (depth at end : ℕ) (rest : List ℕ) → OverAll Σ ts → MadeAll (λ f. f < length Σ) (λ x. x < 16) ts → sizes ts ≤ depth → end ≡ at + sizes ts →
         read-terms (λ at bytes. read-term Σ depth at bytes) (count ts) at (terms-bytes ts ++ rest) ≡ ok (record { part = ts; end = end; rest = rest })
     read-back-all nil depth at end rest o n h e = nil-step depth at end rest (omega arith)
     read-back-all (cons t ts) depth at end rest o n h e =

@@ -1,4 +1,5 @@
 -- The walk over bytes reads what `read-term` reads: a side's end or its refusal; a lemma for each return of `side` and `equation`. Assumes nothing.
+-- Read first: specs/Parser, proofs/Reading, terms/proofs/Scans.
 use mathlib.Core.Path.{_≡_, refl, ap, ap₂, sym, _∙_}
 use mathlib.Core.Bool.{Bool, true, false, _&&_}
 use mathlib.Core.List.{List, [], _∷_}

@@ -1,35 +1,39 @@
 -- The two sides of an equation field, and the first of the equation fields: where they stand in a problem's bytes. Assumes nothing.
+-- Read first: specs/Over, proofs/Reading, terms/specs/Flat.
 use mathlib.Core.Path.{_≡_, refl, ap, sym, _∙_, subst}
 use mathlib.Core.List.{List, [], _∷_, _++_, append-assoc}
-use Prim.Native.Nat.{ℕ, suc, _+_, _≤_}
+use Prim.Native.Nat.{ℕ, suc, _+_, _<_, _≤_}
 use native.Mathlib.Omega.{arith}
 use lib.ListN.{length, take, drop, length-take, take-append-drop}
 use lib.Seq.{drop-append-le, drop-at, drop-drop}
 use Rattle.terms.specs.Term.{Term, var, node, Terms, nil, cons, size, term-bytes}
-use Rattle.terms.specs.Scan.{Wf, Wfs, Starts}
+use Rattle.terms.specs.Flat.{Wf, Wfs, Starts}
 use Rattle.terms.proofs.Bytes.{length-bytes}
+use Rattle.terms.proofs.Flats.{widen}
+use Rattle.terms.proofs.Limits.{Made, MadeAll}
 use Rattle.problem.specs.Problem.{ok, Field, due, Symbol, Part, read-side, Equation, equation-field, equation-fields}
 use Rattle.problem.specs.Over.{Over, OverAll}
 use Rattle.problem.specs.Parser.{field-at, symbols-of, Table}
 use Rattle.problem.proofs.Reading.{from-bind, reads, ok-injective}
 use Rattle.problem.proofs.Scanned.{arity-is}
 
--- terms over the symbols of a table are well-formed over it
+-- terms over the symbols of a table, with variables below 16, are well-formed over it
 module _ (tab : List ℕ) (T : Table tab) where
-  mutual
-    unfolding Over Wf
+  module _ (S : ℕ → Type 0) where
+    mutual
+      unfolding Over Made Wf
 
-    pub over-wf : (t : Term) → Over (symbols-of tab) t → Wf tab t
-    over-wf (var x) o = tt
-    over-wf (node f ts) o = (omega (arith, o .0, T .even, T .small), o .1 ∙ arity-is tab T f, over-wf-all ts (o .2))
+      over-wf : (t : Term) → Over (symbols-of tab) t → Made S (λ x. x < 16) t → Wf 16 tab t
+      over-wf (var x) o m = m
+      over-wf (node f ts) o m = (omega (arith, o .0, T .even, T .small), o .1 ∙ arity-is tab T f, over-wf-all ts (o .2) (m .1))
 
-    pub over-wf-all : (ts : Terms) → OverAll (symbols-of tab) ts → Wfs tab ts
-    over-wf-all nil o = tt
-    over-wf-all (cons t ts) o = (over-wf t (o .0), over-wf-all ts (o .1))
+      over-wf-all : (ts : Terms) → OverAll (symbols-of tab) ts → MadeAll S (λ x. x < 16) ts → Wfs 16 tab ts
+      over-wf-all nil o m = tt
+      over-wf-all (cons t ts) o m = (over-wf t (o .0) (m .0), over-wf-all ts (o .1) (m .1))
 
   -- a side that is read, in bytes with more behind them
   record Side (at : ℕ) (bytes : List ℕ) (p : Part Term) : Type 0 where
-    wf : Wf tab (p .part)
+    wf : Wf 16 tab (p .part)
     front : bytes ≡ term-bytes (p .part) ++ p .rest
 
   side-read : (at : ℕ) (bytes : List ℕ) (p : Part Term) → read-side (symbols-of tab) at bytes ≡ ok p → Side at bytes p
@@ -38,11 +42,13 @@ module _ (tab : List ℕ) (T : Table tab) where
       from-bind _ _ p e λ t e₁ k.
       from-bind _ _ p k λ _ _ e₂.
       let r = reads (symbols-of tab) _ at bytes t e₁ in
-      subst (Side at bytes) (ok-injective e₂) (record { wf = over-wf (t .part) (r .over); front = r .front })
+      subst (Side at bytes) (ok-injective e₂) (record { wf = over-wf _ (t .part) (r .over) (r .made); front = r .front })
 
   -- both sides of an equation field
   pub record Both (l : List ℕ) (at : ℕ) (q : Equation) : Type 0 where
     pub first-is : q .first ≡ at
+    pub left-wf : Wf 16 tab (q .sides .left)
+    pub right-wf : Wf 16 tab (q .sides .right)
     pub left : Starts tab (drop (at + 3) l) (q .sides .left)
     pub right : Starts tab (drop (at + 3 + size (q .sides .left)) l) (q .sides .right)
 
@@ -58,9 +64,11 @@ module _ (tab : List ℕ) (T : Table tab) where
         more-behind ∙ ap (λ (m : List ℕ). m ++ drop e l) (X .front) ∙ append-assoc (term-bytes (x .part)) (x .rest) (drop e l) in
         record {
           first-is = refl;
-          left = record { wf = X .wf; rest = x .rest ++ drop e l; bytes = f };
+          left-wf = X .wf;
+          right-wf = Y .wf;
+          left = record { wf = widen 16 32 tab (x .part) (omega arith) (X .wf); rest = x .rest ++ drop e l; bytes = f };
           right = record {
-            wf = Y .wf;
+            wf = widen 16 32 tab (y .part) (omega arith) (Y .wf);
             rest = y .rest ++ drop e l;
             bytes = sym (drop-drop (size (x .part)) (at + 3) l) ∙ ap (drop (size (x .part))) f
                 ∙ drop-at (term-bytes (x .part)) (x .rest ++ drop e l) (size (x .part)) (length-bytes (x .part))

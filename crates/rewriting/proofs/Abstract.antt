@@ -1,5 +1,6 @@
--- Abstract rewriting: a relation `S` on a type `A`, read as one step. Newman's lemma, the Church-Rosser property, the existence of normal forms
--- where reducibility is decided. Nothing here knows of terms. Assumes nothing.
+-- Abstract rewriting: a relation `S` on a type `A`, read as one step. Newman's lemma, the Church-Rosser property, the existence of normal forms where
+-- reducibility is decided. Nothing here knows of terms. Assumes nothing.
+-- Read first: proofs/Relations.
 use mathlib.Core.Path.{_≡_, refl, subst}
 use mathlib.Core.Logic.{_⊎_, inl, inr}
 use mathlib.Core.WellFounded.{Acc, Acc·intro}
@@ -35,10 +36,6 @@ module _ {A : Type 0} {S : A → A → Type 0} where
 
   pub join-refl : {a : A} → Join S a a
   join-refl {a} = record { at = a; left = stop; right = stop }
-
-  -- A join whose ends are reached from other terms.
-  pub join-from : {a b c d : A} → Star S a c → Star S b d → Join S c d → Join S a b
-  join-from s t j = record { at = j .at; left = append s (j .left); right = append t (j .right) }
 
   pub star-eq : {a b : A} → a ≡ b → Star S a b
   star-eq {a} e = subst (λ x. Star S a x) e stop

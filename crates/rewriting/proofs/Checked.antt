@@ -1,4 +1,5 @@
 -- What a completion engine checks of its rules at the end, and what follows: the rules decide the equations. Assumes nothing.
+-- Read first: proofs/Finite, proofs/Order, proofs/Converge.
 use mathlib.Core.Path.{_≡_, refl, sym, _∙_, ap, ap₂, subst, subst₂}
 use mathlib.Core.Logic.{_⊎_, inl, inr}
 use mathlib.Core.List.{List, [], _∷_}

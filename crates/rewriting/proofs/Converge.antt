@@ -1,4 +1,5 @@
 -- A convergent system decides equality. Assumes nothing.
+-- Read first: proofs/Abstract, proofs/Steps.
 use mathlib.Core.Path.{_≡_, refl, sym, subst}
 use mathlib.Core.Logic.{_↔_}
 use mathlib.Core.WellFounded.{Acc, Acc·intro}

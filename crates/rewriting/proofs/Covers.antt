@@ -1,4 +1,5 @@
 -- `all-places` has every place of two rules that the critical pair lemma asks for, and no others. Assumes nothing.
+-- Read first: specs/Overlap, proofs/Relations.
 use mathlib.Core.Path.{_≡_, refl, sym, subst}
 use mathlib.Core.Logic.{⊎-elim}
 use mathlib.Core.List.{List, [], _∷_, _++_, List·Memᴰ·not-nil, List·Memᴰ·cases-cons}

@@ -1,4 +1,5 @@
 -- Critical pairs, over most general unifiers that are given as they are, and the critical pair lemma. Assumes nothing.
+-- Read first: proofs/Peak.
 use mathlib.Core.Path.{_≡_, refl, sym, _∙_, ap, ap₂, subst}
 use mathlib.Core.Logic.{_⊎_, inl, inr}
 use Prim.Native.Nat.{ℕ, zero, suc, _*_, _<_}

@@ -1,4 +1,5 @@
 -- Equational logic: the least congruence that has all instances of the equations. It is `Conv (Step E)`. Assumes nothing.
+-- Read first: proofs/Relations, proofs/Steps.
 use mathlib.Core.Path.{_≡_}
 use mathlib.Core.Logic.{_↔_}
 use Prim.Native.Nat.{ℕ}

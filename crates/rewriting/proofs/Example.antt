@@ -1,4 +1,5 @@
 -- The whole theorem at work: the equation f(f(x)) = g(x) is solved by the rules f(f(x)) → g(x) and f(g(x)) → g(f(x)). Assumes nothing.
+-- Read first: proofs/PathOrder.
 use mathlib.Core.Path.{_≡_, refl, ap, subst₂}
 use mathlib.Core.Bool.{true}
 use mathlib.Core.Logic.{⊎-elim}

@@ -1,4 +1,5 @@
 -- A list of rules: the critical pair lemma over the numbers of two rules and of a place. Assumes nothing.
+-- Read first: proofs/Critical, terms/proofs/Places.
 use mathlib.Core.Path.{_≡_, refl, sym, _∙_, ap, subst}
 use mathlib.Core.List.{List, [], _∷_, List·Memᴰ·head, List·Memᴰ·tail}
 use Prim.Native.Nat.{ℕ, zero, suc, _<_}

@@ -1,4 +1,5 @@
 -- What holds of a payment: of its answer, and of an end with the units then left. Assumes nothing.
+-- Read first: specs/Rewrite, proofs/Stepping.
 use mathlib.Core.Path.{_≡_, refl}
 use mathlib.Core.Bool.{Bool, true, false}
 use mathlib.Core.Option.{Option, none, some}
@@ -137,18 +138,6 @@ module _ (E : End → ℕ → Type 0) (rules : List Rule) (out-of-units : E spen
       bind-holds _ _ (normalise-holds (e .right) q) λ r b.
       return-holds _ (record { left = a; right = b })
 
--- What was held has at most 120 nodes, and holding costs nothing.
+-- an end is no answer
 pub stop≢done : {A : Type 0} {a : A} {e : End} {l m : ℕ} → stop e l ≡ done a m → ⊥
 stop≢done q = let z : _≡_ {A = ℕ} 0 1 = cc in omega arith
-
-done-left : {A : Type 0} {a b : A} {l m : ℕ} → done a l ≡ done b m → m ≡ l
-done-left q = cc
-
-end-if-done : (b : Bool) (e : End) (left rest : ℕ) → end-if b e left ≡ done tt rest → (b ≡ false) × (rest ≡ left)
-unfolding end-if end-with return
-end-if-done true e left rest q = absurd (stop≢done q)
-end-if-done false e left rest q = (refl, done-left q)
-
-pub hold-done : (t : Term) (left rest : ℕ) → hold t left ≡ done tt rest → (size t ≤ 120) × (rest ≡ left)
-unfolding hold
-hold-done t left rest e = let k = end-if-done (ltb 120 (size t)) too-large left rest e in (ltb-false 120 (size t) (k .0), k .1)

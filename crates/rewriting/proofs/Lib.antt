@@ -1,7 +1,6 @@
 pub mod Abstract
 pub mod Steps
 pub mod Peak
-pub mod Connect
 pub mod Equal
 pub mod Critical
 pub mod Converge

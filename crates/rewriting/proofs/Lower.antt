@@ -1,4 +1,5 @@
 -- Rewriting by rules that go down in the path order goes down, so a term above another is above what it is rewritten to. Assumes nothing.
+-- Read first: proofs/PathOrder.
 use mathlib.Core.Path.{_≡_}
 use mathlib.Core.Bool.{true}
 use Prim.Native.Nat.{ℕ}

@@ -1,4 +1,5 @@
 -- Rewriting ends where a reduction order has each rule's left side above its right side. Assumes nothing.
+-- Read first: proofs/Relations, proofs/Steps.
 use mathlib.Core.Path.{_≡_, sym, ap, subst₂}
 use mathlib.Core.WellFounded.{Acc, Acc·intro}
 use Rattle.terms.specs.Term.{Term, Terms, node, cons, subst-term}

@@ -1,4 +1,5 @@
 -- `overlap` finds the critical pairs: its peak steps to both of its sides, and where its sides join, every peak at the place does. Assumes nothing.
+-- Read first: specs/Overlap, proofs/Checked, unify/proofs/Correct.
 use mathlib.Core.Path.{_≡_, refl, sym, _∙_, ap, subst₂}
 use mathlib.Core.Logic.{inl, inr}
 use mathlib.Core.List.{List}

@@ -1,4 +1,5 @@
 -- The path order is a reduction order, so rewriting by rules that go down in it ends. Assumes nothing.
+-- Read first: proofs/Order, proofs/Overlaps, order/proofs/Closure.
 use mathlib.Core.Path.{_≡_}
 use mathlib.Core.Bool.{true}
 use mathlib.Core.List.{List}

@@ -1,5 +1,6 @@
--- Two steps from one term: where the second falls in the left side of the rule of the first, and local confluence where the proper overlaps are joinable.
--- Assumes nothing.
+-- Two steps from one term: where the second falls in the left side of the rule of the first, and local confluence where the proper overlaps are
+-- joinable. Assumes nothing.
+-- Read first: proofs/Steps.
 use mathlib.Core.Path.{_≡_, refl, sym, _∙_, ap, ap₂, subst}
 use Prim.Native.Nat.{ℕ}
 use native.Mathlib.Decide.{ℕ-discrete}

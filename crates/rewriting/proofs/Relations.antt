@@ -1,4 +1,5 @@
 -- The relations of rewriting: one step by rules, some steps, steps either way, common reducts, and what a convergent system gives. Assumes nothing.
+-- Read first: terms/specs/Term.
 use mathlib.Core.Path.{_≡_}
 use mathlib.Core.Logic.{_↔_}
 use mathlib.Core.List.{List, List·Memᴰ}

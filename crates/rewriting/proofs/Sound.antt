@@ -1,4 +1,5 @@
 -- What completion may add: replacing a system by one with the same equalities, and critical pairs, are sound. Assumes nothing.
+-- Read first: proofs/Converge, proofs/Critical.
 use mathlib.Core.Path.{_≡_, sym, _∙_, ap, subst}
 use mathlib.Core.Logic.{_↔_}
 use Rattle.terms.specs.Term.{Term, var, node, subst-term}

@@ -1,4 +1,5 @@
 -- `step` answers a term only where a step leads to it, and none only where no step leads on. Assumes nothing.
+-- Read first: specs/Rewrite, proofs/Matching.
 use mathlib.Core.Path.{_≡_, refl, sym, _∙_, ap}
 use mathlib.Core.Logic.{_⊎_, inl, inr, ⊎-elim}
 use mathlib.Core.List.{List, [], _∷_, List·Memᴰ·head, List·Memᴰ·tail, List·Memᴰ·not-nil, List·Memᴰ·cases-cons}

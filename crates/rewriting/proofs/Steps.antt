@@ -1,4 +1,5 @@
 -- What one step of rewriting by the rules `R` is closed under. Assumes nothing.
+-- Read first: proofs/Relations, terms/proofs/Context.
 use mathlib.Core.Path.{refl, _∙_, ap}
 use Prim.Native.Nat.{ℕ}
 use Rattle.terms.specs.Term.{Term, Terms, var, node, nil, cons, subst-term, subst-terms}
@@ -56,9 +57,6 @@ module _ {R : Rules} where
 
   pub join-subst : {t u : Term} (δ : Subst) → Join (Step R) t u → Join (Step R) (subst-term δ t) (subst-term δ u)
   join-subst δ j = record { at = subst-term δ (j .at); left = star-subst δ (j .left); right = star-subst δ (j .right) }
-
-  pub join-plug : {t u : Term} (c : Ctx) → Join (Step R) t u → Join (Step R) (plug c t) (plug c u)
-  join-plug c j = record { at = plug c (j .at); left = star-plug c (j .left); right = star-plug c (j .right) }
 
   -- Steps in the arguments.
   pub star-node : {ts us : Terms} (f : ℕ) → Star (Steps R) ts us → Star (Step R) (node f ts) (node f us)

@@ -1,4 +1,5 @@
 -- Steps by rules whose right sides have no variables of their own bring no variable in. Assumes nothing.
+-- Read first: proofs/Relations.
 use mathlib.Core.Path.{sym, subst}
 use mathlib.Core.Logic.{⊎-elim}
 use mathlib.Core.List.{List·Memᴰ·not-nil, List·Memᴰ·cases-cons, Memᴰ·append-left, Memᴰ·append-right, List·Memᴰ·append-cases}

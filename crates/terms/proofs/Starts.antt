@@ -1,50 +1,25 @@
--- Bytes that begin with those of terms: their first byte, their first term and what is behind it; bytes determine their term. Assumes nothing.
-use mathlib.Core.Path.{_≡_, refl, ap, ap₂, sym, _∙_, subst}
-use mathlib.Core.Bool.{Bool, true, false}
+-- Bytes that begin with those of terms: their first byte, their first term and what is behind it. Assumes nothing.
+-- Read first: specs/Flat, proofs/Flats.
+use mathlib.Core.Path.{_≡_, refl, ap, sym, _∙_}
+use mathlib.Core.Bool.{Bool, true}
 use mathlib.Core.List.{List, [], _∷_, _++_, append-assoc}
-use mathlib.Core.Option.{none, some}
-use lib.Dec.{ltb}
-use Prim.Native.Nat.{ℕ, zero, suc, _+_, _-_, _<_, _≤_}
+use mathlib.Core.Option.{some}
+use Prim.Native.Nat.{ℕ, _+_, _-_, _<_, _≤_}
 use native.Mathlib.Omega.{arith}
 use native.Mathlib.Nat.{zero-add}
 use lib.ListN.{length, getD, take, drop, length-drop}
 use lib.Seq.{take-all, take-at, drop-at}
-use Rattle.terms.specs.Term.{Term, var, node, Terms, nil, cons, term-bytes, terms-bytes, size, same, subterm-at, subterm-in}
-use Rattle.terms.specs.Base.{if_then_else_}
-use Rattle.terms.specs.Scan.{arity, count, Wf, Wfs, owes, skip, Starts, StartAll, IsSame}
+use Rattle.terms.specs.Term.{Term, var, node, Terms, nil, cons, term-bytes, terms-bytes, size, same, subterm-at}
+use Rattle.terms.specs.Scan.{count, owes, skip}
+use Rattle.terms.specs.Flat.{Wf, Starts, StartAll, IsSame}
 use Rattle.terms.proofs.Bytes.{length-bytes, around}
 use Rattle.terms.proofs.Shape.{dec-agree, same-dec}
 use Rattle.terms.proofs.Scans.{owes-symbol}
+use Rattle.terms.proofs.Flats.{skip-term, unique, wf-subterm}
 
--- A term's bytes determine it, whatever stands behind them.
-mutual
-  unfolding term-bytes Wf count
-
-  pub unique : (tab : List ℕ) (x y : Term) (r s : List ℕ) → Wf tab x → Wf tab y → term-bytes x ++ r ≡ term-bytes y ++ s → (x ≡ y) × (r ≡ s)
-  unique tab (var a) (var b) r s w v e =
-      let h : 128 + a ≡ 128 + b = cc in
-      let k : a ≡ b = omega arith in
-      (ap var k, cc)
-  unique tab (var a) (node g us) r s w v e = absurd (let h : 128 + a ≡ g = cc in omega (arith, v .0))
-  unique tab (node f ts) (var b) r s w v e = absurd (let h : f ≡ 128 + b = cc in omega (arith, w .0))
-  unique tab (node f ts) (node g us) r s w v e =
-      let h : f ≡ g = cc in
-      let d : terms-bytes ts ++ r ≡ terms-bytes us ++ s = cc in
-      let n : count ts ≡ count us = w .1 ∙ ap (arity tab) h ∙ sym (v .1) in
-      let i = unique-all tab ts us r s (w .2) (v .2) n d in
-      (ap₂ node h (i .0), i .1)
-
-  pub unique-all : (tab : List ℕ) (ts us : Terms) (r s : List ℕ) → Wfs tab ts → Wfs tab us → count ts ≡ count us →
-      terms-bytes ts ++ r ≡ terms-bytes us ++ s → (ts ≡ us) × (r ≡ s)
-  unique-all tab nil nil r s w v n e = (refl, e)
-  unique-all tab nil (cons u us) r s w v n e = absurd (omega arith)
-  unique-all tab (cons t ts) nil r s w v n e = absurd (omega arith)
-  unique-all tab (cons t ts) (cons u us) r s w v n e =
-      let d : term-bytes t ++ (terms-bytes ts ++ r) ≡ term-bytes u ++ (terms-bytes us ++ s) =
-      sym (append-assoc (term-bytes t) (terms-bytes ts) r) ∙ e ∙ append-assoc (term-bytes u) (terms-bytes us) s in
-      let i = unique tab t u (terms-bytes ts ++ r) (terms-bytes us ++ s) (w .0) (v .0) d in
-      let j = unique-all tab ts us r s (w .1) (v .1) (omega arith) (i .1) in
-      (ap₂ cons (i .0) (j .0), j .1)
+-- what the walk says of bytes, said of a term
+pub ends-term : (tab t : List ℕ) (at r : ℕ) → r ≡ at + skip tab (drop at t) 1 → (x : Term) → Starts tab (drop at t) x → r ≡ at + size x
+ends-term tab t at r h x s = h ∙ ap (λ (n : ℕ). at + n) (ap (λ (l : List ℕ). skip tab l 1) (s .bytes) ∙ skip-term 32 tab x (s .wf) (s .rest))
 
 -- what `term_end` says of the bytes s, from their start
 abbrev pub IsEnd : List ℕ → List ℕ → ℕ → Type 0
@@ -64,7 +39,7 @@ same-terms tab s t e f r p q h x y b d =
     let u = part-term tab s e x b (ended tab s e x p b) in
     let v = part-term tab t f y d (ended tab t f y q d) in
     dec-agree r (same x y)
-    (λ k. unique tab x y [] [] (b .wf) (d .wf) (ap (λ (l : List ℕ). l ++ []) (sym u ∙ h .0 k ∙ v)) .0, λ k. h .1 (u ∙ ap term-bytes k ∙ sym v))
+    (λ k. unique 32 tab x y [] [] (b .wf) (d .wf) (ap (λ (l : List ℕ). l ++ []) (sym u ∙ h .0 k ∙ v)) .0, λ k. h .1 (u ∙ ap term-bytes k ∙ sym v))
     (same-dec x y)
 
 -- the part of l from e on, as the code's &l[e..] is
@@ -135,34 +110,11 @@ pub end-pos : (tab l : List ℕ) (e : ℕ) → (length l ≡ 0 → ⊥) → e �
 end-pos tab l e h p = omega (arith, skip-pos tab l h)
 
 -- The subterm at p begins p bytes behind its term.
-no-some : {A : Type 0} {a : A} → none ≡ some a → ⊥
-no-some e = let h : _≡_ {A = ℕ} 0 1 = cc in omega arith
-
-in-part : (b : Bool) (tab : List ℕ) (t : Term) (ts : Terms) (p : ℕ) (u : Term) → ltb p (size t) ≡ b → subterm-in (cons t ts) p ≡ some u →
-    (subterm-at t p ≡ some u → Wf tab u) → (subterm-in ts (p - size t) ≡ some u → Wf tab u) → Wf tab u
-unfolding subterm-at if_then_else_
-in-part true tab t ts p u h e f g = f (rw h at e)
-in-part false tab t ts p u h e f g = g (rw h at e)
-
-mutual
-  unfolding subterm-at Wf
-
-  pub wf-subterm : (tab : List ℕ) (t : Term) (p : ℕ) (u : Term) → Wf tab t → subterm-at t p ≡ some u → Wf tab u
-  wf-subterm tab (var x) zero u w e = let q : var x ≡ u = cc in subst (Wf tab) q w
-  wf-subterm tab (var x) (suc p) u w e = absurd (no-some e)
-  wf-subterm tab (node f ts) zero u w e = let q : node f ts ≡ u = cc in subst (Wf tab) q w
-  wf-subterm tab (node f ts) (suc p) u w e = wf-subterm-in tab ts p u (w .2) e
-
-  pub wf-subterm-in : (tab : List ℕ) (ts : Terms) (p : ℕ) (u : Term) → Wfs tab ts → subterm-in ts p ≡ some u → Wf tab u
-  wf-subterm-in tab nil p u w e = absurd (no-some e)
-  wf-subterm-in tab (cons t ts) p u w e =
-      in-part (ltb p (size t)) tab t ts p u refl e (λ h. wf-subterm tab t p u (w .0) h) (λ h. wf-subterm-in tab ts (p - size t) u (w .1) h)
-
 pub starts-inside : (tab l : List ℕ) (x : Term) (p : ℕ) (u : Term) → Starts tab l x → subterm-at x p ≡ some u → Starts tab (drop p l) u
 starts-inside tab l x p u b e =
     let r = around x p u e in
     record {
-      wf = wf-subterm tab x p u (b .wf) e;
+      wf = wf-subterm 32 tab x p u (b .wf) e;
       rest = r .after ++ b .rest;
       bytes = ap (drop p) (b .bytes ∙ ap (λ (m : List ℕ). m ++ b .rest) (r .holds) ∙ append-assoc (r .before) (term-bytes u ++ r .after) (b .rest))
           ∙ drop-at (r .before) ((term-bytes u ++ r .after) ++ b .rest) p (r .begins)

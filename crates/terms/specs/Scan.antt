@@ -1,12 +1,11 @@
 -- Terms on their bytes: the walk that counts the subterms still owed, as a function of lists. Assumes nothing.
-use mathlib.Core.Path.{_≡_}
 use mathlib.Core.Bool.{Bool, _&&_, _||_}
-use mathlib.Core.List.{List, [], _∷_, _++_}
-use Prim.Native.Nat.{ℕ, zero, suc, _+_, _<_}
+use mathlib.Core.List.{List, [], _∷_}
+use Prim.Native.Nat.{ℕ, zero, suc, _+_}
 use lib.Dec.{ltb, leb}
 use lib.ListN.{length, getD}
 use Rattle.terms.specs.Base.{if_then_else_}
-use Rattle.terms.specs.Term.{Term, var, node, Terms, nil, cons, term-bytes, terms-bytes, same}
+use Rattle.terms.specs.Term.{Terms, nil, cons}
 use Rattle.terms.specs.declared.Ends.{Ends}
 use Rattle.terms.specs.declared.Ends.the-variants.{At, Bad}
 
@@ -18,16 +17,6 @@ unfoldable pub count : Terms → ℕ
 count nil = 0
 count (cons t ts) = suc (count ts)
 
--- A symbol is below 16 and has as many arguments as the table says.
-unfoldable mutual
-  pub Wf : List ℕ → Term → Type 0
-  Wf tab (var x) = Unit {0}
-  Wf tab (node f ts) = (f < 16) × (count ts ≡ arity tab f) × Wfs tab ts
-
-  pub Wfs : List ℕ → Terms → Type 0
-  Wfs tab nil = Unit {0}
-  Wfs tab (cons t ts) = Wf tab t × Wfs tab ts
-
 -- how many subterms follow the byte b
 unfoldable pub owes : List ℕ → ℕ → ℕ
 owes tab b = if ltb b 16 then arity tab b else 0
@@ -37,18 +26,6 @@ unfoldable pub skip : List ℕ → List ℕ → ℕ → ℕ
 skip tab [] n = 0
 skip tab (b ∷ l) zero = 0
 skip tab (b ∷ l) (suc n) = suc (skip tab l (owes tab b + n))
-
--- The bytes l begin with those of x, which is well-formed; with those of the n terms xs.
-pub record Starts (tab l : List ℕ) (x : Term) : Type 0 where
-  pub wf : Wf tab x
-  pub rest : List ℕ
-  pub bytes : l ≡ term-bytes x ++ rest
-
-pub record StartAll (tab l : List ℕ) (n : ℕ) (xs : Terms) : Type 0 where
-  pub number : count xs ≡ n
-  pub wf : Wfs tab xs
-  pub rest : List ℕ
-  pub bytes : l ≡ terms-bytes xs ++ rest
 
 -- "Symbol n is byte n. Variable n (0 to 15) is byte 80 + n.", over the symbols of the table
 unfoldable pub is-node : List ℕ → ℕ → Bool
@@ -62,7 +39,3 @@ scan tab (b ∷ l) i zero = At i
 scan tab (b ∷ l) i (suc n) =
     let more : Ends = scan tab l (i + 1) (owes tab b + n) in
     if is-node tab b then more else Bad i
-
--- what `same_term` answers of the terms at the start of the bytes s and t
-abbrev pub IsSame : List ℕ → List ℕ → List ℕ → Bool → Type 0
-IsSame tab s t r = (x y : Term) → Starts tab s x → Starts tab t y → r ≡ same x y

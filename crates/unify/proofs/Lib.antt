@@ -2,7 +2,6 @@ pub mod Disagree
 pub mod Correct
 pub mod More
 pub mod Unique
-pub mod Solver
 pub mod Common
 pub mod Examples
 pub mod Limits

@@ -1,4 +1,5 @@
--- `completion::budget` meets its contract. Assumes nothing.
+-- `problem::budget` meets its contract. Assumes nothing.
+-- Read first: proofs/Fields.
 use Rattle.problem.proofs.Fields.{bind-refused, budget-1, budget-2, budget-3}
 use Rattle.problem.specs.Problem.{budget-field}
 use native.Mathlib.Omega.{arith}

@@ -1,4 +1,5 @@
--- `completion::check_table` meets its contract. Assumes nothing.
+-- `problem::check_table` meets its contract. Assumes nothing.
+-- Read first: proofs/Fields.
 use Rattle.problem.proofs.Fields.{table-1, table-2, table-3, table-turn, table-5}
 use Rattle.problem.specs.Parser.{ranks, check-symbols}
 use Rattle.problem.specs.Problem.{refused}

@@ -1,4 +1,5 @@
--- `completion::due` meets its contract. Assumes nothing.
+-- `problem::due` meets its contract. Assumes nothing.
+-- Read first: proofs/Fields.
 use mathlib.Core.Path.{refl}
 use Rattle.problem.proofs.Fields.{due-1, due-2, due-3, due-4, due-5}
 use borrow.Author.Needs.{needs}

@@ -1,4 +1,5 @@
--- `completion::equation` meets its contract. Assumes nothing.
+-- `problem::equation` meets its contract. Assumes nothing.
+-- Read first: proofs/Scanned.
 use Rattle.problem.proofs.Scanned.{equation-1, equation-2, equation-3, equation-4, part-short}
 use borrow.Author.Needs.{needs}
 use Rattle.problem.proofs.equation.Statement.{statement}

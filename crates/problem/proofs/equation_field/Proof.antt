@@ -1,4 +1,5 @@
--- `completion::equation_field` meets its contract. Assumes nothing.
+-- `problem::equation_field` meets its contract. Assumes nothing.
+-- Read first: proofs/Scanned.
 use Rattle.problem.proofs.Scanned.{field-1, field-2, field-3, field-4}
 use borrow.Author.Needs.{needs}
 use Rattle.problem.proofs.equation_field.Statement.{statement}

@@ -1,4 +1,5 @@
--- `completion::equations` meets its contract. Assumes nothing.
+-- `problem::equations` meets its contract. Assumes nothing.
+-- Read first: proofs/Parses.
 use native.Mathlib.Omega.{arith}
 use Rattle.problem.proofs.Parses.{SoFar, fields-start, fields-turn, fields-bad, fields-end}
 use lib.ListN.{length}

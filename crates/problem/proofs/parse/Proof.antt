@@ -1,4 +1,5 @@
--- `completion::parse` meets its contract. Assumes nothing.
+-- `problem::parse` meets its contract. Assumes nothing.
+-- Read first: proofs/Parses.
 use Rattle.problem.proofs.Parses.{parse-1, parse-2, parse-3, parse-4, parse-5}
 use native.Mathlib.Omega.{arith}
 use borrow.Author.Needs.{needs}

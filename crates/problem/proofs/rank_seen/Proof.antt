@@ -1,4 +1,5 @@
--- `completion::rank_seen` meets its contract. Assumes nothing.
+-- `problem::rank_seen` meets its contract. Assumes nothing.
+-- Read first: proofs/Fields.
 use Rattle.problem.proofs.Fields.{seen-here, seen-before, seen-none}
 use Rattle.problem.specs.Parser.{ranks}
 use Rattle.terms.specs.Base.{member}

@@ -1,4 +1,5 @@
--- `completion::side` meets its contract. Assumes nothing.
+-- `problem::side` meets its contract. Assumes nothing.
+-- Read first: proofs/Scanned.
 use Rattle.problem.proofs.Scanned.{side-1, side-2, side-3, side-low}
 use mathlib.Core.Path.{_∙_, sym}
 use borrow.Author.Needs.{needs}

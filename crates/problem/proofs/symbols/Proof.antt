@@ -1,4 +1,5 @@
--- `completion::symbols` meets its contract. Assumes nothing.
+-- `problem::symbols` meets its contract. Assumes nothing.
+-- Read first: proofs/Fields.
 use Rattle.problem.proofs.Fields.{bind-refused, symbols-1, symbols-2, symbols-3, symbols-4, symbols-5}
 use Rattle.problem.specs.Problem.{symbol-field}
 use native.Mathlib.Omega.{arith}
