@@ -1,5 +1,6 @@
--- What closed classes of an arena's nodes say of unification: where every class stands for a term there is a most general unifier, and its
--- instances are those terms; where two symbols meet in a class, or classes go round in a circle, there is no unifier. Assumes nothing.
+-- Closed classes whose nodes all spell terms give a most general unifier, and its instances are those terms. Assumes nothing. Two symbols in one
+-- class (clash), or classes that go round in a circle (occurs check), leave no unifier.
+-- Read first: specs/Arena.
 use mathlib.Core.Path.{_≡_, refl, sym, ap, ap₂, subst, _∙_}
 use mathlib.Core.Logic.{_⊎_, inl, inr, ⊎-elim}
 use Prim.Native.Nat.{ℕ, zero, suc, _+_, _≤_, _<_, min}

@@ -1,4 +1,6 @@
--- The passes over the nodes that join classes until one joins nothing. Assumes nothing.
+-- Passes over the nodes that join classes until one pass joins nothing: invariant `Closing`, and `left-over`, which every step lowers. Assumes
+-- nothing.
+-- Read first: specs/Steps (StepAt, ClosedTo, weight), proofs/Walks, proofs/Joining.
 use mathlib.Core.Path.{_≡_, refl, sym, ap, subst, _∙_}
 use mathlib.Core.Bool.{Bool, true, false}
 use mathlib.Core.List.{List}

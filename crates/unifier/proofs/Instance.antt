@@ -1,23 +1,32 @@
--- What is written after unification is the bytes of an instance under a most general unifier. Assumes nothing.
-use mathlib.Core.Path.{_≡_, refl, sym, ap, subst, _∙_}
-use mathlib.Core.Option.{Option, some}
+-- After unification a node spells an instance under a most general unifier; renamed, it is the definition's. Assumes nothing.
+-- Read first: specs/Result (Solved), proofs/Verdict, naming/proofs/Renaming.
+use mathlib.Core.Path.{_≡_, sym, ap, subst, _∙_}
+use mathlib.Core.Option.{some}
 use mathlib.Core.List.{List, [], _++_, append-nil}
-use Prim.Native.Nat.{ℕ, zero, suc, _+_, _≤_, _<_}
+use Prim.Native.Nat.{ℕ, _≤_, _<_}
 use native.Mathlib.Omega.{arith}
-use lib.ListN.{length, take}
-use Rattle.terms.specs.Term.{Term, Terms, nil, cons, size, sizes, subst-term, subst-terms, variables, variables-of, term-bytes, terms-bytes}
-use Rattle.terms.proofs.Bytes.{length-bytes}
-use Rattle.unifier.specs.Arena.{Arena, Spells, SpellsAll, none, more, same, cap}
+use Rattle.terms.specs.Term.{Term, Terms, nil, cons, size, subst-term, subst-terms, variables, variables-of, term-bytes, terms-bytes}
+use Rattle.unifier.specs.Arena.{Arena, Spells, free, made, SpellsAll, none, more, same}
 use Rattle.unifier.specs.Steps.{at, arena}
 use Rattle.unifier.specs.Result.{Solved}
-use Rattle.unifier.specs.Written.{put, Room, Writes}
 use Rattle.unifier.proofs.Arena.{spells-within}
 use Rattle.unifier.proofs.Verdict.{the-mgu, solved-image, solved-size, solved-renames}
-use Rattle.unifier.proofs.Writing.{put-reads}
-use Rattle.unifier.proofs.Naming.{Low, spells-lows, renamed-terms}
-use Rattle.unifier.specs.Names.{renamed-bytes}
+use Rattle.naming.specs.Names.{renamed-bytes}
+use Rattle.naming.proofs.Renaming.{Low, Lows, renamed-terms}
 use Rattle.unify.specs.Unify.{Binding, mgu, under}
 use Rattle.terms.proofs.Rename.{rename, renames, numbered}
+
+-- symbols are below 128
+mutual
+  unfolding Low Lows
+
+  pub spells-low : {A : Arena} {c : ℕ → ℕ} {i : ℕ} {t : Term} → Spells A c i t → Low t
+  spells-low (free h e) = tt
+  spells-low (made h e l r) = (l, spells-lows r)
+
+  pub spells-lows : {A : Arena} {c : ℕ → ℕ} {p k : ℕ} {ts : Terms} → SpellsAll A c p k ts → Lows ts
+  spells-lows none = tt
+  spells-lows (more r s) = (spells-low r, spells-lows s)
 
 module _ (l tab : List ℕ) (n₁ n₂ : ℕ) (ends cs zs : List ℕ) (k : Solved l tab n₁ n₂ ends cs zs) (i : ℕ) (t : Term) (p : Spells (arena l tab ends) same i t) where
   abbrev the-instance : Term
@@ -39,25 +48,6 @@ module _ (l tab : List ℕ) (n₁ n₂ : ℕ) (ends cs zs : List ℕ) (k : Solve
   -- and one above is above
   pub large-size : 120 < at zs i → 120 < size the-instance
   large-size h = omega (arith, solved-size l tab n₁ n₂ ends cs zs k i t p)
-
-  pub instance-room : at zs i ≤ 120 → (to : ℕ) (d : List ℕ) → to + at zs i ≤ length d → Room (arena l tab ends) (at cs) i 1 to d
-  unfolding sizes
-  instance-room h to d q = (cons the-instance nil, spells-alone, omega (arith, small-size h))
-
-  module _ (to : ℕ) (d : List ℕ) (r : ℕ) (e : List ℕ) (w : Writes (arena l tab ends) (at cs) i 1 to d r e) where
-    pub instance-ends : r ≡ to + size the-instance
-    unfolding sizes
-    instance-ends = omega (arith, w .ends (cons the-instance nil) spells-alone)
-
-    pub instance-put : e ≡ put to (term-bytes the-instance) d
-    unfolding terms-bytes
-    instance-put = w .bytes (cons the-instance nil) spells-alone ∙ ap (λ x. put to x d) (append-nil (term-bytes the-instance))
-
-  pub instance-bytes : (d : List ℕ) (r : ℕ) (e : List ℕ) → Writes (arena l tab ends) (at cs) i 1 0 d r e → at zs i ≤ 120 → at zs i ≤ length d → take r e ≡ term-bytes the-instance
-  instance-bytes d r e w h q =
-      let n : r ≡ length (term-bytes the-instance) = omega (arith, instance-ends 0 d r e w, length-bytes the-instance) in
-      ap (λ x. take x e) n ∙ ap (take (length (term-bytes the-instance))) (instance-put 0 d r e w)
-      ∙ put-reads (term-bytes the-instance) d (omega (arith, length-bytes the-instance, small-size h))
 
   -- numbered, it is the instance under the unifier that the definition finds, renamed
   pub instance-renamed : (s t′ : Term) → Spells (arena l tab ends) same n₁ s → Spells (arena l tab ends) same n₂ t′ → (b : List Binding) → mgu s t′ ≡ some b →

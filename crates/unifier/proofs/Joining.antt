@@ -1,4 +1,5 @@
--- Two classes become one: the classes stay right, and the keys' sum falls. Assumes nothing.
+-- Two classes become one, the root with the larger key going to the other: the classes stay right, and the sum of the keys falls. Assumes nothing.
+-- Read first: specs/Steps (key, joined, weight, Grown), specs/Arena (Classes), proofs/Arena.
 use mathlib.Core.Path.{_≡_, refl, sym, ap, ap₂, subst, subst₂, _∙_}
 use mathlib.Core.Bool.{Bool, true, false}
 use mathlib.Core.Logic.{_⊎_, inl, inr, ⊎-elim}

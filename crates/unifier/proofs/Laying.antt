@@ -1,24 +1,22 @@
--- Whether bytes are those of terms, one after the other: the walk from the last byte to the first. Assumes nothing.
-use mathlib.Core.Path.{_≡_, refl, sym, ap, ap₂, subst, _∙_}
-use mathlib.Core.Bool.{Bool, true, false}
-use mathlib.Core.List.{List, [], _∷_, _++_, append-assoc, append-nil}
-use mathlib.Core.Option.{Option, some}
+-- Whether bytes are those of terms one after the other: a walk from the last byte to the first, counting the terms that follow. Assumes nothing.
+-- Read first: specs/Result (Formed, Tested), proofs/Starting.
+use mathlib.Core.Path.{_≡_, refl, sym, ap, _∙_}
+use mathlib.Core.Bool.{true, false}
+use mathlib.Core.List.{List, _∷_, _++_, append-assoc}
 use Prim.Native.Nat.{ℕ, zero, suc, _+_, _-_, _≤_, _<_}
 use native.Mathlib.Omega.{arith}
-use native.Mathlib.Decide.{decLt}
-use native.Mathlib.Numerals.{add-one}
 use native.Mathlib.Nat.{le-of-suc-le-suc}
 use lib.ListN.{length, getD, drop, length-append, drop-of-length-le}
 use lib.Seq.{drop-cons, drop-at}
-use Rattle.terms.specs.Term.{Term, var, node, Terms, nil, cons, size, sizes, term-bytes, terms-bytes, subterm-at, subterm-in}
-use Rattle.terms.specs.Scan.{arity, owes, count, Wf as Plain, Wfs as Plains}
+use Rattle.terms.specs.Term.{Term, var, node, Terms, nil, cons, sizes, term-bytes, terms-bytes}
+use Rattle.terms.specs.Scan.{owes, count}
 use Rattle.terms.specs.Flat.{Wf, Wfs}
-use Rattle.terms.proofs.Bytes.{length-bytes, length-bytes-all, Around, around-in}
-use Rattle.terms.proofs.Flats.{unique, widen-all}
+use Rattle.terms.proofs.Bytes.{length-bytes, length-bytes-all, around-in}
+use Rattle.terms.proofs.Flats.{unique, wf-subterm-in}
 use Rattle.terms.proofs.Places.{size-pos}
 use Rattle.terms.proofs.Scans.{owes-symbol}
-use Rattle.unifier.specs.Result.{Laid, LaidOut, Formed, Tested}
-use Rattle.unifier.proofs.Starting.{subterms-wf, subterms-there}
+use Rattle.unifier.specs.Result.{Formed, Tested}
+use Rattle.unifier.proofs.Starting.{subterms-there}
 
 -- the first k of some terms, and the others
 record Split (tab : List ℕ) (k : ℕ) (ts : Terms) : Type 0 where
@@ -133,7 +131,7 @@ module _ (l tab : List ℕ) (i have : ℕ) (f : Forest l tab i have) (h : 0 < i)
         let s = subterms-there ts (i - 1) n in
         let a = around-in ts (i - 1) (s .0) (s .1) in
         let b : getD l (i - 1) 0 ∷ terms-bytes (f .ts) ≡ term-bytes (s .0) ++ a .after = sym here ∙ ap (drop (i - 1)) (e ∙ a .holds) ∙ drop-at (a .before) (term-bytes (s .0) ++ a .after) (i - 1) (a .begins) in
-        absurd (g .none z (f .ts) (f .wf) (f .number) (s .0) (a .after) (subterms-wf 32 tab ts w (i - 1) (s .0) (s .1)) b);
+        absurd (g .none z (f .ts) (f .wf) (f .number) (s .0) (a .after) (wf-subterm-in 32 tab ts (i - 1) (s .0) w (s .1)) b);
   }
 
 pub forest-done : (l tab : List ℕ) (i have : ℕ) → Forest l tab i have → i ≤ 0 → Tested l tab true

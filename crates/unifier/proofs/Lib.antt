@@ -1,12 +1,12 @@
 pub mod Arena
 pub mod Walks
 pub mod Joining
-pub mod Filling
 pub mod Closing
 pub mod Sizing
+pub mod Ending
+pub mod Firsts
 pub mod Starting
 pub mod Verdict
 pub mod Laying
 pub mod Writing
-pub mod Naming
 pub mod Instance

@@ -1,4 +1,5 @@
--- The steps that find the sizes of the instances. Assumes nothing.
+-- The sizes of the instances: a sum over arguments, a node's size, and passes until none is found; what stays unknown is a circle. Assumes nothing.
+-- Read first: specs/Sizes (Total, SizeAt, Sized), specs/Arena (Measured, Descends), proofs/Walks.
 use mathlib.Core.Path.{_≡_, refl, sym, ap, ap₂, subst, subst₂, _∙_}
 use mathlib.Core.Bool.{Bool, true, false}
 use mathlib.Core.Logic.{_⊎_, inl, inr}

@@ -1,33 +1,32 @@
--- How unification begins: where subterms end, the first classes, no sizes. Assumes nothing.
-use mathlib.Core.Path.{_≡_, refl, sym, ap, ap₂, subst, subst₂, _∙_}
+-- How unification begins: where subterms end, first classes (a variable with its first node), no sizes; the bytes spell the terms. Assumes nothing.
+-- Read first: specs/Result (Laid, EndAt, FirstClass), specs/Arena (Spells, Classes), proofs/Arena.
+use mathlib.Core.Path.{_≡_, refl, sym, ap, subst, _∙_}
 use mathlib.Core.Bool.{Bool, true, false}
-use mathlib.Core.Logic.{_⊎_, inl, inr, ⊎-elim}
 use mathlib.Core.List.{List, [], _∷_, _++_, append-assoc, append-nil}
 use Prim.Native.Nat.{ℕ, zero, suc, _+_, _-_, _≤_, _<_}
 use native.Mathlib.Omega.{arith}
 use native.Mathlib.Decide.{decLt}
-use native.Mathlib.Numerals.{add-one}
-use lib.ListN.{length, getD, take, drop, set, length-set, length-append}
-use lib.Seq.{drop-cons, drop-at, drop-nil}
+use lib.ListN.{length, drop, set, length-set}
+use lib.Seq.{drop-at, drop-nil}
 use native.Mathlib.Nat.{zero-add, suc-add}
-use mathlib.Core.Option.{Option, none as none′, some}
+use mathlib.Core.Option.{none as none′, some}
 use lib.Dec.{ltb}
 use Rattle.terms.specs.Base.{if_then_else_}
 use Rattle.terms.specs.Term.{Term, var, node, Terms, nil, cons, size, sizes, term-bytes, terms-bytes, subst-term, subterm-at, subterm-in}
-use Rattle.terms.specs.Scan.{arity, owes, skip, count}
+use Rattle.terms.specs.Scan.{skip, count}
 use Rattle.terms.specs.Flat.{Wf, Wfs}
 use Rattle.terms.proofs.Scans.{owes-symbol}
-use Rattle.terms.proofs.Flats.{skip-term}
+use Rattle.terms.proofs.Flats.{skip-term, wf-subterm-in}
 use Rattle.terms.proofs.Bytes.{length-bytes, length-bytes-all, around-in}
 use Rattle.terms.proofs.Subst.{Subst}
 use Rattle.terms.proofs.Places.{place}
 use Rattle.terms.proofs.Positions.{subterm-is}
-use Rattle.unifier.specs.Arena.{Arena, Spells, free, made, SpellsAll, none, more, same, Whole, Joins, Classes, Never}
-use Rattle.unifier.specs.Steps.{at, arena, Ready}
-use Rattle.unifier.specs.Sizes.{Sized}
-use Rattle.unifier.specs.Result.{Laid, EndAt, FirstLike, FirstClass, Each}
+use Rattle.unifier.specs.Arena.{Spells, free, made, SpellsAll, none, more, same, Whole, Joins, Classes}
+use Rattle.unifier.specs.Steps.{at, arena}
+use Rattle.unifier.specs.Result.{Laid, EndAt, FirstLike, FirstClass, Firsts, Each}
 use Rattle.unifier.proofs.Arena.{spells-within, spells-one, unfree}
 use Rattle.unifier.proofs.Sizing.{at-set, at-other}
+use Rattle.unifier.proofs.Firsts.{firsts-start, firsts-more}
 
 -- a loop that fills a list
 pub record Filled (P : ℕ → ℕ → Type 0) (d₀ d : List ℕ) (n : ℕ) : Type 0 where
@@ -51,28 +50,20 @@ filled-more P d₀ d n v f h p =
 pub filled-end : (P : ℕ → ℕ → Type 0) (d₀ d : List ℕ) (n k : ℕ) → Filled P d₀ d n → k ≤ n → (length d ≡ length d₀) × Each P d k
 filled-end P d₀ d n k f h = (f .long, λ i q. f .each i (omega arith))
 
--- a search for the first node with a byte
-pub first-found : (l : List ℕ) (i j : ℕ) → j < i → ((k : ℕ) → k < j → at l k ≡ at l i → ⊥) → at l j ≡ at l i → FirstLike l i j
-first-found l i j h f e = record { within = omega arith; alike = e; first = f }
+-- what the loop of `fill_class` keeps
+pub record Classing (l class₀ class firsts : List ℕ) (i : ℕ) : Type 0 where
+  pub filled : Filled (FirstClass l) class₀ class i
+  pub seen : Firsts l firsts i
 
-pub first-self : (l : List ℕ) (i j : ℕ) → i ≤ j → ((k : ℕ) → k < j → at l k ≡ at l i → ⊥) → FirstLike l i i
-first-self l i j h f = record { within = omega arith; alike = refl; first = λ k q. f k (omega arith) }
+pub classing-start : (l class firsts : List ℕ) → length firsts ≡ 256 → ((b : ℕ) → at firsts b ≡ 0) → Classing l class class firsts 0
+classing-start l class firsts h z = record { filled = filled-start (FirstClass l) class; seen = firsts-start l firsts h z }
 
-pub first-next : (l : List ℕ) (i j : ℕ) → ((k : ℕ) → k < j → at l k ≡ at l i → ⊥) → (at l j ≡ at l i → ⊥) → (k : ℕ) → k < j + 1 → at l k ≡ at l i → ⊥
-first-next l i j f n k h e = go (decLt k j)
-  where
-    go : Dec (k < j) → ⊥
-    go (yes q) = f k q e
-    go (no q) = let r : j ≡ k = omega arith in n (ap (at l) r ∙ e)
-
-pub class-symbol : (l : List ℕ) (i : ℕ) → at l i < 128 → FirstClass l i i
-class-symbol l i h = record { symbol = λ x. refl; variable = λ x. absurd (omega arith) }
-
-pub class-variable : (l : List ℕ) (i r : ℕ) → 128 ≤ at l i → FirstLike l i r → FirstClass l i r
-class-variable l i r h f = record { symbol = λ x. absurd (omega arith); variable = λ x. f }
-
-pub class-below : (l : List ℕ) (i r : ℕ) → 128 ≤ at l i → FirstLike l i r → FirstClass l i r × (r ≤ i)
-class-below l i r h f = (class-variable l i r h f, f .within)
+pub classing-more : (l class₀ class firsts : List ℕ) (i b c : ℕ) → Classing l class₀ class firsts i → i < length class₀ → b ≡ at l i → b < 256 → FirstClass l i c × (c ≤ i) →
+    Classing l class₀ (set class i c) (set firsts b (c + 1)) (i + 1)
+classing-more l class₀ class firsts i b c g h e m f = record {
+  filled = filled-more (FirstClass l) class₀ class i c (g .filled) h (f .0);
+  seen = firsts-more l firsts i b c (g .seen) e m (f .0) (f .1);
+}
 
 -- the first classes are right
 first-same : (l : List ℕ) (i j r q : ℕ) → at l i ≡ at l j → FirstLike l i r → FirstLike l j q → r ≡ q
@@ -117,33 +108,6 @@ module _ (l tab ends cs : List ℕ) (f : Each (FirstClass l) cs (length l)) wher
         headed = λ i h s. subst (λ z. at l z < 128) (sym (f i h .symbol s)) s;
         respects = λ τ j i s t x y. start-joins τ i (spells-within (arena l tab ends) x) (decLt (at l i) 128) s t x y;
       }
-
--- a subterm of a well-formed term is well-formed
-no-some : {A : Type 0} {a : A} → none′ ≡ some a → ⊥
-no-some e = let h : _≡_ {A = ℕ} 0 1 = cc in omega arith
-
-some-same : (m : ℕ) (tab : List ℕ) (t u : Term) → Wf m tab t → some t ≡ some u → Wf m tab u
-some-same m tab t u w e = let h : t ≡ u = cc in subst (λ x. Wf m tab x) h w
-
-split-wf : (m : ℕ) (tab : List ℕ) (t : Term) (ts : Terms) (p : ℕ) (u : Term) (b : Bool) → ltb p (size t) ≡ b → (subterm-at t p ≡ some u → Wf m tab u) → (subterm-in ts (p - size t) ≡ some u → Wf m tab u) →
-    subterm-in (cons t ts) p ≡ some u → Wf m tab u
-unfolding subterm-at if_then_else_
-split-wf m tab t ts p u true h f g e = f (rw h at e)
-split-wf m tab t ts p u false h f g e = g (rw h at e)
-
-mutual
-  unfolding Wf Wfs subterm-at subterm-in
-
-  pub subterm-wf : (m : ℕ) (tab : List ℕ) (t : Term) → Wf m tab t → (p : ℕ) (u : Term) → subterm-at t p ≡ some u → Wf m tab u
-  subterm-wf m tab (var x) w zero u e = some-same m tab (var x) u w e
-  subterm-wf m tab (var x) w (suc p) u e = absurd (no-some e)
-  subterm-wf m tab (node f ts) w zero u e = some-same m tab (node f ts) u w e
-  subterm-wf m tab (node f ts) w (suc p) u e = subterms-wf m tab ts (w .2) p u e
-
-  pub subterms-wf : (m : ℕ) (tab : List ℕ) (ts : Terms) → Wfs m tab ts → (p : ℕ) (u : Term) → subterm-in ts p ≡ some u → Wf m tab u
-  subterms-wf m tab nil w p u e = absurd (no-some e)
-  subterms-wf m tab (cons t ts) w p u e =
-      split-wf m tab t ts p u (ltb p (size t)) refl (λ h. subterm-wf m tab t (w .0) p u h) (λ h. subterms-wf m tab ts (w .1) (p - size t) u h) e
 
 -- at each place a subterm begins
 pub subterms-there : (ts : Terms) (p : ℕ) → p < sizes ts → (u : Term) × (subterm-in ts p ≡ some u)
@@ -236,5 +200,5 @@ module _ (l tab ends : List ℕ) (f : Each (EndAt l tab) ends (length l)) where
     pub laid-at : (i : ℕ) (u : Term) → subterm-in ts i ≡ some u → Spells (arena l tab ends) same i u
     laid-at i u e =
         let a = around-in ts i u e in
-        spelt u (subterms-wf 128 tab ts (d .wf) i u e) i (a .after)
+        spelt u (wf-subterm-in 128 tab ts i u (d .wf) e) i (a .after)
         (ap (drop i) (d .bytes ∙ a .holds) ∙ drop-at (a .before) (term-bytes u ++ a .after) i (a .begins))

@@ -1,4 +1,5 @@
--- The answer of unification, and what it leaves behind: the classes give the most general unifier, the sizes those of its instances. Assumes nothing.
+-- The answer of unification, and what it leaves: the classes give the most general unifier, the sizes those of its instances. Assumes nothing.
+-- Read first: specs/Result (Solved, Decided), unify/proofs/Unique, proofs/Arena, proofs/Joining, proofs/Starting.
 use mathlib.Core.Path.{_≡_, refl, sym, ap, ap₂, subst, _∙_}
 use mathlib.Core.Bool.{Bool, true, false}
 use mathlib.Core.Option.{Option, none, some}

@@ -1,4 +1,5 @@
--- The steps that look for two nodes to join: along the arguments of two nodes, and over all nodes. Assumes nothing.
+-- The steps that look for two nodes to join: along the arguments of two nodes (`Walk`), at a node and its root, and over all nodes. Assumes nothing.
+-- Read first: specs/Arena (Agree, Closed), specs/Steps (Apart, StepAt), proofs/Arena.
 use mathlib.Core.Path.{_≡_, refl, sym, ap, ap₂, subst, subst₂, _∙_}
 use mathlib.Core.List.{List}
 use Prim.Native.Nat.{ℕ, zero, suc, _+_, _-_, _≤_, _<_}

@@ -3,4 +3,3 @@ pub mod Steps
 pub mod Sizes
 pub mod Result
 pub mod Written
-pub mod Names

@@ -1,17 +1,17 @@
 -- What unification is given, begins with and leaves behind. Assumes nothing.
 use mathlib.Core.Path.{_≡_}
 use mathlib.Core.Bool.{Bool, true, false}
-use mathlib.Core.List.{List, [], _∷_, _++_}
-use mathlib.Core.Option.{Option, none, some}
-use Prim.Native.Nat.{ℕ, zero, suc, _+_, _<_, _≤_}
+use mathlib.Core.List.{List, _∷_, _++_}
+use mathlib.Core.Option.{none, some}
+use Prim.Native.Nat.{ℕ, _+_, _-_, _<_, _≤_}
 use lib.ListN.{length, drop}
 use Rattle.terms.specs.Base.{is-some}
 use Rattle.terms.specs.Term.{Term, Terms, term-bytes, terms-bytes, subterm-in}
 use Rattle.terms.specs.Scan.{skip, count}
 use Rattle.terms.specs.Flat.{Wf, Wfs}
 use Rattle.unify.specs.Unify.{mgu}
-use Rattle.unifier.specs.Arena.{Arena, Classes, Closed}
-use Rattle.unifier.specs.Steps.{at, arena, Ready}
+use Rattle.unifier.specs.Arena.{Classes, Closed}
+use Rattle.unifier.specs.Steps.{at, arena}
 use Rattle.unifier.specs.Sizes.{Sized, Known}
 
 -- the arena holds the terms ts, one after the other
@@ -36,6 +36,10 @@ pub record Tested (l tab : List ℕ) (r : Bool) : Type 0 where
 abbrev pub EndAt : List ℕ → List ℕ → ℕ → ℕ → Type 0
 EndAt l tab i e = e ≡ i + skip tab (drop i l) 1
 
+-- the ends of the nodes from p on are known
+pub record EndsFrom (l tab ends : List ℕ) (p : ℕ) : Type 0 where
+  pub each : (i : ℕ) → p ≤ i → i < length l → EndAt l tab i (at ends i)
+
 -- r is the first node with the byte of node i
 pub record FirstLike (l : List ℕ) (i r : ℕ) : Type 0 where
   pub within : r ≤ i
@@ -45,6 +49,12 @@ pub record FirstLike (l : List ℕ) (i r : ℕ) : Type 0 where
 pub record FirstClass (l : List ℕ) (i r : ℕ) : Type 0 where
   pub symbol : at l i < 128 → r ≡ i
   pub variable : 128 ≤ at l i → FirstLike l i r
+
+-- the entries of a table, for each variable's byte b: 0 where no node below i has it, else one more than the first that has
+pub record Firsts (l firsts : List ℕ) (i : ℕ) : Type 0 where
+  pub long : length firsts ≡ 256
+  pub none : (b : ℕ) → 128 ≤ b → b < 256 → at firsts b ≡ 0 → (j : ℕ) → j < i → at l j ≡ b → ⊥
+  pub some : (b : ℕ) → 128 ≤ b → (at firsts b ≡ 0 → ⊥) → (at firsts b ≤ i) × (at l (at firsts b - 1) ≡ b) × ((j : ℕ) → j + 1 < at firsts b → at l j ≡ b → ⊥)
 
 -- every entry below n has the property
 abbrev pub Each : (ℕ → ℕ → Type 0) → List ℕ → ℕ → Type 0

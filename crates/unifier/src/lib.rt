@@ -1,15 +1,18 @@
 // Unification of two terms that stand one after the other in an arena of bytes, by classes of nodes.
+mod start;
+
 ghost use mathlib.Core.Path.{_≡_};
-ghost use mathlib.Core.List.{map, []};
+ghost use mathlib.Core.List.{map};
 ghost use Prim.Native.Nat.{ℕ, _+_, _<_, _≤_};
-ghost use lib.ListN.{length, getD, take};
+ghost use lib.ListN.{length};
 ghost use Rattle.unifier.specs.Arena.{Arena, Classes, Whole, Descends, cap};
 ghost use Rattle.unifier.specs.Sizes.{Sized, Unknown, Total, SizeAt, NewSize, Known};
-ghost use Rattle.unifier.specs.Result.{LaidOut, EndAt, FirstLike, FirstClass, Each, Outcome, Decided, Formed, Tested};
+ghost use Rattle.unifier.specs.Result.{LaidOut, Outcome, Decided, Formed, Tested};
 ghost use Rattle.unifier.specs.Written.{Room, Writes};
-ghost use Rattle.terms.specs.Base.{place-in};
-ghost use Rattle.unifier.specs.Names.{added, collect, named, renamed-bytes};
 ghost use Rattle.unifier.specs.Steps.{at, arena, Within, Ready, SpellsSome, Apart, StepAt, key, relabelled, joined, ClosedTo};
+use start::clear;
+use start::fill_class;
+use start::fill_ends;
 
 pub enum Step {
     // The classes are closed.
@@ -264,65 +267,6 @@ fn all_known(nodes: &[u8], table: &[u8], ends: &[u16], sizes: &[u8]) -> bool
     true
 }
 
-// ends[i] is the node after the subterm of node i.
-fn fill_ends(nodes: &[u8], table: &[u8], ends: &mut [u16])
-    requires { ⌜ (length (now nodes) ≤ 600) × (length (now nodes) ≤ length (now ends)) ⌝ }
-    ensures { λ r. ⌜ length (now (ends .exit)) ≡ length (now (ends .entry)) ⌝ }
-    ensures { λ r. ⌜ Each (EndAt (now (nodes .entry)) (now (table .entry))) (now (ends .exit)) (length (now (nodes .entry))) ⌝ }
-{
-    let n = nodes.len();
-    for i in 0..n {
-        ends[i] = terms::term_end(nodes, table, i) as u16;
-    }
-}
-
-// The first node with the byte of node i.
-fn first_like(nodes: &[u8], i: usize) -> usize
-    requires { ⌜ i < length (now nodes) ⌝ }
-    ensures { λ r. ⌜ FirstLike (now (nodes .entry)) i r ⌝ }
-{
-    let mut j = 0;
-    while j < i {
-        if nodes[j] == nodes[i] {
-            return j;
-        }
-        j += 1;
-    }
-    i
-}
-
-// The class that node i has at first: the first node of its variable, or itself.
-fn first_class(nodes: &[u8], i: usize) -> usize
-    requires { ⌜ i < length (now nodes) ⌝ }
-    ensures { λ r. ⌜ FirstClass (now (nodes .entry)) i r × (r ≤ i) ⌝ }
-{
-    if nodes[i] < 128 {
-        return i;
-    }
-    first_like(nodes, i)
-}
-
-fn fill_class(nodes: &[u8], class: &mut [u16])
-    requires { ⌜ (length (now nodes) ≤ 600) × (length (now nodes) ≤ length (now class)) ⌝ }
-    ensures { λ r. ⌜ length (now (class .exit)) ≡ length (now (class .entry)) ⌝ }
-    ensures { λ r. ⌜ Each (FirstClass (now (nodes .entry))) (now (class .exit)) (length (now (nodes .entry))) ⌝ }
-{
-    let n = nodes.len();
-    for i in 0..n {
-        class[i] = first_class(nodes, i) as u16;
-    }
-}
-
-fn clear(sizes: &mut [u8])
-    ensures { λ r. ⌜ length (now (sizes .exit)) ≡ length (now (sizes .entry)) ⌝ }
-    ensures { λ r. ⌜ Each (λ i b. b ≡ 0) (now (sizes .exit)) (length (now (sizes .entry))) ⌝ }
-{
-    let n = sizes.len();
-    for i in 0..n {
-        sizes[i] = 0;
-    }
-}
-
 // Whether the terms at nodes a and b have a unifier; then the classes and sizes of the most general one are left behind.
 pub fn unify(
     nodes: &[u8],
@@ -412,80 +356,4 @@ pub fn write(
     let next = write(nodes, table, ends, class, r + 1, n, out, to + 1);
     let q = wide(ends[p]);
     write(nodes, table, ends, class, q, k - 1, out, next)
-}
-
-// The place of b among the first n names, or n.
-fn place_of(names: &[u8], n: usize, b: u8) -> usize
-    requires { ⌜ n ≤ length (now names) ⌝ }
-    ensures { λ r. ⌜ (r ≡ place-in b (take n (now (names .entry)))) × (r ≤ n) ⌝ }
-{
-    let mut i = 0;
-    while i < n {
-        if names[i] == b {
-            return i;
-        }
-        i += 1;
-    }
-    n
-}
-
-// Adds b to the first n names, if it is a variable that is not there, and answers how many there are.
-fn add_name(names: &mut [u8], n: usize, b: u8) -> usize
-    requires { ⌜ n < length (now names) ⌝ }
-    ensures { λ r. ⌜ (length (now (names .exit)) ≡ length (now (names .entry))) × (take r (now (names .exit)) ≡ added b (take n (now (names .entry)))) × (r ≤ n + 1) ⌝ }
-{
-    if b < 128 {
-        return n;
-    }
-    let k = place_of(names, n, b);
-    if k < n {
-        return n;
-    }
-    names[n] = b;
-    n + 1
-}
-
-// The variables in order of first occurrence.
-fn names_of(bytes: &[u8], names: &mut [u8]) -> usize
-    requires { ⌜ length (now bytes) ≤ length (now names) ⌝ }
-    ensures { λ r. ⌜ (length (now (names .exit)) ≡ length (now (names .entry))) × (take r (now (names .exit)) ≡ collect [] (now (bytes .entry))) × (r ≤ length (now (names .exit))) ⌝ }
-{
-    let mut n = 0;
-    let mut i = 0;
-    while i < bytes.len() {
-        n = add_name(names, n, bytes[i]);
-        i += 1;
-    }
-    n
-}
-
-fn number_byte(names: &[u8], n: usize, b: u8) -> u8
-    requires { ⌜ (n ≤ length (now names)) × (n ≤ 127) ⌝ }
-    ensures { λ r. ⌜ r ≡ named (take n (now (names .entry))) b ⌝ }
-{
-    if b < 128 {
-        return b;
-    }
-    let k = place_of(names, n, b);
-    (128 + k) as u8
-}
-
-fn renumber(bytes: &mut [u8], names: &[u8], n: usize)
-    requires { ⌜ (n ≤ length (now names)) × (n ≤ 127) ⌝ }
-    ensures { λ r. ⌜ now (bytes .exit) ≡ map (named (take n (now (names .entry)))) (now (bytes .entry)) ⌝ }
-{
-    let m = bytes.len();
-    for i in 0..m {
-        let b = bytes[i];
-        bytes[i] = number_byte(names, n, b);
-    }
-}
-
-// Numbers the variables 0, 1, 2 .. in order of first occurrence.
-pub fn rename(bytes: &mut [u8], names: &mut [u8])
-    requires { ⌜ (length (now bytes) ≤ length (now names)) × (length (collect [] (now bytes)) ≤ 127) ⌝ }
-    ensures { λ r. ⌜ now (bytes .exit) ≡ renamed-bytes (now (bytes .entry)) ⌝ }
-{
-    let n = names_of(bytes, names);
-    renumber(bytes, names, n);
 }

@@ -1,3 +1,5 @@
+-- `all_known`: the invariant is that the nodes before i have sizes; the nodes to come fall. Assumes nothing.
+-- Read first: specs/Sizes (Known), proofs/Sizing.
 use borrow.Author.Needs.{needs}
 use mathlib.Core.Path.{_≡_}
 use Prim.Native.Nat.{ℕ, _<_, _-_}

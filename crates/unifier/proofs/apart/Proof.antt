@@ -1,3 +1,5 @@
+-- `apart`: the invariant is that the arguments left agree, or are joined, as all of them are; the count left falls. Assumes nothing.
+-- Read first: specs/Steps (Apart), proofs/Walks (Walk).
 use borrow.Author.Needs.{needs}
 use native.Mathlib.Omega.{arith}
 use Rattle.unifier.specs.Steps.{at, arena}

@@ -1,3 +1,6 @@
+-- `fill_sizes`: passes from the last node; sizes found are right, and where a pass has found none no node from i on can have one. Assumes nothing. A
+-- size found lowers the count of noughts, else the pass goes on: `size-left` falls.
+-- Read first: specs/Sizes (Sized), proofs/Sizing (Sizing).
 use Rattle.unifier.proofs.Sizing.{Sizing, size-left, sizing-start, sizing-done, sizing-again, sizing-rounds, sizing-next, sizing-falls, sizing-room, sizing-found, sizing-fewer}
 use native.Mathlib.Omega.{arith}
 use borrow.Author.Needs.{needs}

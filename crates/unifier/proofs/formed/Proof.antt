@@ -1,3 +1,6 @@
+-- `formed`: a lemma for each return: no node's byte, a variable, no symbol, too few terms behind a symbol, a symbol with its arguments. Assumes
+-- nothing.
+-- Read first: specs/Result (Formed), proofs/Laying.
 use native.Mathlib.Omega.{arith}
 use Rattle.unifier.proofs.Laying.{formed-high, formed-gap, formed-few, formed-variable, formed-symbol}
 use borrow.Author.Needs.{needs}

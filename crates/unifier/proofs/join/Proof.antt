@@ -1,3 +1,5 @@
+-- `join`: the root with the larger key goes to the other, a lemma for each outcome of the test: `joined-first`, `joined-second`. Assumes nothing.
+-- Read first: specs/Steps (joined), proofs/Joining.
 use borrow.Author.Needs.{needs}
 use Rattle.unifier.proofs.Joining.{joined-first, joined-second}
 use Rattle.unifier.proofs.join.Statement.{statement}

@@ -1,3 +1,5 @@
+-- `key`: a symbol's node is its own key (`key-first`), a variable's is raised above all symbols (`key-second`). Assumes nothing.
+-- Read first: specs/Steps (key), proofs/Joining.
 use borrow.Author.Needs.{needs}
 use Rattle.unifier.proofs.Joining.{key-first, key-second}
 use Rattle.unifier.proofs.key.Statement.{statement}

@@ -1,3 +1,5 @@
+-- `new_size`: a size known already is not new (`new-old`), else it is what `size_at` finds (`new-new`). Assumes nothing.
+-- Read first: specs/Sizes (NewSize), proofs/Sizing.
 use borrow.Author.Needs.{needs}
 use Rattle.unifier.proofs.Sizing.{new-old, new-new}
 use Rattle.unifier.proofs.new_size.Statement.{statement}

@@ -1,7 +1,9 @@
+-- `relabel`: the invariant is that the first i entries are relabelled and the others are as they were; n - i falls. Assumes nothing.
+-- Read first: specs/Steps (relabelled), naming/proofs/Filling (Mapped).
 use borrow.Author.Needs.{needs}
 use Prim.Native.Nat.{_-_}
 use Rattle.unifier.specs.Steps.{relabelled}
-use Rattle.unifier.proofs.Filling.{Mapped, mapped-start, mapped-more, mapped-end}
+use Rattle.naming.proofs.Filling.{Mapped, mapped-start, mapped-more, mapped-end}
 use Rattle.unifier.proofs.relabel.Statement.{statement}
 use Rattle.unifier.proofs.relabel.Tie as tie
 use Rattle.unifier.proofs.relabel.Reads as reads

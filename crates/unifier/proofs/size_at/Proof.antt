@@ -1,3 +1,5 @@
+-- `size_at`: a root that is a variable has size 1 (`size-free`), of a symbol the arguments decide (`size-made`). Assumes nothing.
+-- Read first: specs/Sizes (SizeAt), proofs/Sizing.
 use borrow.Author.Needs.{needs}
 use Rattle.unifier.proofs.Sizing.{sized-root, size-free, sized-arguments, size-made}
 use Rattle.unifier.proofs.size_at.Statement.{statement}

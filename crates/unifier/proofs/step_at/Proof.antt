@@ -1,3 +1,5 @@
+-- `step_at`: a variable is closed, another symbol at the root is a clash (`ready-clash`), else the arguments decide (`ready-step`). Assumes nothing.
+-- Read first: specs/Steps (StepAt), proofs/Walks.
 use borrow.Author.Needs.{needs}
 use native.Mathlib.Omega.{arith}
 use Rattle.unifier.proofs.Walks.{ready-within, ready-clash, ready-arguments, ready-step}

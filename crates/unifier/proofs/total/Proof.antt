@@ -1,3 +1,5 @@
+-- `total`: the invariant is that the sum is one more than the sizes of the arguments passed, all known; the count left falls. Assumes nothing.
+-- Read first: specs/Sizes (Total), proofs/Sizing (Adding).
 use borrow.Author.Needs.{needs}
 use native.Mathlib.Omega.{arith}
 use Rattle.unifier.specs.Steps.{at, arena}

@@ -1,3 +1,6 @@
+-- `unify`: the two terms are joined and the classes closed; a clash, or a size that stays unknown, means no unifier, else it is solved. Assumes
+-- nothing.
+-- Read first: specs/Result (Decided, Outcome), proofs/Verdict (Begun).
 use borrow.Author.Needs.{needs}
 use native.Mathlib.Omega.{arith}
 use Rattle.unifier.proofs.Verdict.{begin-requires, begun, Begun, begun-never, begun-sized, begun-answer}
@@ -6,10 +9,10 @@ use Rattle.unifier.proofs.unify.Tie as tie
 use Rattle.unifier.proofs.unify.Reads as reads
 use Rattle.unifier.proofs.unify.Lts as lts
 use Rattle.unifier.proofs.all_known.Reads as all-known-reads
-use Rattle.unifier.proofs.clear.Reads as clear-reads
+use Rattle.unifier.proofs.start.clear.Reads as clear-reads
 use Rattle.unifier.proofs.close.Reads as close-reads
-use Rattle.unifier.proofs.fill_class.Reads as fill-class-reads
-use Rattle.unifier.proofs.fill_ends.Reads as fill-ends-reads
+use Rattle.unifier.proofs.start.fill_class.Reads as fill-class-reads
+use Rattle.unifier.proofs.start.fill_ends.Reads as fill-ends-reads
 use Rattle.unifier.proofs.fill_sizes.Reads as fill-sizes-reads
 use Rattle.unifier.proofs.join.Reads as join-reads
 

@@ -1,3 +1,5 @@
+-- `clear`: the invariant is that the first i entries are 0; n - i falls. Assumes nothing.
+-- Read first: specs/Result (Each), proofs/Starting (Filled).
 use borrow.Author.Needs.{needs}
 use Prim.Native.Nat.{ℕ, _<_, _≤_, _-_}
 use mathlib.Core.Path.{_≡_, refl}
@@ -6,10 +8,10 @@ use lib.ListN.{length}
 use Rattle.unifier.specs.Steps.{at}
 use Rattle.unifier.specs.Result.{EndAt, FirstClass}
 use Rattle.unifier.proofs.Starting.{Filled, filled-start, filled-more, filled-end}
-use Rattle.unifier.proofs.clear.Statement.{statement}
-use Rattle.unifier.proofs.clear.Tie as tie
-use Rattle.unifier.proofs.clear.Reads as reads
-use Rattle.unifier.proofs.clear.Lts as lts
+use Rattle.unifier.proofs.start.clear.Statement.{statement}
+use Rattle.unifier.proofs.start.clear.Tie as tie
+use Rattle.unifier.proofs.start.clear.Reads as reads
+use Rattle.unifier.proofs.start.clear.Lts as lts
 
 abbrev Inv-loop : tie.InvT-loop
 Inv-loop sizes₀ n i₀ sizes i = Filled (λ j b. b ≡ 0) sizes₀ sizes i

@@ -1,0 +1,6 @@
+pub mod Collecting
+pub mod Renaming
+pub mod Few
+pub mod Pairs
+pub mod Finding
+pub mod Filling
