@@ -1,4 +1,5 @@
--- The lowest rule that matches at the root, found in the slots. Assumes nothing.
+-- The lowest rule that matches at the root, found in the slots: the rules from k on decide the step as all do. Assumes nothing.
+-- Read first: specs/Stored (Fitted, Found), matching/specs/Held (Matched), rewriting/specs/Rewrite (root-step).
 use mathlib.Core.Path.{_≡_, refl, sym, _∙_, ap, subst}
 use mathlib.Core.Bool.{Bool, true, false, true≢false, false≢true}
 use mathlib.Core.List.{List, [], _∷_, _++_}
@@ -11,13 +12,12 @@ use lib.ListN.{length, getD, drop, take}
 use lib.Seq.{getD-take, getD-drop}
 use Rattle.terms.specs.Base.{if_then_else_, mapped, or-else}
 use Rattle.terms.specs.Term.{Term, var, node, term-bytes, terms-bytes}
-use Rattle.terms.specs.Flat.{Wf}
-use Rattle.terms.proofs.Flats.{widen}
+use Rattle.terms.specs.Flat.{Wf, Starts}
 use Rattle.terms.proofs.Shape.{Says, eqb-says}
 use Rattle.unify.specs.Unify.{Binding}
 use Rattle.rewriting.specs.Overlap.{Rule, sides-of}
 use Rattle.rewriting.specs.Rewrite.{matching, root-step}
-use Rattle.normaliser.specs.Held.{Stands, Answers, Matched}
+use Rattle.matching.specs.Held.{Answers, Matched}
 use Rattle.normaliser.specs.Stored.{Layout, Stored, Fitted, Choice, Found}
 
 -- the root's byte stands first
@@ -34,7 +34,7 @@ module _ (tab rules lens T : List ℕ) (k : ℕ) (B : List ℕ) where
   fits-by left r B′ e m = record {
     same = m .same;
     within = λ q. m .within;
-    answer = λ p a x s. m .answer (p .left) x (widen 16 32 tab (p .left) (omega arith) (a .left-wf)) (sym e ∙ a .left-bytes) s;
+    answer = λ p a x s. m .answer (p .left) x (a .left-wf) (sym e ∙ a .left-bytes) s;
   }
 
   root-none : (l x : Term) (rest : List ℕ) (n : ℕ) → take n (drop (240 * k) rules) ≡ term-bytes l → T ≡ term-bytes x ++ rest → Wf 32 tab x → getD rules (240 * k) 0 < 128 →
@@ -65,7 +65,7 @@ pub record Remaining (tab rules lens : List ℕ) (number k : ℕ) (rs : List Rul
 pub record Searching (tab rules lens T : List ℕ) (number k : ℕ) (B₀ B : List ℕ) : Type 0 where
   pub bounded : k ≤ number
   pub same : length B ≡ length B₀
-  pub remaining : (rs : List Rule) → Stored tab rules lens 0 (sides-of rs) → number ≡ length rs → (x : Term) → Stands tab T 0 x → Remaining tab rules lens number k rs x
+  pub remaining : (rs : List Rule) → Stored tab rules lens 0 (sides-of rs) → number ≡ length rs → (x : Term) → Starts tab T x → Remaining tab rules lens number k rs x
 
 pub search-start : (tab rules lens T : List ℕ) (number : ℕ) (B : List ℕ) → Searching tab rules lens T number 0 B B
 search-start tab rules lens T number B = record {
@@ -90,7 +90,7 @@ module _ (tab rules lens T : List ℕ) (number k : ℕ) (B₀ B : List ℕ) (s :
       go (r ∷ rest) e x = absurd (omega arith)
 
   module _ (l : k < number) (r : Bool) (B′ : List ℕ) (f : Fitted tab rules lens T k B r B′) where
-    miss-go : (rs : List Rule) (x : Term) → r ≡ false → Stands tab T 0 x → (rest : List Rule) → Stored tab rules lens k (sides-of rest) → number ≡ k + length rest → root-step rest x ≡ root-step rs x → Remaining tab rules lens number (k + 1) rs x
+    miss-go : (rs : List Rule) (x : Term) → r ≡ false → Starts tab T x → (rest : List Rule) → Stored tab rules lens k (sides-of rest) → number ≡ k + length rest → root-step rest x ≡ root-step rs x → Remaining tab rules lens number (k + 1) rs x
     unfolding Stored root-step mapped or-else
     miss-go rs x e w [] st n q = absurd (omega arith)
     miss-go rs x e w (a ∷ rest) st n q = go (matching (a .sides .left) x []) refl (f .answer (a .sides) (st .0) x w)
@@ -106,7 +106,7 @@ module _ (tab rules lens T : List ℕ) (number k : ℕ) (B₀ B : List ℕ) (s :
       remaining = λ rs st n x w. let m = s .remaining rs st n x w in miss-go rs x e w (m .rest) (m .stored) (m .counts) (m .same-step);
     }
 
-    hit-go : (rs : List Rule) (x : Term) → r ≡ true → Stands tab T 0 x → (rest : List Rule) → Stored tab rules lens k (sides-of rest) → number ≡ k + length rest → root-step rest x ≡ root-step rs x → Choice tab rules lens T B′ k x (root-step rs x)
+    hit-go : (rs : List Rule) (x : Term) → r ≡ true → Starts tab T x → (rest : List Rule) → Stored tab rules lens k (sides-of rest) → number ≡ k + length rest → root-step rest x ≡ root-step rs x → Choice tab rules lens T B′ k x (root-step rs x)
     unfolding Stored root-step mapped or-else
     hit-go rs x e w [] st n q = absurd (omega arith)
     hit-go rs x e w (a ∷ rest) st n q = go (matching (a .sides .left) x []) refl (f .answer (a .sides) (st .0) x w)
@@ -127,10 +127,13 @@ module _ (tab rules lens T : List ℕ) (number k : ℕ) (B₀ B : List ℕ) (s :
 pub fits-take : (rules lens : List ℕ) (k n : ℕ) → n ≡ getD lens (2 * k) 0 → take (getD lens (2 * k) 0) (drop (240 * k) rules) ≡ take (240 * k + n - 240 * k) (drop (240 * k) rules)
 fits-take rules lens k n e = let q : getD lens (2 * k) 0 ≡ 240 * k + n - 240 * k = omega arith in ap (λ z. take z (drop (240 * k) rules)) q
 
+-- Fewer slots, whatever the table is.
+pub layout-front : (tab tab′ rules lens : List ℕ) (m n : ℕ) → Layout tab rules lens n → m ≤ n → Layout tab′ rules lens m
+layout-front tab tab′ rules lens m n y h =
+    let s = y .slots in
+    let l = y .lengths in
+    let f = y .few in
+    record { slots = omega arith; lengths = omega arith; few = omega arith; short = λ i q. y .short i (omega arith) }
+
 pub layout-below : (tab rules lens : List ℕ) (number k : ℕ) → Layout tab rules lens number → k < number → Layout tab rules lens (k + 1)
-layout-below tab rules lens number k l h = record {
-  slots = let s = l .slots in omega arith;
-  lengths = let s = l .lengths in omega arith;
-  few = let f = l .few in omega arith;
-  short = λ i j. l .short i (omega arith);
-}
+layout-below tab rules lens number k l h = layout-front tab tab rules lens (k + 1) number l (omega arith)

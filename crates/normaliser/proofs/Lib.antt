@@ -1,7 +1,3 @@
-pub mod Advancing
-pub mod Walking
-pub mod Clearing
-pub mod Filling
 pub mod Marking
 pub mod Sequence
 pub mod Choosing

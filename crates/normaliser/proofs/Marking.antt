@@ -1,4 +1,6 @@
--- Marked bytes: a term's own bytes are such, and so is the instance of a right side whose bound terms are normal. Assumes nothing.
+-- Marked bytes: a term's own bytes are such, and so is the instance of a right side whose bound terms are normal. Assumes nothing. What is bound
+-- below a symbol of the left side is normal, since the arguments are.
+-- Read first: specs/Marks (Marked), matching/specs/Pieces, matching/proofs/Filling.
 use mathlib.Core.Path.{_≡_, refl, sym, _∙_, ap, ap₂, subst}
 use mathlib.Core.Bool.{Bool, true, false}
 use mathlib.Core.List.{List, [], _∷_, _++_, append-assoc, append-nil}
@@ -18,12 +20,12 @@ use Rattle.terms.proofs.Flats.{skip-term}
 use Rattle.unify.specs.Unify.{Binding}
 use Rattle.rewriting.specs.Overlap.{Rule}
 use Rattle.rewriting.specs.Rewrite.{bound, bind-to, matching, matching-all, bound-or-variable, instantiate, root-step, step, step-in}
-use Rattle.normaliser.specs.Held.{Slot, Rep}
+use Rattle.matching.specs.Held.{Slot, Rep}
 use Rattle.normaliser.specs.Marks.{Marked, MarkedAll, leaf, visit, leave, no-more, more, ArgumentsNormal}
 use Rattle.normaliser.specs.Stored.{Unmarked}
-use Rattle.normaliser.specs.Pieces.{slot-of, mark-first, mark-for, piece-at, piece, pieces}
+use Rattle.matching.specs.Pieces.{slot-of, mark-first, mark-for, piece-at, piece, pieces}
 use Rattle.normaliser.proofs.Choosing.{head-of}
-use Rattle.normaliser.proofs.Filling.{run-some, slot-variable, slot-symbol, piece-byte, byte-other, byte-symbol, for-symbol, for-variable}
+use Rattle.matching.proofs.Filling.{run-some, slot-variable, slot-symbol, piece-byte, byte-other, byte-symbol, for-symbol, for-variable}
 
 module _ (rs : List Rule) where
   mutual
@@ -168,7 +170,7 @@ module _ (rs : List Rule) where
         let q : take (skip tab (drop k T) 1) (drop k T) ≡ term-bytes u = rw (n, s .bytes) (take-at (term-bytes u) (s .rest) (size u) (length-bytes u)) in
         subst (λ l. Marked rs (mark-first m l) u) (sym q) (run-marked u (s .wf) (fits-or x u e ok))
 
-    variable-marked : (x : ℕ) → x < 32 → Marked rs (piece tab T B m (128 + x)) (bound-or-variable x (bound bs x))
+    variable-marked : (x : ℕ) → x < 16 → Marked rs (piece tab T B m (128 + x)) (bound-or-variable x (bound bs x))
     unfolding piece
     variable-marked x h =
         subst (λ k. Marked rs (piece-at tab T m (128 + x) k) (bound-or-variable x (bound bs x))) (sym (slot-variable B (128 + x) x (omega arith) (omega arith) h))
@@ -185,15 +187,15 @@ module _ (rs : List Rule) where
     mutual
       unfolding pieces term-bytes subst-term Wf Wfs
 
-      term-marked : (r : Term) → Wf 32 tab r → Marked rs (pieces tab T B m (term-bytes r)) (subst-term (λ x. bound-or-variable x (bound bs x)) r)
+      term-marked : (r : Term) → Wf 16 tab r → Marked rs (pieces tab T B m (term-bytes r)) (subst-term (λ x. bound-or-variable x (bound bs x)) r)
       term-marked (var x) w = subst (λ l. Marked rs l (bound-or-variable x (bound bs x))) (sym (append-nil (piece tab T B m (128 + x)))) (variable-marked x w)
       term-marked (node f ts) w = visit (ap (λ z. z ++ pieces tab T B m (terms-bytes ts)) (symbol-piece f (w .0))) (terms-marked ts (w .2))
 
-      terms-marked : (ts : Terms) → Wfs 32 tab ts → MarkedAll rs (pieces tab T B m (terms-bytes ts)) (subst-terms (λ x. bound-or-variable x (bound bs x)) ts)
+      terms-marked : (ts : Terms) → Wfs 16 tab ts → MarkedAll rs (pieces tab T B m (terms-bytes ts)) (subst-terms (λ x. bound-or-variable x (bound bs x)) ts)
       terms-marked nil w = no-more refl
       terms-marked (cons t ts) w = more (pieces-append (term-bytes t) (terms-bytes ts)) (term-marked t (w .0)) (terms-marked ts (w .1))
 
-    pub instance-marked : (right : List ℕ) (r : Term) → Wf 32 tab r → right ≡ term-bytes r → Marked rs (pieces tab T B m right) (instantiate bs r)
+    pub instance-marked : (right : List ℕ) (r : Term) → Wf 16 tab r → right ≡ term-bytes r → Marked rs (pieces tab T B m right) (instantiate bs r)
     unfolding instantiate
     instance-marked right r w e = subst (λ l. Marked rs (pieces tab T B m l) (instantiate bs r)) (sym e) (term-marked r w)
 

@@ -1,4 +1,5 @@
--- Parts of a list, lent and given back, and two facts of numbers. Assumes nothing.
+-- Parts of a list, lent and given back; the limit less what stands before; and no end has the code 0. Assumes nothing.
+-- Read first: specs/Stored (code).
 use mathlib.Core.Path.{_≡_, refl, sym, _∙_, ap, ap₂}
 use mathlib.Core.Bool.{Bool, true, false}
 use mathlib.Core.List.{List, [], _∷_, _++_, append-nil}

@@ -1,4 +1,5 @@
--- The loop of `reducible`: the terms that are still to be searched. Assumes nothing.
+-- The loop of `reducible`: whether there is a step in the terms still to be searched tells whether there is one in the term. Assumes nothing.
+-- Read first: specs/Stored (Found, Reducible), rewriting/specs/Rewrite (step, step-in).
 use mathlib.Core.Path.{_≡_, refl, sym, _∙_, ap}
 use mathlib.Core.Bool.{Bool, true, false, _||_}
 use mathlib.Core.List.{List, [], _∷_, _++_, append-nil}
@@ -10,12 +11,11 @@ use lib.ListN.{length, drop, take, length-drop, drop-of-length-le}
 use lib.Seq.{drop-cons, take-all}
 use Rattle.terms.specs.Base.{mapped, or-else, is-some}
 use Rattle.terms.specs.Term.{Term, Terms, var, node, nil, cons, term-bytes, terms-bytes}
-use Rattle.terms.specs.Flat.{Wf, Wfs}
+use Rattle.terms.specs.Flat.{Wf, Wfs, Starts}
 use Rattle.rewriting.specs.Overlap.{Rule, sides-of}
 use Rattle.rewriting.specs.Rewrite.{root-step, step, step-in}
-use Rattle.normaliser.specs.Held.{Stands}
 use Rattle.normaliser.specs.Stored.{Stored, Found, Reducible}
-use Rattle.normaliser.proofs.Walking.{join, join-bytes, join-wf}
+use Rattle.matching.proofs.Walking.{join, join-bytes, join-wf}
 
 -- whether there is a step, whatever it is
 either : {A : Type 0} (a b : Option A) → is-some (or-else a b) ≡ is-some a || is-some b
@@ -114,7 +114,7 @@ module _ (tab rules lens : List ℕ) (number : ℕ) (t : List ℕ) where
     }
 
     module _ (h : i < length t) (k : ℕ) (B B′ : List ℕ) (f : Found tab rules lens (take (length t - i) (drop i t)) number k B B′) where
-      stands : (y : Term) (us : Terms) → Wf 32 tab y → drop i t ≡ term-bytes y ++ terms-bytes us → Stands tab (take (length t - i) (drop i t)) 0 y
+      stands : (y : Term) (us : Terms) → Wf 32 tab y → drop i t ≡ term-bytes y ++ terms-bytes us → Starts tab (take (length t - i) (drop i t)) y
       stands y us w e = record { wf = w; rest = terms-bytes us; bytes = take-all (length t - i) (drop i t) (omega (arith, length-drop i t)) ∙ e }
 
       hit-go : k < number → (rs : List Rule) → Stored tab rules lens 0 (sides-of rs) → number ≡ length rs → (todo : Terms) → Wfs 32 tab todo → drop i t ≡ terms-bytes todo → is-some (step-in rs todo) ≡ true
@@ -139,7 +139,7 @@ module _ (tab rules lens : List ℕ) (number : ℕ) (t : List ℕ) where
           record { todo = us; wf = w .1; bytes = rest (128 + y) (terms-bytes us) e; answer = sym (miss-var rs y us (f .missing q rs st m (var y) (stands (var y) us (w .0) e))) ∙ a }
       on-go q rs st m x (cons (node g ts) us) w e a = record {
         todo = join ts us;
-        wf = join-wf tab ts us (w .0 .2) (w .1);
+        wf = join-wf 32 tab ts us (w .0 .2) (w .1);
         bytes = rest g (terms-bytes ts ++ terms-bytes us) e ∙ sym (join-bytes ts us);
         answer = sym (miss-node rs g ts us (f .missing q rs st m (node g ts) (stands (node g ts) us (w .0) e))) ∙ a;
       }

@@ -1,4 +1,5 @@
--- Normalising by parts: the arguments from the left, then the root. Assumes nothing.
+-- Innermost leftmost normalising by parts: the first term, then the others; the arguments, then the root; and the whole. Assumes nothing.
+-- Read first: specs/Inside (iterate, normalise-in, normalise-all), rewriting/specs/Rewrite (step, normalise).
 use mathlib.Core.Path.{_≡_, refl, sym, _∙_, ap, subst}
 use mathlib.Core.Bool.{Bool, true, false}
 use mathlib.Core.List.{List}

@@ -1,4 +1,5 @@
--- The turns and answers of `settle`. Assumes nothing.
+-- The turns of `settle`: normalising the term at hand, with the units left, comes to what was asked; and a lemma for each return. Assumes nothing.
+-- Read first: specs/Stored (Holds, Settled, Rewritten), specs/Marks, proofs/Sequence, proofs/Parts.
 use mathlib.Core.Path.{_≡_, refl, sym, _∙_, ap, ap₂, subst}
 use mathlib.Core.Bool.{Bool, true, false}
 use mathlib.Core.List.{List, [], _∷_, _++_}
@@ -20,7 +21,7 @@ use Rattle.normaliser.specs.Marks.{Marked, MarkedAll, leaf, visit, leave
 use Rattle.normaliser.specs.Stored.{Stored, Holds, HoldsAll, Tested, Wrote, Rewritten, Unmarked, EndsWith, EndsAll, Limit, Settled, SettledAll}
 use Rattle.normaliser.specs.declared.Out.{Out}
 use Rattle.normaliser.proofs.Sequence.{at-root, iterate-normal, normalise-normal, normalise-var, normalise-node, normalise-nil}
-use Rattle.normaliser.proofs.Walking.{size-pos}
+use Rattle.terms.proofs.Places.{size-pos}
 use Rattle.normaliser.proofs.Marking.{marked-length}
 use Rattle.normaliser.proofs.Parts.{part, back, part-take, back-length, back-take, ltb-less, zero≢code}
 

@@ -1,4 +1,5 @@
 -- The contract of `normalise` can be met: one rule, e * x to x, in its slot. Assumes nothing.
+-- Read first: specs/Stored (Layout, Stored).
 use mathlib.Core.Path.{_≡_, refl, ap}
 use mathlib.Core.List.{List, [], _∷_, _++_}
 use Prim.Native.Nat.{ℕ, zero, suc, _<_, _≤_}

@@ -1,4 +1,5 @@
--- The answers of `settle_all`. Assumes nothing.
+-- `settle_all` by its returns: no term left, the first came to no end, or the first and then the others. Assumes nothing.
+-- Read first: specs/Stored (Settled, SettledAll), proofs/Sequence, proofs/Parts.
 use mathlib.Core.Path.{_≡_, refl, sym, _∙_, ap, ap₂, subst}
 use mathlib.Core.Bool.{Bool}
 use mathlib.Core.List.{List, _++_, append-assoc}

@@ -1,4 +1,5 @@
--- The answer of `normalise`. Assumes nothing.
+-- `normalise`: `settle` with the limit 120 and nothing behind the term is the definition's, and the units paid are those it takes. Assumes nothing.
+-- Read first: specs/Stored (Settled, Normalised), proofs/Sequence, proofs/Marking.
 use mathlib.Core.Path.{_≡_, sym, _∙_, ap, subst}
 use mathlib.Core.List.{List, [], append-nil}
 use Prim.Native.Nat.{ℕ, _+_, _-_, _≤_}

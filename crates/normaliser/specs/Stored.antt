@@ -8,12 +8,12 @@ use lib.Dec.{ltb}
 use lib.ListN.{length, getD, drop, take}
 use Rattle.terms.specs.Base.{is-some}
 use Rattle.terms.specs.Term.{Term, Terms, node, Pair, term-bytes, terms-bytes, size, sizes}
-use Rattle.terms.specs.Flat.{Wf, Wfs}
+use Rattle.terms.specs.Flat.{Wf, Wfs, Starts}
 use Rattle.terms.specs.Scan.{count}
 use Rattle.unify.specs.Unify.{Binding}
 use Rattle.rewriting.specs.Overlap.{Rule, sides-of}
 use Rattle.rewriting.specs.Rewrite.{matching, instantiate, root-step, step, normalise, Paid, done, stop, End, complete, neither-above, spent, too-large, rules-full, log-full}
-use Rattle.normaliser.specs.Held.{Stands, Rep, Within, Answers}
+use Rattle.matching.specs.Held.{Rep, Within, Answers}
 use Rattle.normaliser.specs.Inside.{normalise-in, normalise-all}
 use Rattle.normaliser.specs.Marks.{Marked, MarkedAll, ArgumentsNormal}
 use Rattle.normaliser.specs.declared.Out.{Out}
@@ -25,6 +25,13 @@ pub record Layout (tab rules lens : List ℕ) (number : ℕ) : Type 0 where
   pub lengths : 2 * number ≤ length lens
   pub few : number ≤ 33
   pub short : (i : ℕ) → i < 2 * number → getD lens i 0 ≤ 120
+
+-- The two lists are the bytes of a pair's sides, which are well-formed with variables below n.
+pub record Sides (n : ℕ) (tab left right : List ℕ) (e : Pair) : Type 0 where
+  pub left-wf : Wf n tab (e .left)
+  pub right-wf : Wf n tab (e .right)
+  pub left-bytes : left ≡ term-bytes (e .left)
+  pub right-bytes : right ≡ term-bytes (e .right)
 
 pub record RuleAt (tab rules lens : List ℕ) (k : ℕ) (p : Pair) : Type 0 where
   pub left-wf : Wf 16 tab (p .left)
@@ -40,8 +47,8 @@ Stored tab rules lens k (p ∷ ps) = RuleAt tab rules lens k p × Stored tab rul
 -- `fits`
 pub record Fitted (tab rules lens T : List ℕ) (k : ℕ) (B : List ℕ) (r : Bool) (B′ : List ℕ) : Type 0 where
   pub same : length B′ ≡ length B
-  pub within : r ≡ true → Within (length T) B′
-  pub answer : (p : Pair) → RuleAt tab rules lens k p → (x : Term) → Stands tab T 0 x → Answers tab T r B′ (matching (p .left) x [])
+  pub within : r ≡ true → Within tab T B′
+  pub answer : (p : Pair) → RuleAt tab rules lens k p → (x : Term) → Starts tab T x → Answers tab T r B′ (matching (p .left) x [])
 
 -- `find`
 pub record Choice (tab rules lens T B : List ℕ) (k : ℕ) (x : Term) (o : Option Term) : Type 0 where
@@ -55,9 +62,9 @@ pub record Choice (tab rules lens T B : List ℕ) (k : ℕ) (x : Term) (o : Opti
 pub record Found (tab rules lens T : List ℕ) (number k : ℕ) (B B′ : List ℕ) : Type 0 where
   pub same : length B′ ≡ length B
   pub bounded : k ≤ number
-  pub within : k < number → Within (length T) B′
-  pub lowest : k < number → (rs : List Rule) → Stored tab rules lens 0 (sides-of rs) → number ≡ length rs → (x : Term) → Stands tab T 0 x → Choice tab rules lens T B′ k x (root-step rs x)
-  pub missing : k ≡ number → (rs : List Rule) → Stored tab rules lens 0 (sides-of rs) → number ≡ length rs → (x : Term) → Stands tab T 0 x → root-step rs x ≡ none
+  pub within : k < number → Within tab T B′
+  pub lowest : k < number → (rs : List Rule) → Stored tab rules lens 0 (sides-of rs) → number ≡ length rs → (x : Term) → Starts tab T x → Choice tab rules lens T B′ k x (root-step rs x)
+  pub missing : k ≡ number → (rs : List Rule) → Stored tab rules lens 0 (sides-of rs) → number ≡ length rs → (x : Term) → Starts tab T x → root-step rs x ≡ none
 
 -- `rewrite`; the term u, perhaps with marks, and then `post` are the first `len` bytes
 pub record Holds (tab : List ℕ) (rs : List Rule) (t : List ℕ) (len : ℕ) (u : Term) (post : List ℕ) : Type 0 where

@@ -1,13 +1,7 @@
 // Rules in slots, and normalising terms as bytes by them.
-mod instance;
-mod matching;
-
 ghost use Prim.Native.Nat.{ℕ, _+_, _<_, _≤_};
 ghost use lib.ListN.{length, getD};
 ghost use Rattle.normaliser.specs.Stored.{Layout, Fitted, Found, Rewritten, Unmarked, Settled, SettledAll, Normalised, Reducible};
-use instance::contract;
-use instance::mark_of;
-use matching::matches;
 
 // Whether rule k matches at the start of t.
 fn fits(rules: &[u8], lens: &[u8], k: usize, t: &[u8], table: &[u8], binds: &mut [usize]) -> bool
@@ -23,7 +17,7 @@ fn fits(rules: &[u8], lens: &[u8], k: usize, t: &[u8], table: &[u8], binds: &mut
         }
     }
     let n = terms::wide(lens[2 * k]);
-    matches(&rules[a..a + n], t, table, binds)
+    matching::matches(&rules[a..a + n], t, table, binds)
 }
 
 // The lowest rule that matches at the start of t, or count.
@@ -91,20 +85,11 @@ fn rewrite(
             end: end,
         };
     }
-    let mut out = [0u8; 120];
     let a = 240 * k + 120;
     let m = terms::wide(lens[2 * k + 1]);
-    let mark = mark_of(rules[240 * k]);
-    let w = contract(
-        &mut out,
-        most,
-        &rules[a..a + m],
-        &t[0..len],
-        end,
-        table,
-        &binds,
-        mark,
-    );
+    let right = &rules[a..a + m];
+    let first = rules[240 * k];
+    let w = matching::replace(t, len, end, most, table, right, first, &binds);
     if w > most {
         return Out {
             verdict: 2,
@@ -113,7 +98,6 @@ fn rewrite(
             end: end,
         };
     }
-    bytes::copy(&out[0..w], t);
     Out {
         verdict: 3,
         units: units - 1,
@@ -166,31 +150,14 @@ fn settle(
             };
         }
         let n = terms::owed_by(table, t[0]);
-        let r = settle_all(
-            &mut t[1..],
-            n,
-            l - 1,
-            most - 1,
-            table,
-            rules,
-            lens,
-            count,
-            u,
-        );
+        let m = most - 1;
+        let r = settle_all(&mut t[1..], n, l - 1, m, table, rules, lens, count, u);
         if r.verdict != 0 {
             return r;
         }
-        let s = rewrite(
-            t,
-            r.len + 1,
-            r.end + 1,
-            most,
-            table,
-            rules,
-            lens,
-            count,
-            r.units,
-        );
+        let k = r.len + 1;
+        let e = r.end + 1;
+        let s = rewrite(t, k, e, most, table, rules, lens, count, r.units);
         if s.verdict != 3 {
             return s;
         }

@@ -1,3 +1,6 @@
+-- `settle` and `settle_all` call each other; 1000 times the units and twice the bytes in use (and 1 for `settle_all`) fall. Assumes nothing. The loop
+-- of `settle`: the term at hand comes to what was asked; the units fall.
+-- Read first: specs/Stored (Settled), proofs/Settling, proofs/Together.
 use borrow.Author.Needs.{needs}
 use Prim.Native.Nat.{ℕ, _<_}
 use borrow.Fn.Kinds.{In}
@@ -14,9 +17,8 @@ use Rattle.terms.proofs.owed_by.Reads as owed-by-reads
 use Rattle.normaliser.proofs.+settle+settle_all.{statement}
 use Rattle.normaliser.proofs.+settle+settle_all.Tie.{close}
 use mathlib.Core.Path.{_∙_}
-use Prim.Native.Nat.{_+_, _*_, _-_, _≤_}
+use Prim.Native.Nat.{_+_, _*_}
 use native.Mathlib.Omega.{arith}
-use lib.ListN.{length}
 use Rattle.normaliser.proofs.Parts.{part-length}
 use Rattle.normaliser.proofs.Settling.{Turning, turn-start, turn-empty, turn-leave, turn-stop, turn-end, turn-less, turn-on, turn-room}
 use Rattle.normaliser.proofs.Together.{all-none, all-stop, all-more}
@@ -57,157 +59,122 @@ settle-cs t = (unmark-reads.Asked, unmark-reads.Learnt, owed-by-reads.Asked, owe
 abbrev settle-all-cs : ℕ → settle-all-lts.Claims
 settle-all-cs t = (settle-below t, settle.Post, settle-all-below t, settle-all.Post)
 
--- src/lib.rt:151:5
 settle-loop-holds : (t : ℕ) → settle-lts.Need-loop-holds (settle-cs t) (settle-at t) settle.Post settle-Inv-loop settle-μ-loop
 settle-loop-holds t c =
     turn-start _ _ _ _ _ _ _ _ (search needs)
 
--- src/lib.rt:153:13
 settle-same-length : (t : ℕ) → settle-lts.Need-same-length (settle-cs t) (settle-at t) settle.Post settle-Inv-loop settle-μ-loop
 settle-same-length t c = search needs
 
--- src/lib.rt:153:13
 settle-returns : (t : ℕ) → settle-lts.Need-returns (settle-cs t) (settle-at t) settle.Post settle-Inv-loop settle-μ-loop
 settle-returns t c =
     turn-empty _ _ _ _ _ _ _ _ _ _ _ (c .before .loop .inv) (c .if1 .taken)
 
--- src/lib.rt:160:12
 settle-slice-read-if2 : (t : ℕ) → settle-lts.Need-slice-read-if2 (settle-cs t) (settle-at t) settle.Post settle-Inv-loop settle-μ-loop
 settle-slice-read-if2 t c = search needs
 
--- src/lib.rt:165:22
 settle-unmark-requires : (t : ℕ) → settle-lts.Need-unmark-requires (settle-cs t) (settle-at t) settle.Post settle-Inv-loop settle-μ-loop
 settle-unmark-requires t c κs =
     let i = c .before .before .before .before .loop .inv in let s = i .same in let m = i .small in let p = c .before .before .before .before .before .before .before .before .before .pre in let n = c .before .before .before .if1 .left in (omega arith, omega arith, omega arith, c .before .if2 .taken)
 
--- src/lib.rt:161:13
 settle-same-length-2 : (t : ℕ) → settle-lts.Need-same-length-2 (settle-cs t) (settle-at t) settle.Post settle-Inv-loop settle-μ-loop
 settle-same-length-2 t c =
     c .before .before .unmark .ensures .same ∙ c .before .before .before .before .before .before .before .loop .inv .same
 
--- src/lib.rt:161:13
 settle-returns-2 : (t : ℕ) → settle-lts.Need-returns-2 (settle-cs t) (settle-at t) settle.Post settle-Inv-loop settle-μ-loop
 settle-returns-2 t c =
     turn-leave _ _ _ _ _ _ _ _ _ _ _ (c .before .before .before .before .before .before .before .loop .inv) (c .before .before .before .before .before .before .if1 .left) (c .before .before .before .before .if2 .taken) _ _ (c .before .before .unmark .ensures)
 
--- src/lib.rt:168:39
 settle-slice-read-owed-by : (t : ℕ) → settle-lts.Need-slice-read-owed-by (settle-cs t) (settle-at t) settle.Post settle-Inv-loop settle-μ-loop
 settle-slice-read-owed-by t c = search needs
 
--- src/lib.rt:168:13
 settle-owed-by-requires : (t : ℕ) → settle-lts.Need-owed-by-requires (settle-cs t) (settle-at t) settle.Post settle-Inv-loop settle-μ-loop
 settle-owed-by-requires t c κs = search needs
 
--- src/lib.rt:170:13
+settle-sub-m : (t : ℕ) → settle-lts.Need-sub-m (settle-cs t) (settle-at t) settle.Post settle-Inv-loop settle-μ-loop
+settle-sub-m t c = search needs
+
 settle-sub-settle-all : (t : ℕ) → settle-lts.Need-sub-settle-all (settle-cs t) (settle-at t) settle.Post settle-Inv-loop settle-μ-loop
 settle-sub-settle-all t c = search needs
 
--- src/lib.rt:170:13
 settle-part-settle-all-start : (t : ℕ) → settle-lts.Need-part-settle-all-start (settle-cs t) (settle-at t) settle.Post settle-Inv-loop settle-μ-loop
 settle-part-settle-all-start t c = search needs
 
--- src/lib.rt:170:13
 settle-part-settle-all-end : (t : ℕ) → settle-lts.Need-part-settle-all-end (settle-cs t) (settle-at t) settle.Post settle-Inv-loop settle-μ-loop
 settle-part-settle-all-end t c = search needs
 
--- src/lib.rt:172:13
 settle-sub-settle-all-2 : (t : ℕ) → settle-lts.Need-sub-settle-all-2 (settle-cs t) (settle-at t) settle.Post settle-Inv-loop settle-μ-loop
 settle-sub-settle-all-2 t c = search needs
 
--- src/lib.rt:173:13
-settle-sub-settle-all-3 : (t : ℕ) → settle-lts.Need-sub-settle-all-3 (settle-cs t) (settle-at t) settle.Post settle-Inv-loop settle-μ-loop
-settle-sub-settle-all-3 t c = search needs
-
--- src/lib.rt:169:13
 settle-settle-all-requires : (t : ℕ) → settle-lts.Need-settle-all-requires (settle-cs t) (settle-at t) settle.Post settle-Inv-loop settle-μ-loop
 settle-settle-all-requires t c κs =
     let i = c .before .before .before .before .before .before .loop .inv in let s = i .same in let m = i .small in let k = i .cost in let p = c .before .before .before .before .before .before .before .before .before .before .before .pre in let n = c .before .before .before .before .before .if1 .left in let e = part-length 1 (c .before .before .before .before .before .before .loop .t) in (omega arith, (p .1 .0, (omega arith, omega arith, omega arith)))
 
--- src/lib.rt:181:13
 settle-same-length-3 : (t : ℕ) → settle-lts.Need-same-length-3 (settle-cs t) (settle-at t) settle.Post settle-Inv-loop settle-μ-loop
 settle-same-length-3 t c = search needs
 
--- src/lib.rt:181:13
 settle-returns-3 : (t : ℕ) → settle-lts.Need-returns-3 (settle-cs t) (settle-at t) settle.Post settle-Inv-loop settle-μ-loop
 settle-returns-3 t c =
     turn-stop _ _ _ _ _ _ _ _ _ _ _ (c .before .before .before .before .before .before .before .before .before .before .before .loop .inv) (c .before .before .before .before .before .before .before .before .before .before .if1 .left) (c .before .before .before .before .before .before .before .before .if2 .left) (search needs) _ (c .before .before .before .before .before .before .owed-by .ensures .0) _ _ (c .before .before .before .before .settle-all .ensures) (c .if3 .taken)
 
--- src/lib.rt:185:13
-settle-add-rewrite : (t : ℕ) → settle-lts.Need-add-rewrite (settle-cs t) (settle-at t) settle.Post settle-Inv-loop settle-μ-loop
-settle-add-rewrite t c = search needs
+settle-add-k : (t : ℕ) → settle-lts.Need-add-k (settle-cs t) (settle-at t) settle.Post settle-Inv-loop settle-μ-loop
+settle-add-k t c = search needs
 
--- src/lib.rt:186:13
-settle-add-rewrite-2 : (t : ℕ) → settle-lts.Need-add-rewrite-2 (settle-cs t) (settle-at t) settle.Post settle-Inv-loop settle-μ-loop
-settle-add-rewrite-2 t c = search needs
+settle-add-e : (t : ℕ) → settle-lts.Need-add-e (settle-cs t) (settle-at t) settle.Post settle-Inv-loop settle-μ-loop
+settle-add-e t c = search needs
 
--- src/lib.rt:183:13
 settle-rewrite-requires : (t : ℕ) → settle-lts.Need-rewrite-requires (settle-cs t) (settle-at t) settle.Post settle-Inv-loop settle-μ-loop
 settle-rewrite-requires t c κs =
     let p = c .before .before .before .before .before .before .before .before .before .before .before .before .before .before .before .before .before .before .before .pre in let i = c .before .before .before .before .before .before .before .before .before .before .before .before .before .before .loop .inv in let s = i .same in let m = turn-room _ _ _ _ _ _ _ _ _ _ _ i (c .before .before .before .before .before .before .before .before .before .before .before .before .before .if1 .left) (c .before .before .before .before .before .before .before .before .before .before .before .if2 .left) (omega arith) _ (c .before .before .before .before .before .before .before .before .before .owed-by .ensures .0) _ _ (c .before .before .before .before .before .before .before .settle-all .ensures) in (p .1 .0, (m .1, m .2, m .3, omega arith, omega arith))
 
--- src/lib.rt:195:13
 settle-same-length-4 : (t : ℕ) → settle-lts.Need-same-length-4 (settle-cs t) (settle-at t) settle.Post settle-Inv-loop settle-μ-loop
 settle-same-length-4 t c =
     turn-end _ _ _ _ _ _ _ _ _ _ _ (c .before .before .before .before .before .before .before .before .before .before .before .before .before .before .before .before .before .before .before .loop .inv) (c .before .before .before .before .before .before .before .before .before .before .before .before .before .before .before .before .before .before .if1 .left) (c .before .before .before .before .before .before .before .before .before .before .before .before .before .before .before .before .if2 .left) (let p = c .before .before .before .before .before .before .before .before .before .before .before .before .before .before .before .before .before .before .before .before .before .before .before .before .pre .1 .1 in let s = c .before .before .before .before .before .before .before .before .before .before .before .before .before .before .before .before .before .before .before .loop .inv .same in omega arith) _ (c .before .before .before .before .before .before .before .before .before .before .before .before .before .before .owed-by .ensures .0) _ _ (c .before .before .before .before .before .before .before .before .before .before .before .before .settle-all .ensures) (c .before .before .before .before .before .before .before .before .if3 .left) _ _ (c .before .before .before .before .rewrite .ensures) (c .if4 .taken) .bounds .same
 
--- src/lib.rt:195:13
 settle-returns-4 : (t : ℕ) → settle-lts.Need-returns-4 (settle-cs t) (settle-at t) settle.Post settle-Inv-loop settle-μ-loop
 settle-returns-4 t c =
     turn-end _ _ _ _ _ _ _ _ _ _ _ (c .before .before .before .before .before .before .before .before .before .before .before .before .before .before .before .before .before .before .before .loop .inv) (c .before .before .before .before .before .before .before .before .before .before .before .before .before .before .before .before .before .before .if1 .left) (c .before .before .before .before .before .before .before .before .before .before .before .before .before .before .before .before .if2 .left) (let p = c .before .before .before .before .before .before .before .before .before .before .before .before .before .before .before .before .before .before .before .before .before .before .before .before .pre .1 .1 in let s = c .before .before .before .before .before .before .before .before .before .before .before .before .before .before .before .before .before .before .before .loop .inv .same in omega arith) _ (c .before .before .before .before .before .before .before .before .before .before .before .before .before .before .owed-by .ensures .0) _ _ (c .before .before .before .before .before .before .before .before .before .before .before .before .settle-all .ensures) (c .before .before .before .before .before .before .before .before .if3 .left) _ _ (c .before .before .before .before .rewrite .ensures) (c .if4 .taken)
 
--- src/lib.rt:151:5
 settle-loop-less : (t : ℕ) → settle-lts.Need-loop-less (settle-cs t) (settle-at t) settle.Post settle-Inv-loop settle-μ-loop
 settle-loop-less t c =
     turn-less _ _ _ _ _ _ _ _ _ _ _ (c .before .before .before .before .before .before .before .before .before .before .before .before .before .before .before .before .before .before .before .loop .inv) (c .before .before .before .before .before .before .before .before .before .before .before .before .before .before .before .before .before .before .if1 .left) (c .before .before .before .before .before .before .before .before .before .before .before .before .before .before .before .before .if2 .left) (let p = c .before .before .before .before .before .before .before .before .before .before .before .before .before .before .before .before .before .before .before .before .before .before .before .before .pre .1 .1 in let s = c .before .before .before .before .before .before .before .before .before .before .before .before .before .before .before .before .before .before .before .loop .inv .same in omega arith) _ (c .before .before .before .before .before .before .before .before .before .before .before .before .before .before .owed-by .ensures .0) _ _ (c .before .before .before .before .before .before .before .before .before .before .before .before .settle-all .ensures) (c .before .before .before .before .before .before .before .before .if3 .left) _ _ (c .before .before .before .before .rewrite .ensures) (let p = c .before .before .before .before .before .before .before .before .before .before .before .before .before .before .before .before .before .before .before .before .before .before .before .before .pre .1 .1 in omega arith) (c .if4 .left)
 
--- src/lib.rt:151:5
 settle-loop-again : (t : ℕ) → settle-lts.Need-loop-again (settle-cs t) (settle-at t) settle.Post settle-Inv-loop settle-μ-loop
 settle-loop-again t c =
     turn-on _ _ _ _ _ _ _ _ _ _ _ (c .before .before .before .before .before .before .before .before .before .before .before .before .before .before .before .before .before .before .before .loop .inv) (c .before .before .before .before .before .before .before .before .before .before .before .before .before .before .before .before .before .before .if1 .left) (c .before .before .before .before .before .before .before .before .before .before .before .before .before .before .before .before .if2 .left) (let p = c .before .before .before .before .before .before .before .before .before .before .before .before .before .before .before .before .before .before .before .before .before .before .before .before .pre .1 .1 in let s = c .before .before .before .before .before .before .before .before .before .before .before .before .before .before .before .before .before .before .before .loop .inv .same in omega arith) _ (c .before .before .before .before .before .before .before .before .before .before .before .before .before .before .owed-by .ensures .0) _ _ (c .before .before .before .before .before .before .before .before .before .before .before .before .settle-all .ensures) (c .before .before .before .before .before .before .before .before .if3 .left) _ _ (c .before .before .before .before .rewrite .ensures) (let p = c .before .before .before .before .before .before .before .before .before .before .before .before .before .before .before .before .before .before .before .before .before .before .before .before .pre .1 .1 in omega arith) (c .if4 .left)
 
--- src/lib.rt:219:9
 settle-all-returns : (t : ℕ) → settle-all-lts.Need-returns (settle-all-cs t) (settle-all-at t) settle-all.Post
 settle-all-returns t c =
     all-none _ _ _ _ _ _ _ _ _ (c .if1 .taken) (search needs)
 
--- src/lib.rt:226:9
 settle-all-settle-requires : (t : ℕ) → settle-all-lts.Need-settle-requires (settle-all-cs t) (settle-all-at t) settle-all.Post
 settle-all-settle-requires t c κs = search needs
 
--- src/lib.rt:228:9
 settle-all-same-length : (t : ℕ) → settle-all-lts.Need-same-length (settle-all-cs t) (settle-all-at t) settle-all.Post
 settle-all-same-length t c = search needs
 
--- src/lib.rt:228:9
 settle-all-returns-2 : (t : ℕ) → settle-all-lts.Need-returns-2 (settle-all-cs t) (settle-all-at t) settle-all.Post
 settle-all-returns-2 t c =
     all-stop _ _ _ _ _ _ _ _ _ (c .before .before .before .before .before .before .if1 .left) _ _ (c .before .before .before .before .settle .ensures) (c .if2 .taken)
 
--- src/lib.rt:232:9
 settle-all-sub-settle-all : (t : ℕ) → settle-all-lts.Need-sub-settle-all (settle-all-cs t) (settle-all-at t) settle-all.Post
 settle-all-sub-settle-all t c = search needs
 
--- src/lib.rt:232:9
 settle-all-part-settle-all-start : (t : ℕ) → settle-all-lts.Need-part-settle-all-start (settle-all-cs t) (settle-all-at t) settle-all.Post
 settle-all-part-settle-all-start t c = search needs
 
--- src/lib.rt:232:9
 settle-all-part-settle-all-end : (t : ℕ) → settle-all-lts.Need-part-settle-all-end (settle-all-cs t) (settle-all-at t) settle-all.Post
 settle-all-part-settle-all-end t c = search needs
 
--- src/lib.rt:233:9
 settle-all-sub-settle-all-2 : (t : ℕ) → settle-all-lts.Need-sub-settle-all-2 (settle-all-cs t) (settle-all-at t) settle-all.Post
 settle-all-sub-settle-all-2 t c = search needs
 
--- src/lib.rt:234:9
 settle-all-sub-settle-all-3 : (t : ℕ) → settle-all-lts.Need-sub-settle-all-3 (settle-all-cs t) (settle-all-at t) settle-all.Post
 settle-all-sub-settle-all-3 t c = search needs
 
--- src/lib.rt:235:9
 settle-all-sub-settle-all-4 : (t : ℕ) → settle-all-lts.Need-sub-settle-all-4 (settle-all-cs t) (settle-all-at t) settle-all.Post
 settle-all-sub-settle-all-4 t c = search needs
 
--- src/lib.rt:231:9
 settle-all-settle-all-requires : (t : ℕ) → settle-all-lts.Need-settle-all-requires (settle-all-cs t) (settle-all-at t) settle-all.Post
 settle-all-settle-all-requires t c κs =
     let p = c .before .before .before .before .before .before .before .before .before .before .before .before .before .pre in
@@ -222,7 +189,6 @@ settle-all-settle-all-requires t c κs =
     let e = part-length (c .before .before .before .before .before .before .settle .result .end) (c .before .before .before .before .before .before .settle .last .0) in
     (omega arith, (p .1 .0, (omega arith, omega arith, omega arith)))
 
--- src/lib.rt:245:14
 settle-all-add-t17 : (t : ℕ) → settle-all-lts.Need-add-t17 (settle-all-cs t) (settle-all-at t) settle-all.Post
 settle-all-add-t17 t c =
     let p = c .before .before .before .before .before .before .before .before .before .before .before .before .before .before .before .before .before .pre .1 .1 in
@@ -234,7 +200,6 @@ settle-all-add-t17 t c =
     let w = b .small in
     search needs
 
--- src/lib.rt:246:14
 settle-all-add-t22 : (t : ℕ) → settle-all-lts.Need-add-t22 (settle-all-cs t) (settle-all-at t) settle-all.Post
 settle-all-add-t22 t c =
     let p = c .before .before .before .before .before .before .before .before .before .before .before .before .before .before .before .before .before .before .pre .1 .1 in
@@ -246,11 +211,9 @@ settle-all-add-t22 t c =
     let w = b .small in
     search needs
 
--- src/lib.rt:203:1
 settle-all-same-length-2 : (t : ℕ) → settle-all-lts.Need-same-length-2 (settle-all-cs t) (settle-all-at t) settle-all.Post
 settle-all-same-length-2 t c = search needs
 
--- src/lib.rt:203:1
 settle-all-returns-3 : (t : ℕ) → settle-all-lts.Need-returns-3 (settle-all-cs t) (settle-all-at t) settle-all.Post
 settle-all-returns-3 t c =
     all-more _ _ _ _ _ _ _ _ _ (c .before .before .before .before .before .before .before .before .before .before .before .before .before .if1 .left) _ _ (c .before .before .before .before .before .before .before .before .before .before .before .settle .ensures) (c .before .before .before .before .before .before .before .if2 .left) (let p = c .before .before .before .before .before .before .before .before .before .before .before .before .before .before .before .before .before .before .pre .1 .1 in omega arith) _ _ (c .before .before .before .before .settle-all .ensures)
@@ -270,16 +233,16 @@ pub +settle+settle-all-spec : {M : Type 1} → statement M
     (settle-returns-2 t)
     (settle-slice-read-owed-by t)
     (settle-owed-by-requires t)
+    (settle-sub-m t)
     (settle-sub-settle-all t)
     (settle-part-settle-all-start t)
     (settle-part-settle-all-end t)
     (settle-sub-settle-all-2 t)
-    (settle-sub-settle-all-3 t)
     (settle-settle-all-requires t)
     (settle-same-length-3 t)
     (settle-returns-3 t)
-    (settle-add-rewrite t)
-    (settle-add-rewrite-2 t)
+    (settle-add-k t)
+    (settle-add-e t)
     (settle-rewrite-requires t)
     (settle-same-length-4 t)
     (settle-returns-4 t)

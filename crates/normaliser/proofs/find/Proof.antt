@@ -1,3 +1,5 @@
+-- `find`: the invariant is that the rules from k on decide the step at the root as all rules do; count - k falls. Assumes nothing.
+-- Read first: specs/Stored (Found), proofs/Choosing (Searching).
 use borrow.Author.Needs.{needs}
 use Rattle.normaliser.proofs.find.Statement.{statement}
 use Rattle.normaliser.proofs.find.Tie as tie
@@ -15,43 +17,34 @@ abbrev μ-loop : tie.MeasureT-loop
 μ-loop rules lens count t table binds₀ k₀ binds k =
     count - k
 
--- src/lib.rt:172:5
 loop-holds : tie.Need-loop-holds Inv-loop μ-loop
 loop-holds c =
     search-start _ _ _ _ _ _
 
--- src/lib.rt:173:12
 fits-requires : tie.Need-fits-requires Inv-loop μ-loop
 fits-requires c κs =
     (layout-below _ _ _ _ _ (c .before .before .before .before .before .before .before .before .pre .0) (c .before .loop-test .taken), let i = c .before .before .loop .inv .same in search needs)
 
--- src/lib.rt:174:13
 same-length : tie.Need-same-length Inv-loop μ-loop
 same-length c = search needs
 
--- src/lib.rt:174:13
 returns : tie.Need-returns Inv-loop μ-loop
 returns c =
     search-hit _ _ _ _ _ _ _ _ (c .before .before .before .before .before .before .loop .inv) (c .before .before .before .before .before .loop-test .taken) _ _ (c .before .before .before .fits2 .ensures) (c .if1 .taken)
 
--- src/lib.rt:176:9
 add-k : tie.Need-add-k Inv-loop μ-loop
 add-k c = search needs
 
--- src/lib.rt:172:5
 loop-less : tie.Need-loop-less Inv-loop μ-loop
 loop-less c = search needs
 
--- src/lib.rt:172:5
 loop-again : tie.Need-loop-again Inv-loop μ-loop
 loop-again c =
     search-on _ _ _ _ _ _ _ _ (c .before .before .before .before .before .before .loop .inv) (c .before .before .before .before .before .loop-test .taken) _ _ (c .before .before .before .fits2 .ensures) (c .if1 .left)
 
--- src/lib.rt:166:1
 same-length-2 : tie.Need-same-length-2 Inv-loop μ-loop
 same-length-2 c = search needs
 
--- src/lib.rt:166:1
 returns-2 : tie.Need-returns-2 Inv-loop μ-loop
 returns-2 c =
     search-end _ _ _ _ _ _ _ _ (c .before .loop .inv) (c .loop-test .left)

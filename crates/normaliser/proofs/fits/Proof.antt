@@ -1,56 +1,47 @@
+-- `fits`: another root symbol rules a match out (`fits-not`), else `matches` decides (`fits-by`). Assumes nothing.
+-- Read first: specs/Stored (Fitted), proofs/Choosing.
 use borrow.Author.Needs.{needs}
 use Rattle.normaliser.proofs.fits.Statement.{statement}
 use Rattle.normaliser.proofs.fits.Tie as tie
 use Rattle.normaliser.proofs.fits.Reads as reads
 use Rattle.normaliser.proofs.fits.Lts as lts
-use Rattle.normaliser.proofs.matching.matches.Reads as matches-reads
+use Rattle.matching.proofs.matches.Reads as matches-reads
 use Rattle.terms.proofs.wide.Reads as wide-reads
 use Prim.Native.Nat.{_*_}
 use native.Mathlib.Omega.{arith}
 use Rattle.normaliser.proofs.Choosing.{fits-by, fits-not, fits-take}
 
--- src/lib.rt:154:13
 mul-a : tie.Need-mul-a
 mul-a c = search needs
 
--- src/lib.rt:155:13
 shared-slice-read-b : tie.Need-shared-slice-read-b
 shared-slice-read-b c = search needs
 
--- src/lib.rt:157:12
 shared-slice-read-if2 : tie.Need-shared-slice-read-if2
 shared-slice-read-if2 c = search needs
 
--- src/lib.rt:158:13
 returns : tie.Need-returns
 returns c =
     fits-not _ _ _ _ _ _ (c .before .before .if1 .taken) (c .if2 .taken)
 
--- src/lib.rt:161:30
 mul-wide : tie.Need-mul-wide
 mul-wide c = search needs
 
--- src/lib.rt:161:25
 shared-slice-read-wide : tie.Need-shared-slice-read-wide
 shared-slice-read-wide c = search needs
 
--- src/lib.rt:161:9
 wide-requires : tie.Need-wide-requires
 wide-requires c κs = search needs
 
--- src/lib.rt:162:23
 add-matches : tie.Need-add-matches
 add-matches c = search needs
 
--- src/lib.rt:162:13
 sub-matches : tie.Need-sub-matches
 sub-matches c = search needs
 
--- src/lib.rt:162:13
 part-matches-start : tie.Need-part-matches-start
 part-matches-start c = search needs
 
--- src/lib.rt:162:13
 part-matches-end : tie.Need-part-matches-end
 part-matches-end c =
     let f = c .before .before .before .before .before .before .before .before .before .pre .0 .few in
@@ -58,15 +49,12 @@ part-matches-end c =
     let w = c .wide .ensures .0 in
     search needs
 
--- src/lib.rt:162:5
 matches-requires : tie.Need-matches-requires
 matches-requires c κs = search needs
 
--- src/lib.rt:149:1
 same-length : tie.Need-same-length
 same-length c = search needs
 
--- src/lib.rt:149:1
 returns-2 : tie.Need-returns-2
 returns-2 c =
     fits-by _ _ _ _ _ _ _ _ _ (fits-take (c .before .before .before .before .before .before .before .before .before .before .before .before .before .before .args .rules .now) (c .before .before .before .before .before .before .before .before .before .before .before .before .before .before .args .lens .now) (c .before .before .before .before .before .before .before .before .before .before .before .before .before .before .args .k) _ (c .before .before .before .before .before .wide .ensures .0)) (c .before .before .matches .ensures)

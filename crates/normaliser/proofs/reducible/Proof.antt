@@ -1,3 +1,5 @@
+-- `reducible`: the invariant is that the terms from i on have a step exactly if the whole has one; the bytes to come fall. Assumes nothing.
+-- Read first: specs/Stored (Reducible), proofs/Reducing (Looking).
 use borrow.Author.Needs.{needs}
 use Rattle.normaliser.proofs.reducible.Statement.{statement}
 use Rattle.normaliser.proofs.reducible.Tie as tie
@@ -17,50 +19,39 @@ abbrev μ-loop : tie.MeasureT-loop
 μ-loop t table rules lens count binds₀ i₀ binds i =
     length t - i
 
--- src/lib.rt:390:5
 loop-holds : tie.Need-loop-holds Inv-loop μ-loop
 loop-holds c =
     (refl, look-start _ _ _ _ _)
 
--- src/lib.rt:391:42
 sub-find : tie.Need-sub-find Inv-loop μ-loop
 sub-find c = search needs
 
--- src/lib.rt:391:42
 part-find-start : tie.Need-part-find-start Inv-loop μ-loop
 part-find-start c = search needs
 
--- src/lib.rt:391:42
 part-find-end : tie.Need-part-find-end Inv-loop μ-loop
 part-find-end c = search needs
 
--- src/lib.rt:391:58
 slice-aggregate-find : tie.Need-slice-aggregate-find Inv-loop μ-loop
 slice-aggregate-find c = sym (c .before .before .before .loop .inv .0)
 
--- src/lib.rt:391:13
 find-requires : tie.Need-find-requires Inv-loop μ-loop
 find-requires c κs = let n = c .before .before .before .loop .inv .0 in search needs
 
--- src/lib.rt:393:13
 returns : tie.Need-returns Inv-loop μ-loop
 returns c =
     look-hit _ _ _ _ _ _ (c .before .before .before .before .before .before .loop .inv .1) (c .before .before .before .before .before .loop-test .taken) _ _ _ (c .before .before .find .ensures) (c .if1 .taken)
 
--- src/lib.rt:395:9
 add-i : tie.Need-add-i Inv-loop μ-loop
 add-i c = search needs
 
--- src/lib.rt:390:5
 loop-less : tie.Need-loop-less Inv-loop μ-loop
 loop-less c = search needs
 
--- src/lib.rt:390:5
 loop-again : tie.Need-loop-again Inv-loop μ-loop
 loop-again c =
     (c .before .before .find .ensures .same ∙ c .before .before .before .before .before .before .loop .inv .0, look-on _ _ _ _ _ _ (c .before .before .before .before .before .before .loop .inv .1) (c .before .before .before .before .before .loop-test .taken) _ _ _ (c .before .before .find .ensures) (c .if1 .left))
 
--- src/lib.rt:383:1
 returns-2 : tie.Need-returns-2 Inv-loop μ-loop
 returns-2 c =
     look-end _ _ _ _ _ _ (c .before .loop .inv .1) (c .loop-test .left)

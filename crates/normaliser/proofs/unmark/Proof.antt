@@ -1,3 +1,5 @@
+-- `unmark`: 192 taken from the first byte leaves the plain bytes of the term, which ends where `terms::term_end` says. Assumes nothing.
+-- Read first: specs/Stored (Unmarked), proofs/Marking.
 use borrow.Author.Needs.{needs}
 use Rattle.normaliser.proofs.unmark.Statement.{statement}
 use Rattle.normaliser.proofs.unmark.Tie as tie
@@ -5,44 +7,35 @@ use Rattle.normaliser.proofs.unmark.Reads as reads
 use Rattle.normaliser.proofs.unmark.Lts as lts
 use Rattle.terms.proofs.term_end.Reads as term-end-reads
 use mathlib.Core.Path.{refl}
-use Rattle.normaliser.proofs.OneStep.{take-less-zero}
+use Rattle.matching.proofs.Replacing.{take-less-zero}
 use Rattle.normaliser.proofs.Marking.{unmarked}
 
--- src/lib.rt:130:12
 slice-read-t : tie.Need-slice-read-t
 slice-read-t c = search needs
 
--- src/lib.rt:130:12
 sub-t : tie.Need-sub-t
 sub-t c = search needs
 
--- src/lib.rt:130:5
 slice-write-t : tie.Need-slice-write-t
 slice-write-t c = search needs
 
--- src/lib.rt:131:21
 sub-term-end : tie.Need-sub-term-end
 sub-term-end c = search needs
 
--- src/lib.rt:131:21
 part-term-end-start : tie.Need-part-term-end-start
 part-term-end-start c = search needs
 
--- src/lib.rt:131:21
 part-term-end-end : tie.Need-part-term-end-end
 part-term-end-end c =
     search needs
 
--- src/lib.rt:131:5
 term-end-requires : tie.Need-term-end-requires
 term-end-requires c κs =
     search needs
 
--- src/lib.rt:126:1
 same-length : tie.Need-same-length
 same-length c = search needs
 
--- src/lib.rt:126:1
 returns : tie.Need-returns
 returns c =
     unmarked _ _ _ _ _ _ (take-less-zero (c .before .before .before .before .before .before .args .len) _) refl (search needs) (search needs) (c .term-end .ensures .0) (search needs)

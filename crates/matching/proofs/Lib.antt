@@ -1,0 +1,5 @@
+pub mod Advancing
+pub mod Walking
+pub mod Clearing
+pub mod Filling
+pub mod Replacing

@@ -1,0 +1,60 @@
+-- `clear`: the invariant is that the first i places are 0; 16 - i falls. Assumes nothing.
+-- Read first: specs/Held (Cleared), proofs/Clearing.
+use borrow.Author.Needs.{needs}
+use Rattle.matching.proofs.clear.Statement.{statement}
+use Rattle.matching.proofs.clear.Tie as tie
+use Rattle.matching.proofs.clear.Reads as reads
+use Rattle.matching.proofs.clear.Lts as lts
+use Prim.Native.Nat.{ℕ, _≤_, _-_, _<_}
+use mathlib.Core.Path.{_≡_}
+use lib.ListN.{length, getD, length-set}
+use Rattle.matching.proofs.Clearing.{clear-more, clear-all}
+
+abbrev Inv-loop : tie.InvT-loop
+Inv-loop binds₀ i₀ binds i =
+    (i ≤ 16) × (length binds ≡ length binds₀) × ((k : ℕ) → k < i → getD binds k 0 ≡ 0)
+
+abbrev μ-loop : tie.MeasureT-loop
+μ-loop binds₀ i₀ binds i =
+    16 - i
+
+loop-holds : tie.Need-loop-holds Inv-loop μ-loop
+loop-holds c = search needs
+
+mul-binds : tie.Need-mul-binds Inv-loop μ-loop
+mul-binds c = search needs
+
+slice-write-binds : tie.Need-slice-write-binds Inv-loop μ-loop
+slice-write-binds c = search needs
+
+add-i : tie.Need-add-i Inv-loop μ-loop
+add-i c = search needs
+
+loop-less : tie.Need-loop-less Inv-loop μ-loop
+loop-less c = search needs
+
+loop-again : tie.Need-loop-again Inv-loop μ-loop
+loop-again c =
+    (search needs, simp length-set (c .before .loop .inv .1), clear-more (c .before .loop .binds) _ (c .before .loop .inv .2) (search needs))
+
+same-length : tie.Need-same-length Inv-loop μ-loop
+same-length c = search needs
+
+returns : tie.Need-returns Inv-loop μ-loop
+returns c =
+    (c .before .loop .inv .1, clear-all (c .before .loop .binds) _ (search needs) (c .before .loop .inv .2))
+
+pub clear-spec : {M : Type 1} → statement M
+clear-spec =
+    tie.close
+    (tie.spec
+    Inv-loop
+    μ-loop
+    loop-holds
+    mul-binds
+    slice-write-binds
+    add-i
+    loop-less
+    loop-again
+    same-length
+    returns)
