@@ -1,24 +1,26 @@
--- The bytes of the four terms of an overlap. Assumes nothing.
-use mathlib.Core.Path.{_≡_, refl, sym, ap, ap₂, subst, _∙_}
+-- The bytes laid out are the four terms of an overlap: outer left, inner left renamed apart, outer left rewritten, outer right. Assumes nothing.
+-- Read first: specs/Layout (four-bytes), specs/Answer (four), normaliser/specs/Stored (Sides), rewriting/specs/Overlap (apart), proofs/Moving.
+use mathlib.Core.Path.{_≡_, refl, sym, ap, ap₂, _∙_}
 use mathlib.Core.Bool.{Bool, true, false}
-use mathlib.Core.List.{List, [], _∷_, _++_, map, append-assoc, append-nil}
-use mathlib.Core.Option.{Option, some}
-use Prim.Native.Nat.{ℕ, zero, suc, _+_, _-_, _≤_, _<_}
+use mathlib.Core.List.{List, [], _∷_, _++_, map, map-append, append-assoc, append-nil}
+use mathlib.Core.Option.{some}
+use Prim.Native.Nat.{ℕ, zero, suc, _+_, _-_, _<_}
 use native.Mathlib.Omega.{arith}
 use lib.Dec.{ltb}
 use lib.ListN.{length, take, drop, length-append}
 use lib.Seq.{take-at, drop-at}
 use Rattle.terms.specs.Base.{if_then_else_}
-use Rattle.terms.specs.Term.{Term, var, node, Terms, nil, cons, Pair, size, sizes, term-bytes, terms-bytes, subst-term, subst-terms, subterm-at, replace-at, replace-in}
+use Rattle.terms.specs.Term.{Term, var, node, Terms, nil, cons, Pair, size, term-bytes, terms-bytes, subst-term, subst-terms, subterm-at, replace-at, replace-in}
 use Rattle.terms.specs.Scan.{count, skip}
+use Rattle.terms.proofs.Subst.{count-subst}
 use Rattle.terms.specs.Flat.{Wf, Wfs}
 use Rattle.terms.proofs.Bytes.{length-bytes, around}
-use Rattle.terms.proofs.Flats.{widen, skip-term}
-use Rattle.unifier.proofs.Starting.{subterm-wf}
+use Rattle.terms.proofs.Flats.{widen, skip-term, wf-subterm}
 use Rattle.rewriting.specs.Overlap.{apart}
 use Rattle.overlaps.specs.Layout.{moved, four-bytes}
-use Rattle.overlaps.specs.Answer.{four, Reads}
-use Rattle.overlaps.proofs.Moving.{moved-symbol, moved-variable, map-append}
+use Rattle.normaliser.specs.Stored.{Sides}
+use Rattle.overlaps.specs.Answer.{four}
+use Rattle.overlaps.proofs.Moving.{moved-symbol, moved-variable}
 
 -- variables moved up by 16
 mutual
@@ -35,11 +37,6 @@ mutual
 pub moved-apart : (tab : List ℕ) (t : Term) → Wf 16 tab t → map (moved 16) (term-bytes t) ≡ term-bytes (apart t)
 unfolding apart
 moved-apart tab t w = moved-term tab t w
-
-count-subst : (σ : ℕ → Term) (ts : Terms) → count (subst-terms σ ts) ≡ count ts
-unfolding count subst-terms
-count-subst σ nil = refl
-count-subst σ (cons t ts) = ap suc (count-subst σ ts)
 
 mutual
   unfolding subst-term subst-terms Wf Wfs
@@ -90,7 +87,7 @@ mutual
 abbrev pub the-four : Pair → Pair → ℕ → Terms
 the-four i o p = four (o .left) (apart (i .left)) (replace-at (o .left) p (apart (i .right))) (o .right)
 
-module _ (tab l₁ r₁ l₂ r₂ : List ℕ) (i o : Pair) (s : Reads tab l₁ r₁ i) (t : Reads tab l₂ r₂ o) (p : ℕ) where
+module _ (tab l₁ r₁ l₂ r₂ : List ℕ) (i o : Pair) (s : Sides 16 tab l₁ r₁ i) (t : Sides 16 tab l₂ r₂ o) (p : ℕ) where
   pub four-wf : Wfs 32 tab (the-four i o p)
   unfolding Wfs
   four-wf =
@@ -100,10 +97,10 @@ module _ (tab l₁ r₁ l₂ r₂ : List ℕ) (i o : Pair) (s : Reads tab l₁ r
   replaced-bytes : (u : Term) → subterm-at (o .left) p ≡ some u → (v : Term) → take p l₂ ++ (term-bytes v ++ drop (p + skip tab (drop p l₂) 1) l₂) ≡ term-bytes (replace-at (o .left) p v)
   replaced-bytes u e v =
       let a = around (o .left) p u e in
-      let h : l₂ ≡ a .before ++ (term-bytes u ++ a .after) = t .left ∙ a .holds in
+      let h : l₂ ≡ a .before ++ (term-bytes u ++ a .after) = t .left-bytes ∙ a .holds in
       let b : take p l₂ ≡ a .before = ap (take p) h ∙ take-at (a .before) (term-bytes u ++ a .after) p (a .begins) in
       let d : drop p l₂ ≡ term-bytes u ++ a .after = ap (drop p) h ∙ drop-at (a .before) (term-bytes u ++ a .after) p (a .begins) in
-      let n : skip tab (drop p l₂) 1 ≡ size u = ap (λ z. skip tab z 1) d ∙ skip-term 16 tab u (subterm-wf 16 tab (o .left) (t .left-wf) p u e) (a .after) in
+      let n : skip tab (drop p l₂) 1 ≡ size u = ap (λ z. skip tab z 1) d ∙ skip-term 16 tab u (wf-subterm 16 tab (o .left) p u (t .left-wf) e) (a .after) in
       let k : length (a .before ++ term-bytes u) ≡ p + skip tab (drop p l₂) 1 = length-append (a .before) (term-bytes u) ∙ omega (arith, a .begins, n, length-bytes u) in
       let c : drop (p + skip tab (drop p l₂) 1) l₂ ≡ a .after =
       ap (drop (p + skip tab (drop p l₂) 1)) (h ∙ sym (append-assoc (a .before) (term-bytes u) (a .after))) ∙ drop-at (a .before ++ term-bytes u) (a .after) (p + skip tab (drop p l₂) 1) k in
@@ -112,13 +109,13 @@ module _ (tab l₁ r₁ l₂ r₂ : List ℕ) (i o : Pair) (s : Reads tab l₁ r
   pub four-terms : (u : Term) → subterm-at (o .left) p ≡ some u → four-bytes tab l₁ r₁ l₂ r₂ p ≡ terms-bytes (the-four i o p)
   unfolding four-bytes terms-bytes
   four-terms u e =
-      let x : map (moved 16) l₁ ≡ term-bytes (apart (i .left)) = ap (map (moved 16)) (s .left) ∙ moved-apart tab (i .left) (s .left-wf) in
-      let y : map (moved 16) r₁ ≡ term-bytes (apart (i .right)) = ap (map (moved 16)) (s .right) ∙ moved-apart tab (i .right) (s .right-wf) in
+      let x : map (moved 16) l₁ ≡ term-bytes (apart (i .left)) = ap (map (moved 16)) (s .left-bytes) ∙ moved-apart tab (i .left) (s .left-wf) in
+      let y : map (moved 16) r₁ ≡ term-bytes (apart (i .right)) = ap (map (moved 16)) (s .right-bytes) ∙ moved-apart tab (i .right) (s .right-wf) in
       let z : take p l₂ ++ (map (moved 16) r₁ ++ drop (p + skip tab (drop p l₂) 1) l₂) ≡ term-bytes (replace-at (o .left) p (apart (i .right))) =
       ap (λ k. take p l₂ ++ (k ++ drop (p + skip tab (drop p l₂) 1) l₂)) y ∙ replaced-bytes u e (apart (i .right)) in
-      ap₂ _++_ (t .left) (ap₂ _++_ x (ap₂ _++_ z (t .right ∙ sym (append-nil (term-bytes (o .right))))))
+      ap₂ _++_ (t .left-bytes) (ap₂ _++_ x (ap₂ _++_ z (t .right-bytes ∙ sym (append-nil (term-bytes (o .right))))))
 
 -- a symbol of a well-formed term is below 16
 pub symbol-low : (tab : List ℕ) (t : Term) → Wf 16 tab t → (p f : ℕ) (ts : Terms) → subterm-at t p ≡ some (node f ts) → f < 16
 unfolding Wf
-symbol-low tab t w p f ts e = subterm-wf 16 tab t w p (node f ts) e .0
+symbol-low tab t w p f ts e = wf-subterm 16 tab t p (node f ts) w e .0

@@ -1,4 +1,5 @@
--- The six runs that make up the four terms of an overlap. Assumes nothing.
+-- The six runs that make up the four terms of an overlap stand one behind the other, in at most 600 bytes. Assumes nothing.
+-- Read first: specs/Layout (four-bytes, LaysFour), proofs/Moving.
 use mathlib.Core.Path.{_≡_, refl, sym, ap, ap₂, _∙_}
 use mathlib.Core.List.{List, [], _∷_, _++_, map, append-assoc, append-nil}
 use Prim.Native.Nat.{ℕ, zero, suc, _+_, _-_, _≤_, _<_}

@@ -4,5 +4,6 @@ pub mod Apart
 pub mod Pairing
 pub mod Placing
 pub mod Solving
+pub mod Facing
 pub mod Meeting
 pub mod Slots

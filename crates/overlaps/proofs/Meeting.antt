@@ -1,28 +1,31 @@
--- From stored rules to the definition of their overlap. Assumes nothing.
+-- From stored rules to the definition of their overlap; and no overlap past the left side, at a variable, or where two symbols differ. Assumes
+-- nothing.
+-- Read first: specs/Answer (Meets, Overlapped, Differ), rewriting/specs/Overlap (overlap), proofs/Apart, proofs/Layers.
 use mathlib.Core.Path.{_≡_, refl, sym, ap, ap₂, subst, _∙_}
-use mathlib.Core.Bool.{Bool, true, false}
-use mathlib.Core.Logic.{_⊎_, inl, inr}
+use mathlib.Core.Bool.{Bool, true}
 use mathlib.Core.List.{List, [], _∷_, _++_}
 use mathlib.Core.Option.{Option, none, some}
 use Prim.Native.Nat.{ℕ, zero, suc, _+_, _-_, _*_, _≤_, _<_}
 use native.Mathlib.Omega.{arith}
 use lib.ListN.{length, getD, take, drop}
-use lib.Seq.{getD-take, getD-drop, drop-at, length-take-le}
-use Rattle.terms.specs.Term.{Term, var, node, Terms, Pair, size, sizes, term-bytes, terms-bytes, subst-term, subterm-at, replace-at}
+use lib.Seq.{getD-take, getD-drop, drop-at}
+use Rattle.terms.specs.Term.{Term, var, node, Terms, Pair, size, sizes, term-bytes, subst-term, subterm-at, replace-at}
+use Rattle.terms.specs.Flat.{Starts}
 use Rattle.terms.proofs.Bytes.{length-bytes, length-bytes-all, around}
 use Rattle.terms.proofs.Limits.{size-vars}
 use Rattle.terms.proofs.Places.{size-pos, place}
 use Rattle.terms.proofs.Positions.{subterm-below, subterm-is}
-use Rattle.terms.proofs.Shape.{node-symbol}
+use Rattle.terms.proofs.Flats.{widen, wf-subterm}
+use Rattle.terms.proofs.Subst.{subst-subst}
 use Rattle.unify.specs.Unify.{Binding, mgu}
 use Rattle.unify.proofs.Correct.{mgu-right, unifier}
 use Rattle.rewriting.specs.Overlap.{Overlap, apart, overlap, overlap-at, overlap-by}
-use Rattle.normaliser.specs.Stored.{RuleAt}
+use Rattle.normaliser.specs.Stored.{Sides, RuleAt}
 use Rattle.overlaps.specs.declared.Met.{Met}
 use Rattle.overlaps.specs.declared.Met.the-variants.{Nothing}
-use Rattle.overlaps.specs.Layout.{four-bytes, LaysFour}
-use Rattle.overlaps.specs.Answer.{Says, Kept, instances, four, Solves, Reads, AtNode, Meets, MeetsRules, Differ, Overlapped}
-use Rattle.overlaps.proofs.Apart.{the-four, four-wf, four-terms}
+use Rattle.overlaps.specs.Layout.{LaysFour}
+use Rattle.overlaps.specs.Answer.{Says, instances, four, Solves, AtNode, Meets, MeetsRules, NeverOne, Clashing, Overlapped}
+use Rattle.overlaps.proofs.Apart.{the-four, four-wf, four-terms, symbol-low}
 use Rattle.overlaps.proofs.Layers.{laid-bytes}
 
 by-is : (i o : Pair) (p : ℕ) (m : Option (List Binding)) → overlap-by i o p m ≡ instances (o .left) (replace-at (o .left) p (apart (i .right))) (o .right) m
@@ -52,21 +55,54 @@ module _ (tab l₁ r₁ l₂ r₂ : List ℕ) (p : ℕ) (nodes nodes′ : List �
     answer = λ i o c d m. go i o c d (m .0) (m .1) (m .2);
   }
     where
-      go : (i o : Pair) → Reads tab l₁ r₁ i → Reads tab l₂ r₂ o → (f : ℕ) (ts : Terms) → subterm-at (o .left) p ≡ some (node f ts) → Says L′ R′ r (overlap i o p)
+      go : (i o : Pair) → Sides 16 tab l₁ r₁ i → Sides 16 tab l₂ r₂ o → (f : ℕ) (ts : Terms) → subterm-at (o .left) p ≡ some (node f ts) → Says L′ R′ r (overlap i o p)
       go i o c d f ts e =
           let q = four-terms tab l₁ r₁ l₂ r₂ i o c d p (node f ts) e in
-          let x₁ : length l₁ ≡ size (apart (i .left)) = ap length (c .left) ∙ length-bytes (i .left) ∙ sym (size-apart (i .left)) in
-          let x₂ : length l₂ ≡ size (o .left) = ap length (d .left) ∙ length-bytes (o .left) in
-          let x₃ : length r₂ ≡ size (o .right) = ap length (d .right) ∙ length-bytes (o .right) in
+          let x₁ : length l₁ ≡ size (apart (i .left)) = ap length (c .left-bytes) ∙ length-bytes (i .left) ∙ sym (size-apart (i .left)) in
+          let x₂ : length l₂ ≡ size (o .left) = ap length (d .left-bytes) ∙ length-bytes (o .left) in
+          let x₃ : length r₂ ≡ size (o .right) = ap length (d .right-bytes) ∙ length-bytes (o .right) in
           let x₄ : end ≡ size (o .left) + size (apart (i .left)) + size (replace-at (o .left) p (apart (i .right))) + size (o .right) =
           g .ends ∙ ap length q ∙ length-bytes-all (the-four i o p) ∙ sizes-four (o .left) (apart (i .left)) (replace-at (o .left) p (apart (i .right))) (o .right) in
           subst (λ v. Says L′ R′ r v) (sym (overlap-is i o p f ts e))
           (s .answer (o .left) (apart (i .left)) (replace-at (o .left) p (apart (i .right))) (o .right) (four-wf tab l₁ r₁ l₂ r₂ i o c d p) (laid-bytes tab l₁ r₁ l₂ r₂ p nodes nodes′ end g k ∙ q)
           (omega arith) (omega arith) (omega arith) (node f ts) e)
 
+-- where no overlap is
+none-says : (L R : List ℕ) (v : Option Overlap) → v ≡ none → Says L R Nothing v
+none-says L R v e = rw e refl
+
+-- terms with no common instance have no overlap
+mgu-none : (s t : Term) → NeverOne s t → mgu (apart s) t ≡ none
+unfolding apart subst-term
+mgu-none s t n = go (mgu (apart s) t) refl
+  where
+    go : (m : Option (List Binding)) → mgu (apart s) t ≡ m → m ≡ none
+    go none e = refl
+    go (some m) e = absurd (n (λ x. unifier m (16 + x)) (unifier m) (sym (subst-subst (unifier m) (λ x. var (16 + x)) s) ∙ mgu-right (apart s) t m e .unifies))
+
+module _ (tab l₁ r₁ l₂ r₂ : List ℕ) (p : ℕ) (L R : List ℕ) where
+  stands-at : (o : Pair) (u : Term) → Sides 16 tab l₂ r₂ o → subterm-at (o .left) p ≡ some u → Starts tab (drop p l₂) u
+  stands-at o u d e =
+      let a = around (o .left) p u e in
+      record {
+        wf = widen 16 32 tab u (omega arith) (wf-subterm 16 tab (o .left) p u (d .left-wf) e);
+        rest = a .after;
+        bytes = ap (drop p) (d .left-bytes ∙ a .holds) ∙ drop-at (a .before) (term-bytes u ++ a .after) p (a .begins);
+      }
+
+  pub meet-clash : (b : Bool) → Clashing tab l₁ l₂ p b → b ≡ true → Meets tab l₁ r₁ l₂ r₂ p L R L R Nothing
+  meet-clash b g e = record {
+    kept = record { left = refl; right = refl };
+    short = tt;
+    answer = λ i o c d m.
+        let n = g .never e (i .left) (node (m .0) (m .1)) (widen 16 32 tab (i .left) (omega arith) (c .left-wf)) (c .left-bytes) (stands-at o (node (m .0) (m .1)) d (m .2)) in
+        none-says L R (overlap i o p)
+        (overlap-is i o p (m .0) (m .1) (m .2) ∙ ap (instances (o .left) (replace-at (o .left) p (apart (i .right))) (o .right)) (mgu-none (i .left) (node (m .0) (m .1)) n));
+  }
+
 -- a stored rule's sides
 pub rule-reads : (tab rules lens : List ℕ) (k a b i j : ℕ) → a ≡ 240 * k → b ≡ a + 120 → i ≡ getD lens (2 * k) 0 → j ≡ getD lens (2 * k + 1) 0 →
-    (e : Pair) → RuleAt tab rules lens k e → Reads tab (take (a + i - a) (drop a rules)) (take (b + j - b) (drop b rules)) e
+    (e : Pair) → RuleAt tab rules lens k e → Sides 16 tab (take (a + i - a) (drop a rules)) (take (b + j - b) (drop b rules)) e
 rule-reads tab rules lens k a b i j ea eb ei ej e h =
     let x : a + i - a ≡ getD lens (2 * k) 0 = omega arith in
     let y : b + j - b ≡ getD lens (2 * k + 1) 0 = omega arith in
@@ -74,8 +110,8 @@ rule-reads tab rules lens k a b i j ea eb ei ej e h =
     record {
       left-wf = h .left-wf;
       right-wf = h .right-wf;
-      left = ap₂ (λ u v. take u (drop v rules)) x ea ∙ h .left-bytes;
-      right = ap₂ (λ u v. take u (drop v rules)) y z ∙ h .right-bytes;
+      left-bytes = ap₂ (λ u v. take u (drop v rules)) x ea ∙ h .left-bytes;
+      right-bytes = ap₂ (λ u v. take u (drop v rules)) y z ∙ h .right-bytes;
     }
 
 take-none : (l : List ℕ) (n : ℕ) → n ≡ 0 → length (take n l) ≡ 0
@@ -149,10 +185,6 @@ unfolding subterm-at
 at-root (var x) = refl
 at-root (node f ts) = refl
 
--- where no overlap is
-none-says : (L R : List ℕ) (v : Option Overlap) → v ≡ none → Says L R Nothing v
-none-says L R v e = rw e refl
-
 overlap-none : (i o : Pair) (p : ℕ) → subterm-at (o .left) p ≡ none → overlap i o p ≡ none
 unfolding overlap overlap-at
 overlap-none i o p e = ap (overlap-at i o p) e
@@ -160,34 +192,6 @@ overlap-none i o p e = ap (overlap-at i o p) e
 overlap-variable : (i o : Pair) (p x : ℕ) → subterm-at (o .left) p ≡ some (var x) → overlap i o p ≡ none
 unfolding overlap overlap-at
 overlap-variable i o p x e = ap (overlap-at i o p) e
-
-clash : (s t : Term) → (root (apart s) ≡ root t → ⊥) → root s < 128 → root t < 128 → mgu (apart s) t ≡ none
-unfolding apart subst-term
-clash s t n h k = go (mgu (apart s) t) refl
-  where
-    roots : (u v : Term) (σ : ℕ → Term) → root u < 128 → root v < 128 → subst-term σ u ≡ subst-term σ v → root u ≡ root v
-    roots (var x) v σ h k e = absurd (omega (arith, root-variable x))
-    roots (node f us) (var x) σ h k e = absurd (omega (arith, root-variable x))
-    roots (node f us) (node g vs) σ h k e = root-node f us ∙ node-symbol e ∙ sym (root-node g vs)
-
-    up : (u : Term) → root u < 128 → root (apart u) < 128
-    up (var x) h = absurd (omega (arith, root-variable x))
-    up (node f us) h = omega (arith, h, root-node f us, root-node f (Rattle.terms.specs.Term.subst-terms (λ x. var (16 + x)) us))
-
-    go : (m : Option (List Binding)) → mgu (apart s) t ≡ m → m ≡ none
-    go none e = refl
-    go (some m) e = absurd (n (roots (apart s) t (unifier m) (up s h) k (mgu-right (apart s) t m e .unifies)))
-
-root-apart : (s : Term) → root s < 128 → root (apart s) ≡ root s
-unfolding apart subst-term
-root-apart (var x) h = absurd (omega (arith, root-variable x))
-root-apart (node f us) h = root-node f (Rattle.terms.specs.Term.subst-terms (λ x. var (16 + x)) us) ∙ sym (root-node f us)
-
-overlap-clash : (i o : Pair) (p : ℕ) (u : Term) → subterm-at (o .left) p ≡ some u → root (i .left) < 128 → root u < 128 → (root (i .left) ≡ root u → ⊥) → overlap i o p ≡ none
-overlap-clash i o p (var x) e h k n = overlap-variable i o p x e
-overlap-clash i o p (node f ts) e h k n =
-    overlap-is i o p f ts e
-    ∙ ap (instances (o .left) (replace-at (o .left) p (apart (i .right))) (o .right)) (clash (i .left) (node f ts) (λ q. n (sym (root-apart (i .left) h) ∙ q)) h k)
 
 module _ (tab rules lens : List ℕ) (inner outer p : ℕ) (L R : List ℕ) where
   nothing : ((i o : Pair) → RuleAt tab rules lens inner i → RuleAt tab rules lens outer o → overlap i o p ≡ none) → Overlapped tab rules lens inner outer p L R L R Nothing
@@ -203,43 +207,28 @@ module _ (tab rules lens : List ℕ) (inner outer p : ℕ) (L R : List ℕ) wher
   pub overlap-beyond : (n : ℕ) → n ≡ getD lens (2 * outer) 0 → n ≤ p → Overlapped tab rules lens inner outer p L R L R Nothing
   overlap-beyond n e h = nothing (λ i o j k. overlap-none i o p (beyond o k (omega arith)))
 
-  module _ (n a b : ℕ) (en : n ≡ getD lens (2 * outer) 0) (hn : p < n) (ea : a ≡ 240 * inner) (eb : b ≡ 240 * outer + p) (d : Bool) (g : Differ (getD rules a 0) (getD rules b 0) d) where
+  module _ (n b : ℕ) (en : n ≡ getD lens (2 * outer) 0) (eb : b ≡ 240 * outer + p) where
     outer-byte : (o : Pair) (u : Term) → RuleAt tab rules lens outer o → subterm-at (o .left) p ≡ some u → getD rules b 0 ≡ root u
     outer-byte o u k e = ap (λ z. getD rules z 0) eb ∙ side-byte rules (240 * outer) (getD lens (2 * outer) 0) p (o .left) u (k .left-bytes) e
 
-    inner-byte : (i : Pair) → RuleAt tab rules lens inner i → getD rules a 0 ≡ root (i .left)
-    inner-byte i k =
-        let z : a ≡ 240 * inner + 0 = omega arith in
-        ap (λ z. getD rules z 0) z ∙ side-byte rules (240 * inner) (getD lens (2 * inner) 0) 0 (i .left) (i .left) (k .left-bytes) (at-root (i .left))
+    open-none : 128 ≤ getD rules b 0 → (i o : Pair) → RuleAt tab rules lens outer o → (v : Option Term) → subterm-at (o .left) p ≡ v → overlap i o p ≡ none
+    open-none h i o k none e = overlap-none i o p e
+    open-none h i o k (some (var x)) e = overlap-variable i o p x e
+    open-none h i o k (some (node f ts)) e = absurd (omega (arith, outer-byte o (node f ts) k e, root-node f ts, symbol-low tab (o .left) (k .left-wf) p f ts e))
 
-    apart-none : Differ (getD rules a 0) (getD rules b 0) true → (i o : Pair) → RuleAt tab rules lens inner i → RuleAt tab rules lens outer o →
-        (v : Option Term) → subterm-at (o .left) p ≡ v → overlap i o p ≡ none
-    apart-none t i o j k none e = overlap-none i o p e
-    apart-none t i o j k (some (var x)) e = overlap-variable i o p x e
-    apart-none (inl h) i o j k (some (node f ts)) e = clash-high (outer-byte o (node f ts) k e) (root-node f ts)
-      where
-        clash-high : getD rules b 0 ≡ root (node f ts) → root (node f ts) ≡ f → overlap i o p ≡ none
-        clash-high q r = overlap-high (Rattle.overlaps.proofs.Apart.symbol-low tab (o .left) (k .left-wf) p f ts e)
-          where
-            overlap-high : f < 16 → overlap i o p ≡ none
-            overlap-high l = absurd (omega arith)
-    apart-none (inr (h, h′, c)) i o j k (some (node f ts)) e =
-        let x = inner-byte i j in
-        let y = outer-byte o (node f ts) k e in
-        overlap-clash i o p (node f ts) e (omega arith) (omega arith) (λ q. c (x ∙ q ∙ sym y))
-
-    pub overlap-differ : d ≡ true → Overlapped tab rules lens inner outer p L R L R Nothing
-    overlap-differ e = nothing (λ i o j k. apart-none (subst (λ z. Differ (getD rules a 0) (getD rules b 0) z) e g) i o j k (subterm-at (o .left) p) refl)
+    pub overlap-open : 128 ≤ getD rules b 0 → Overlapped tab rules lens inner outer p L R L R Nothing
+    overlap-open h = nothing (λ i o j k. open-none h i o k (subterm-at (o .left) p) refl)
 
     at-node : getD rules b 0 < 128 → (o : Pair) → RuleAt tab rules lens outer o → (u : Term) → subterm-at (o .left) p ≡ some u → AtNode (o .left) p
     at-node h o k (var x) e = absurd (omega (arith, outer-byte o (var x) k e, root-variable x))
     at-node h o k (node f ts) e = (f, ts, e)
 
-    pub overlap-met : d ≡ false → p < length (take n (drop (240 * outer) rules)) → (L′ R′ : List ℕ) (r : Met) → MeetsRules tab rules lens inner outer p L R L′ R′ r → Overlapped tab rules lens inner outer p L R L′ R′ r
-    overlap-met e l L′ R′ r m = record {
+    pub overlap-met : getD rules b 0 < 128 → p < length (take n (drop (240 * outer) rules)) → (L′ R′ : List ℕ) (r : Met) → MeetsRules tab rules lens inner outer p L R L′ R′ r →
+        Overlapped tab rules lens inner outer p L R L′ R′ r
+    overlap-met h l L′ R′ r m = record {
       kept = m .kept;
       short = m .short;
       answer = λ i o j k.
           let c : p < size (o .left) = omega (arith, ap length (ap (λ z. take z (drop (240 * outer) rules)) en ∙ k .left-bytes), length-bytes (o .left)) in
-          m .answer i o j k (at-node (subst (λ z. Differ (getD rules a 0) (getD rules b 0) z) e g) o k (place (o .left) p c .s) (subterm-is (o .left) p c));
+          m .answer i o j k (at-node h o k (place (o .left) p c .s) (subterm-is (o .left) p c));
     }

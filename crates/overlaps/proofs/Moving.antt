@@ -1,6 +1,7 @@
--- Bytes laid out with their variables moved up, and six runs of them one after the other. Assumes nothing.
+-- Bytes laid out with their variables moved up: one byte, the loop over a run, and a run behind others. Assumes nothing.
+-- Read first: specs/Layout (moved, Lays).
 use mathlib.Core.Path.{_≡_, refl, sym, ap, ap₂, _∙_}
-use mathlib.Core.List.{List, [], _∷_, _++_, map, append-assoc, append-nil}
+use mathlib.Core.List.{List, [], _∷_, _++_, map, map-append, append-assoc, append-nil}
 use Prim.Native.Nat.{ℕ, zero, suc, _+_, _≤_, _<_}
 use native.Mathlib.Omega.{arith}
 use native.Mathlib.Decide.{decLt}
@@ -33,10 +34,6 @@ moved-none b (no h) (no k) = sym (moved-high 0 b (omega arith) (omega arith))
 pub map-none : (l : List ℕ) → map (moved 0) l ≡ l
 map-none [] = refl
 map-none (b ∷ l) = ap₂ _∷_ (moved-none b (decLt b 128) (decLt b 240)) (map-none l)
-
-pub map-append : (f : ℕ → ℕ) (l m : List ℕ) → map f (l ++ m) ≡ map f l ++ map f m
-map-append f [] m = refl
-map-append f (x ∷ l) m = ap (λ k. f x ∷ k) (map-append f l m)
 
 -- the loop of `lay`
 pub record Laying (nodes₀ : List ℕ) (w : ℕ) (t : List ℕ) (up : ℕ) (nodes : List ℕ) (i : ℕ) : Type 0 where

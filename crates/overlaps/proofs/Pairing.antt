@@ -1,24 +1,25 @@
--- The instances of two nodes, written one after the other and renamed as a pair. Assumes nothing.
+-- The instances of two nodes, written one after the other and renamed, are the renamed pair; their names are few. Assumes nothing.
+-- Read first: specs/Answer (PutPair, Small), unifier/specs/Written (Writes), naming/proofs/Few.
 use mathlib.Core.Path.{_≡_, refl, sym, ap, ap₂, subst, subst₂, _∙_}
 use mathlib.Core.Logic.{⊎-elim}
-use mathlib.Core.List.{List, [], _∷_, _++_, map, append-assoc, append-nil, List·Memᴰ·not-nil, List·Memᴰ·cases-cons, List·Memᴰ·append-cases}
+use mathlib.Core.List.{List, [], _∷_, _++_, append-assoc, append-nil, List·Memᴰ·not-nil, List·Memᴰ·cases-cons, List·Memᴰ·append-cases}
 use Prim.Native.Nat.{ℕ, zero, suc, _+_, _-_, _≤_, _<_}
 use native.Mathlib.Omega.{arith}
-use lib.ListN.{length, take, drop, length-append, length-drop, length-map}
+use lib.ListN.{length, take, drop, length-append, length-drop}
 use lib.Seq.{take-at, drop-at, take-all, take-length}
-use Rattle.terms.specs.Base.{distinct}
 use Rattle.terms.specs.Term.{Term, var, node, Terms, nil, cons, Pair, size, sizes, variables, variables-of, term-bytes, terms-bytes, renamed}
 use Rattle.terms.proofs.Bytes.{length-bytes}
 use Rattle.terms.proofs.Subst.{In}
-use Rattle.terms.proofs.Numbers.{in-distinct, distinct-distinct}
-use Rattle.terms.proofs.Limits.{distinct-below, renamed-left-size, renamed-right-size}
-use Rattle.terms.proofs.Rename.{renames, renamed-sides, distinct-map}
+use Rattle.terms.proofs.Limits.{renamed-left-size, renamed-right-size}
+use Rattle.terms.proofs.Rename.{renames, renamed-sides}
 use Rattle.unifier.specs.Arena.{Arena, Spells, free, made, SpellsAll, none, more}
 use Rattle.unifier.specs.Steps.{at, arena, Ready}
-use Rattle.unifier.specs.Names.{collect, renamed-bytes}
+use Rattle.naming.specs.Names.{collect, renamed-bytes}
+use Rattle.naming.proofs.Renaming.{Lows, renamed-terms}
+use Rattle.naming.proofs.Few.{terms-few}
 use Rattle.unifier.specs.Written.{put, Room, Writes}
 use Rattle.unifier.proofs.Arena.{spells-one, spells-within}
-use Rattle.unifier.proofs.Naming.{spells-lows, renamed-terms, collect-distinct, vb-terms, up-inj}
+use Rattle.unifier.proofs.Instance.{spells-lows}
 use Rattle.unifier.proofs.Writing.{put-append, put-reads}
 use Rattle.overlaps.specs.Answer.{Kept, Low, Small, PutPair}
 
@@ -35,18 +36,6 @@ module _ (l tab ends cs : List ℕ) (rd : Ready l tab ends cs) (low : Low l) whe
     lows-variables : {p k : ℕ} {ts : Terms} → SpellsAll (arena l tab ends) (at cs) p k ts → (x : ℕ) → In x (variables-of ts) → x < 32
     lows-variables none x j = absurd (List·Memᴰ·not-nil j)
     lows-variables (more {t = t} r s) x j = ⊎-elim (λ k. low-variables r x k) (λ k. lows-variables s x k) (List·Memᴰ·append-cases (variables t) j)
-
--- so they are few
-few-names : (ts : Terms) → Rattle.unifier.proofs.Naming.Lows ts → ((x : ℕ) → In x (variables-of ts) → x < 32) → length (collect [] (terms-bytes ts)) ≤ 32
-few-names ts w h =
-    let e : collect [] (terms-bytes ts) ≡ map (λ x. 128 + x) (distinct (variables-of ts)) =
-    collect-distinct (terms-bytes ts) ∙ ap distinct (vb-terms ts w) ∙ distinct-map (λ x. 128 + x) (variables-of ts) (up-inj (variables-of ts)) in
-    omega (
-      arith,
-      ap length e,
-      length-map (distinct (variables-of ts)) (λ x. 128 + x),
-      distinct-below 32 (distinct (variables-of ts)) (distinct-distinct (variables-of ts)) (λ x i. h x (in-distinct x (variables-of ts) i)),
-    )
 
 -- the two parts of what was renamed
 first-part : (q rest X Y : List ℕ) (e : ℕ) → q ≡ X ++ Y → length X ≡ e → take (e - 0) (drop 0 (q ++ rest)) ≡ X
@@ -129,8 +118,8 @@ module _ (l tab ends cs : List ℕ) (rd : Ready l tab ends cs) (low : Low l) (a 
           let m : f - 0 ≡ length (terms-bytes (cons y (cons z nil))) = omega (arith, k) in
           ap₂ (λ j h. take j h) m whole ∙ put-reads (terms-bytes (cons y (cons z nil))) d (omega (arith, k, second-end, s .4, s .5))
 
-      lows-both : Rattle.unifier.proofs.Naming.Lows (cons y (cons z nil))
-      unfolding Rattle.unifier.proofs.Naming.Lows
+      lows-both : Lows (cons y (cons z nil))
+      unfolding Lows
       lows-both = (spells-lows one .0, spells-lows two)
 
       pub pair-names : (m : ℕ) → 240 ≤ m → (length (take (f - 0) (drop 0 d₂)) ≤ m) × (length (collect [] (take (f - 0) (drop 0 d₂))) ≤ 127)
@@ -140,7 +129,7 @@ module _ (l tab ends cs : List ℕ) (rd : Ready l tab ends cs) (low : Low l) (a 
         omega (
           arith,
           ap (λ k. length (collect [] k)) written,
-          few-names (cons y (cons z nil)) lows-both
+          terms-few 32 (cons y (cons z nil)) lows-both
               (λ x i. ⊎-elim (λ j. low-variables l tab ends cs rd low (s .2) x j) (λ j. lows-variables l tab ends cs rd low two x j) (List·Memᴰ·append-cases (variables y) i)),
         ),
       )

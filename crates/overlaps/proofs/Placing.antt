@@ -1,4 +1,5 @@
--- The tests of sizes. Assumes nothing.
+-- The tests of sizes in `place`, a lemma for each return: the peak, the left side or the right side too large, or the pair. Assumes nothing.
+-- Read first: specs/Answer (Placed, Says), unifier/specs/Sizes (Sized, Known).
 use mathlib.Core.Path.{_≡_, refl, sym, ap, ap₂, subst, _∙_}
 use mathlib.Core.Bool.{Bool, true, false}
 use mathlib.Core.List.{List}

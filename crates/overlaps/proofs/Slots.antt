@@ -1,4 +1,5 @@
--- Where the sides of a stored rule lie. Assumes nothing.
+-- Where the sides of a stored rule lie: within the bytes, at most 120 long. Assumes nothing.
+-- Read first: normaliser/specs/Stored (Layout).
 use mathlib.Core.Path.{_≡_, refl, sym, ap, _∙_}
 use mathlib.Core.List.{List}
 use Prim.Native.Nat.{ℕ, _+_, _-_, _*_, _≤_, _<_}

@@ -1,4 +1,5 @@
--- From the answer of unification to that of an overlap. Assumes nothing.
+-- From the answer of unification to that of an overlap: which most general unifier was found does not matter after renaming. Assumes nothing.
+-- Read first: specs/Answer (Solves, instances), unifier/specs/Result (Solved, Decided), unifier/proofs/Verdict.
 use mathlib.Core.Path.{_≡_, refl, sym, ap, ap₂, subst, _∙_}
 use mathlib.Core.Bool.{Bool, true, false, not}
 use mathlib.Core.List.{List, [], _∷_, _++_, append-assoc, append-nil}

@@ -1,20 +1,19 @@
 -- What the overlap of two stored rules answers. Assumes nothing.
 use mathlib.Core.Path.{_≡_}
 use mathlib.Core.Bool.{Bool, true, false}
-use mathlib.Core.Logic.{_⊎_}
-use mathlib.Core.List.{List, _++_}
+use mathlib.Core.List.{List}
 use mathlib.Core.Option.{Option, none, some}
-use Prim.Native.Nat.{ℕ, zero, suc, _+_, _<_, _≤_}
+use Prim.Native.Nat.{ℕ, _+_, _<_, _≤_}
 use lib.Dec.{ltb}
-use lib.ListN.{length, getD, take}
-use Rattle.terms.specs.Base.{mapped}
-use Rattle.terms.specs.Term.{Term, node, Terms, nil, cons, Pair, size, term-bytes, terms-bytes, renamed, subterm-at}
-use Rattle.terms.specs.Flat.{Wf, Wfs}
+use lib.ListN.{length, getD, take, drop}
+use Rattle.terms.specs.Term.{Term, node, Terms, nil, cons, Pair, size, term-bytes, terms-bytes, renamed, subst-term, subterm-at}
+use Rattle.terms.specs.Scan.{skip}
+use Rattle.terms.specs.Flat.{Wf, Wfs, Starts}
 use Rattle.unify.specs.Unify.{Binding, mgu, under}
 use Rattle.unifier.specs.Arena.{Arena, Spells}
 use Rattle.unifier.specs.Steps.{at}
 use Rattle.rewriting.specs.Overlap.{Overlap, overlap}
-use Rattle.normaliser.specs.Stored.{RuleAt}
+use Rattle.normaliser.specs.Stored.{Sides, RuleAt}
 use Rattle.overlaps.specs.declared.Met.{Met}
 use Rattle.overlaps.specs.declared.Met.the-variants.{Nothing, TooLarge, Found}
 
@@ -74,31 +73,38 @@ pub record Solves (l tab : List ℕ) (p n a b : ℕ) (L R L′ R′ : List ℕ) 
   pub answer : (x y z w : Term) → Wfs 32 tab (four x y z w) → l ≡ terms-bytes (four x y z w) → n ≡ size x → a ≡ n + size y → b ≡ a + size z →
       (t : Term) → subterm-at x p ≡ some t → Says L′ R′ r (instances x z w (mgu y t))
 
--- `meet`
-pub record Reads (tab l r : List ℕ) (e : Pair) : Type 0 where
-  pub left-wf : Wf 16 tab (e .left)
-  pub right-wf : Wf 16 tab (e .right)
-  pub left : l ≡ term-bytes (e .left)
-  pub right : r ≡ term-bytes (e .right)
+-- `differ`: the bytes a and b are two different symbols
+abbrev pub Differ : ℕ → ℕ → Bool → Type 0
+Differ a b true = (a < 128) × (b < 128) × (a ≡ b → ⊥)
+Differ a b false = Unit {0}
 
+-- `past`: from i of t one byte on where b stands there, else to the end of the subterm there
+pub record Past (tab t : List ℕ) (i b r : ℕ) : Type 0 where
+  pub same : getD t i 0 ≡ b → r ≡ i + 1
+  pub other : (getD t i 0 ≡ b → ⊥) → r ≡ i + skip tab (drop i t) 1
+  pub on : i < r
+
+-- `clash`: where r is true, the term with the bytes s and the term that stands at p in t have no common instance
+abbrev pub NeverOne : Term → Term → Type 0
+NeverOne x y = (σ τ : ℕ → Term) → subst-term σ x ≡ subst-term τ y → ⊥
+
+pub record Clashing (tab s t : List ℕ) (p : ℕ) (r : Bool) : Type 0 where
+  pub never : r ≡ true → (x y : Term) → Wf 32 tab x → s ≡ term-bytes x → Starts tab (drop p t) y → NeverOne x y
+
+-- `meet`
 abbrev pub AtNode : Term → ℕ → Type 0
 AtNode t p = (f : ℕ) × (ts : Terms) × (subterm-at t p ≡ some (node f ts))
 
 pub record Meets (tab l₁ r₁ l₂ r₂ : List ℕ) (p : ℕ) (L R L′ R′ : List ℕ) (r : Met) : Type 0 where
   pub kept : Kept L R L′ R′
   pub short : Short r
-  pub answer : (i o : Pair) → Reads tab l₁ r₁ i → Reads tab l₂ r₂ o → AtNode (o .left) p → Says L′ R′ r (overlap i o p)
+  pub answer : (i o : Pair) → Sides 16 tab l₁ r₁ i → Sides 16 tab l₂ r₂ o → AtNode (o .left) p → Says L′ R′ r (overlap i o p)
 
 -- `meet_rules`
 pub record MeetsRules (tab rules lens : List ℕ) (inner outer p : ℕ) (L R L′ R′ : List ℕ) (r : Met) : Type 0 where
   pub kept : Kept L R L′ R′
   pub short : Short r
   pub answer : (i o : Pair) → RuleAt tab rules lens inner i → RuleAt tab rules lens outer o → AtNode (o .left) p → Says L′ R′ r (overlap i o p)
-
--- where the outer rule has the byte b and the inner rule's root is a, there is no overlap; or b is a symbol
-abbrev pub Differ : ℕ → ℕ → Bool → Type 0
-Differ a b true = (128 ≤ b) ⊎ ((a < 128) × (b < 128) × (a ≡ b → ⊥))
-Differ a b false = b < 128
 
 -- `overlap`: exactly as the definition says
 pub record Overlapped (tab rules lens : List ℕ) (inner outer p : ℕ) (L R L′ R′ : List ℕ) (r : Met) : Type 0 where

@@ -7,7 +7,7 @@ ghost use Rattle.unifier.specs.Sizes.{Sized, Known};
 ghost use Rattle.normaliser.specs.Stored.{Layout};
 ghost use mathlib.Core.Bool.{true};
 ghost use Rattle.overlaps.specs.Layout.{moved, Lays, LaysFour};
-ghost use Rattle.overlaps.specs.Answer.{Low, Small, PutPair, Placed, Solves, Meets, MeetsRules, Differ, Overlapped};
+ghost use Rattle.overlaps.specs.Answer.{Low, Small, PutPair, Placed, Solves, Meets, MeetsRules, Differ, Past, Clashing, Overlapped};
 
 pub enum Met {
     // There is no overlap.
@@ -88,7 +88,7 @@ fn put_pair(
 {
     let e = unifier::write(nodes, table, ends, class, a, 1, out, 0);
     let f = unifier::write(nodes, table, ends, class, b, 1, out, e);
-    unifier::rename(&mut out[0..f], names);
+    naming::rename(&mut out[0..f], names);
     bytes::copy(&out[0..e], left);
     bytes::copy(&out[e..f], right);
 }
@@ -172,7 +172,7 @@ fn solve_in(
     right: &mut [u8],
 ) -> Met
     requires { ⌜ (length (now nodes) ≤ 600) × (p < length (now nodes)) × (n < length (now nodes)) × (a < length (now nodes)) × (b < length (now nodes)) ⌝ }
-    requires { ⌜ (600 ≤ length (now ends)) × (600 ≤ length (now class)) × (600 ≤ length (now sizes)) ⌝ }
+    requires { ⌜ (length (now nodes) ≤ length (now ends)) × (length (now nodes) ≤ length (now class)) × (length (now nodes) ≤ length (now sizes)) ⌝ }
     requires { ⌜ (120 ≤ length (now left)) × (120 ≤ length (now right)) ⌝ }
     ensures { λ r. ⌜ Solves (now (nodes .entry)) (now (table .entry)) p n a b (now (left .entry)) (now (right .entry)) (now (left .exit)) (now (right .exit)) r ⌝ }
 {
@@ -185,7 +185,7 @@ fn solve_in(
     Met::Nothing
 }
 
-// `solve_in` with buffers of its own.
+// `solve_in` with buffers of its own, of which it lends as much as there are nodes.
 fn solve(
     nodes: &[u8],
     table: &[u8],
@@ -203,6 +203,7 @@ fn solve(
     let mut ends = [0u16; 600];
     let mut class = [0u16; 600];
     let mut sizes = [0u8; 600];
+    let k = nodes.len();
     solve_in(
         nodes,
         table,
@@ -210,9 +211,9 @@ fn solve(
         n,
         a,
         b,
-        &mut ends,
-        &mut class,
-        &mut sizes,
+        &mut ends[0..k],
+        &mut class[0..k],
+        &mut sizes[0..k],
         left,
         right,
     )
@@ -242,7 +243,56 @@ fn meet_in(
     solve(&nodes[0..end], table, position, n, a, b, left, right)
 }
 
-// `meet_in` with buffers of its own.
+// Whether two bytes are different symbols.
+fn differ(a: u8, b: u8) -> bool
+    ensures { λ r. ⌜ Differ a b r ⌝ }
+{
+    if a >= 128 {
+        return false;
+    }
+    if b >= 128 {
+        return false;
+    }
+    if a == b {
+        return false;
+    }
+    true
+}
+
+// The byte after i where b is the byte at i, else after the subterm at i.
+fn past(t: &[u8], table: &[u8], i: usize, b: u8) -> usize
+    requires { ⌜ (i < length (now t)) × (length (now t) ≤ 120) ⌝ }
+    ensures { λ r. ⌜ Past (now (table .entry)) (now (t .entry)) i b r ⌝ }
+{
+    if t[i] == b {
+        return i + 1;
+    }
+    terms::term_end(t, table, i)
+}
+
+// Whether the term s and the subterm of t at a position have different symbols at one place: a walk over both that skips what faces a variable.
+fn clash(s: &[u8], t: &[u8], table: &[u8], position: usize) -> bool
+    requires { ⌜ (length (now s) ≤ 120) × (length (now t) ≤ 120) ⌝ }
+    ensures { λ r. ⌜ Clashing (now (table .entry)) (now (s .entry)) (now (t .entry)) position r ⌝ }
+{
+    let mut i = 0;
+    let mut j = position;
+    while i < s.len() {
+        if j >= t.len() {
+            return false;
+        }
+        let a = s[i];
+        let b = t[j];
+        if differ(a, b) {
+            return true;
+        }
+        i = past(s, table, i, b);
+        j = past(t, table, j, a);
+    }
+    false
+}
+
+// `meet_in` with buffers of its own, where the terms do not clash.
 fn meet(
     l1: &[u8],
     r1: &[u8],
@@ -258,11 +308,14 @@ fn meet(
     requires { ⌜ (120 ≤ length (now left)) × (120 ≤ length (now right)) ⌝ }
     ensures { λ r. ⌜ Meets (now (table .entry)) (now (l1 .entry)) (now (r1 .entry)) (now (l2 .entry)) (now (r2 .entry)) position (now (left .entry)) (now (right .entry)) (now (left .exit)) (now (right .exit)) r ⌝ }
 {
+    if clash(l1, l2, table, position) {
+        return Met::Nothing;
+    }
     let mut nodes = [0u8; 600];
     meet_in(l1, r1, l2, r2, table, position, &mut nodes, left, right)
 }
 
-// The overlap of two stored rules, of which the roots agree.
+// The overlap of two stored rules at a position where the outer has a symbol.
 fn meet_rules(
     rules: &[u8],
     lens: &[u8],
@@ -301,22 +354,6 @@ fn meet_rules(
     )
 }
 
-// Whether a rule with root a has no overlap where another has the byte b.
-fn differ(a: u8, b: u8) -> bool
-    ensures { λ r. ⌜ Differ a b r ⌝ }
-{
-    if b >= 128 {
-        return true;
-    }
-    if a >= 128 {
-        return false;
-    }
-    if a == b {
-        return false;
-    }
-    true
-}
-
 // The overlap of an inner rule with an outer rule at a position of its left side: the pair is left in left and right, renamed.
 pub fn overlap(
     rules: &[u8],
@@ -336,9 +373,8 @@ pub fn overlap(
     if position >= n {
         return Met::Nothing;
     }
-    let a = 240 * inner;
     let b = 240 * outer + position;
-    if differ(rules[a], rules[b]) {
+    if rules[b] >= 128 {
         return Met::Nothing;
     }
     meet_rules(rules, lens, table, inner, outer, position, left, right)

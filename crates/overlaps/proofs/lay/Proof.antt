@@ -1,3 +1,5 @@
+-- `lay`: the invariant is that the first i bytes, moved, stand behind the first w; the bytes to come fall. Assumes nothing.
+-- Read first: specs/Layout (Lays), proofs/Moving (Laying).
 use native.Mathlib.Omega.{arith}
 use lib.ListN.{length}
 use Prim.Native.Nat.{_-_}

@@ -1,3 +1,5 @@
+-- `lay_four`: six calls of `lay`, each behind the last, lay the four terms, by `lays-four`. Assumes nothing.
+-- Read first: specs/Layout (LaysFour), proofs/Layers.
 use native.Mathlib.Omega.{arith}
 use Rattle.overlaps.proofs.Layers.{room-five, room-six, lays-four}
 use borrow.Author.Needs.{needs}

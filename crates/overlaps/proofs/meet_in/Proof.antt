@@ -1,3 +1,5 @@
+-- `meet_in`: the four terms that are laid out are those that `solve` is asked of, by `meet-found`. Assumes nothing.
+-- Read first: specs/Answer (Meets), proofs/Meeting, proofs/Layers.
 use Rattle.overlaps.proofs.Meeting.{meet-found}
 use Rattle.overlaps.proofs.Layers.{laid-parts, laid-requires}
 use mathlib.Core.Path.{refl}

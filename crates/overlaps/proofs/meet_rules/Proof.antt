@@ -1,3 +1,5 @@
+-- `meet_rules`: no right side stands there (`rules-empty`), or the four parts handed to `meet` are the rules' sides (`rules-found`). Assumes nothing.
+-- Read first: specs/Answer (MeetsRules), proofs/Meeting, proofs/Slots.
 use Rattle.overlaps.proofs.Meeting.{rules-empty, rules-found}
 use Rattle.overlaps.proofs.Slots.{left-within, right-within, rules-requires}
 use mathlib.Core.Path.{refl}

@@ -1,3 +1,5 @@
+-- `place`: a lemma for each return: the peak, the left or the right side too large, or the pair written. Assumes nothing.
+-- Read first: specs/Answer (Placed), proofs/Placing.
 use Rattle.overlaps.proofs.Placing.{pair-small, place-peak, place-left, place-right, place-found}
 use borrow.Author.Needs.{needs}
 use Rattle.overlaps.proofs.place.Statement.{statement}

@@ -1,3 +1,5 @@
+-- `put_pair`: two instances written, renamed together, and copied apart are the renamed pair, by `pair-put`. Assumes nothing.
+-- Read first: specs/Answer (PutPair), proofs/Pairing.
 use native.Mathlib.Omega.{arith}
 use Rattle.overlaps.proofs.Pairing.{pair-room, pair-room-2, pair-within, pair-names, pair-out, left-fits, right-fits, pair-put}
 use borrow.Author.Needs.{needs}
@@ -6,7 +8,7 @@ use Rattle.overlaps.proofs.put_pair.Tie as tie
 use Rattle.overlaps.proofs.put_pair.Reads as reads
 use Rattle.overlaps.proofs.put_pair.Lts as lts
 use Rattle.bytes.proofs.copy.Reads as copy-reads
-use Rattle.unifier.proofs.rename.Reads as rename-reads
+use Rattle.naming.proofs.rename.Reads as rename-reads
 use Rattle.unifier.proofs.write.Reads as write-reads
 
 write-requires : tie.Need-write-requires

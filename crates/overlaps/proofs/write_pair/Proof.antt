@@ -1,3 +1,5 @@
+-- `write_pair`: its own buffers have the room that `put_pair` asks for. Assumes nothing.
+-- Read first: specs/Answer (PutPair), proofs/put_pair/Proof.
 use native.Mathlib.Omega.{arith}
 use borrow.Author.Needs.{needs}
 use Rattle.overlaps.proofs.write_pair.Statement.{statement}
