@@ -1,19 +1,20 @@
--- The common instance of two sides that stand one behind the other: a lemma for each return of `put_field`, `write_instance`, `common_instance` and `unify`.
--- Assumes nothing.
+-- The term that node 0 spells is written, renamed, as a field of tag 15: lemmas for `put_field` and `write_instance`. Assumes nothing.
+-- Read first: specs/Answers (Spelt, WritesSpelt, instance-field), naming/specs/Names (renamed-bytes).
 use mathlib.Core.Path.{_≡_, refl, ap, ap₂, sym, _∙_}
-use mathlib.Core.Bool.{Bool, true, false}
-use mathlib.Core.List.{List, [], _∷_, _++_, append-nil, map}
+use mathlib.Core.List.{List, [], _∷_, _++_, append-nil}
 use Prim.Native.Nat.{ℕ, suc, _+_, _-_, _≤_}
 use native.Mathlib.Omega.{arith}
 use lib.ListN.{length, take, drop, set, length-append, length-drop, length-take, length-set}
 use lib.Seq.{take-length, drop-length, take-at, take-all, length-take-le}
-use Rattle.terms.specs.Base.{if_then_else_, number-bytes, field-bytes}
+use Rattle.terms.specs.Base.{number-bytes, field-bytes}
 use Rattle.terms.specs.Term.{Term, Terms, nil, cons, size, sizes, term-bytes, terms-bytes}
 use Rattle.terms.proofs.Bytes.{length-bytes}
 use Rattle.terms.proofs.Limits.{length-field-bytes}
 use Rattle.unifier.specs.Arena.{Spells, SpellsAll, none as no-more, more}
 use Rattle.unifier.specs.Steps.{at, arena}
-use Rattle.unifier.specs.Names.{collect, added, renamed-bytes}
+use Rattle.naming.specs.Names.{collect, renamed-bytes}
+use Rattle.naming.proofs.Renaming.{length-renamed}
+use Rattle.naming.proofs.Few.{collect-few}
 use Rattle.unifier.specs.Written.{put, Writes}
 use Rattle.unifier.proofs.Writing.{put-reads}
 use Rattle.completion.specs.Calls.{written}
@@ -61,29 +62,6 @@ pub copy-room : (n : ℕ) (d : List ℕ) → n ≤ 120 → 123 ≤ length d → 
 copy-room n d few room = simp (length-take, length-drop, length-set) (omega arith)
 
 -- `write_instance`
-add-few : (p q : Bool) (b : ℕ) (ns : List ℕ) → length (if p then ns else (if q then ns else (ns ++ (b ∷ [])))) ≤ length ns + 1
-unfolding if_then_else_
-add-few true q b ns = omega arith
-add-few false true b ns = omega arith
-add-few false false b ns = omega (arith, length-append ns (b ∷ []))
-
-added-few : (b : ℕ) (ns : List ℕ) → length (added b ns) ≤ length ns + 1
-unfolding added
-added-few b ns = add-few _ _ b ns
-
-pub collect-few : (ns l : List ℕ) → length (collect ns l) ≤ length ns + length l
-unfolding collect
-collect-few ns [] = omega arith
-collect-few ns (b ∷ l) = omega (arith, collect-few (added b ns) l, added-few b ns)
-
-map-length : (f : ℕ → ℕ) (l : List ℕ) → length (map f l) ≡ length l
-map-length f [] = refl
-map-length f (x ∷ l) = ap suc (map-length f l)
-
-renamed-length : (l : List ℕ) → length (renamed-bytes l) ≡ length l
-unfolding renamed-bytes
-renamed-length l = map-length _ l
-
 module _ (l tab ends cs : List ℕ) (k : Spelt l tab ends cs) where
   pub spelt-room : (us : Terms) × SpellsAll (arena l tab ends) (at cs) 0 1 us × (0 + sizes us ≤ 120)
   unfolding sizes
@@ -113,7 +91,7 @@ module _ (l tab ends cs : List ℕ) (k : Spelt l tab ends cs) where
 
     module _ (q : List ℕ) (h : q ≡ renamed-bytes (take r e)) where
       pub again-length : length q ≡ r
-      again-length = ap length h ∙ renamed-length (take r e) ∙ sym prefix-length
+      again-length = ap length h ∙ length-renamed (take r e) ∙ sym prefix-length
 
       pub again-within : r ≤ length (q ++ drop r e)
       again-within = omega (arith, again-length, length-append q (drop r e))

@@ -1,4 +1,5 @@
--- A problem with one equation: where its sides start, and a lemma for each return of `single`, `compare` and `subterm`. Assumes nothing.
+-- A problem with one equation: where its sides start; a lemma for each return of `single`, `named`, `compare`, `subterm_bounds`. Assumes nothing.
+-- Read first: specs/Answers (SingleAt, told, PartAt), problem/specs/Parser (ParsedAt), terms/specs/Scan (Starts).
 use mathlib.Core.Path.{_≡_, refl, ap, ap₂, sym, _∙_}
 use mathlib.Core.Bool.{Bool, true, false}
 use mathlib.Core.List.{List, [], _∷_}
@@ -12,7 +13,7 @@ use lib.ListN.{length, take, drop, length-drop}
 use lib.Seq.{drop-drop, length-take-le}
 use Rattle.terms.specs.Base.{if_then_else_}
 use Rattle.terms.specs.Term.{Term, size, subterm-at, same}
-use Rattle.terms.specs.Scan.{Starts}
+use Rattle.terms.specs.Flat.{Starts}
 use Rattle.terms.proofs.Positions.{subterm-below, subterm-is}
 use Rattle.terms.proofs.Starts.{from, from-drop, starts-inside}
 use Rattle.order.specs.Order.{above, comparison}

@@ -1,4 +1,6 @@
--- The common instance of two sides that stand one behind the other: a lemma for each return of `common_instance` and `unify`. Assumes nothing.
+-- Two sides one behind the other are an arena; its classes give the definition's common instance up to renaming. Assumes nothing. A lemma for each
+-- return of `common_instance` and `unify`.
+-- Read first: specs/Answers (SidesUnify, Unifies), unifier/proofs/Instance.
 use mathlib.Core.Path.{_≡_, refl, ap, sym, _∙_}
 use mathlib.Core.Bool.{Bool, true, false}
 use mathlib.Core.List.{List, [], _∷_, _++_, append-assoc, append-nil, List·Memᴰ·not-nil, List·Memᴰ·cases-cons}
@@ -12,13 +14,13 @@ use lib.Seq.{drop-drop, drop-at, take-at}
 use borrow.Author.Tests.{lt-ltb, le-ltb}
 use Rattle.terms.specs.Base.{if_then_else_, is-some, field-bytes, distinct, without, place-in}
 use Rattle.terms.specs.Term.{Term, var, node, Terms, nil, cons, size, term-bytes, terms-bytes, subterm-at, subterm-in, subst-term, renamed, pair-variables, variables}
-use Rattle.terms.specs.Scan.{Starts, Wf as Plain, Wfs as Plains}
-use Rattle.terms.specs.Flat.{Wf, Wfs}
+use Rattle.terms.specs.Flat.{Wf, Starts}
 use Rattle.terms.proofs.Shape.{Says, eqb-says}
+use Rattle.terms.proofs.Flats.{widen}
 use Rattle.terms.proofs.Numbers.{distinct-in}
 use Rattle.terms.proofs.Subst.{In, subst-agree}
 use Rattle.terms.proofs.Bytes.{length-bytes}
-use Rattle.terms.proofs.Limits.{Made, MadeAll, size-vars}
+use Rattle.terms.proofs.Limits.{size-vars}
 use Rattle.terms.proofs.Places.{size-pos}
 use Rattle.terms.proofs.Rename.{rename, numbered}
 use Rattle.unify.specs.Unify.{Binding, mgu, under}
@@ -205,19 +207,6 @@ pub outcome-solved : (l tab : List ℕ) (b : ℕ) (ends cs zs : List ℕ) (r : B
 outcome-solved l tab b ends cs zs true h e = h
 outcome-solved l tab b ends cs zs false h e = absurd (let z : _≡_ {A = ℕ} 0 1 = cc in omega arith)
 
--- the sides of a problem with one equation
-module _ (tab : List ℕ) (S : ℕ → Type 0) where
-  mutual
-    unfolding Wf Plain Made
-
-    flat : (t : Term) → Plain tab t → Made S (λ x. x < 16) t → Wf 128 tab t
-    flat (var x) w m = omega arith
-    flat (node f ts) w m = (w .0, w .1, flats ts (w .2) (m .1))
-
-    flats : (ts : Terms) → Plains tab ts → MadeAll S (λ x. x < 16) ts → Wfs 128 tab ts
-    flats nil w m = tt
-    flats (cons t ts) w m = (flat t (w .0) (m .0), flats ts (w .1) (m .1))
-
 -- `unify`
 module _ (l d : List ℕ) where
   pub unify-short : length d < 16_384 → Unifies (unify-call l (length d)) (NotUnified 1 0) d d
@@ -261,8 +250,8 @@ module _ (l d : List ℕ) where
         unify-sides =
             let k = single-fits l S (A .is) in
             record {
-              left = flat table _ left (A .left .wf) (k .fits .left .made);
-              right = flat table _ right (A .right .wf) (k .fits .right .made);
+              left = widen 32 128 table left (omega arith) (A .left .wf);
+              right = widen 32 128 table right (omega arith) (A .right .wf);
               small-left = k .fits .left .small;
               small-right = k .fits .right .small;
               bytes = both-bytes;

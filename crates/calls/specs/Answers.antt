@@ -8,12 +8,11 @@ use lib.Dec.{eqb, leb}
 use lib.ListN.{length, take, drop}
 use denote.Ref.{RefT}
 use Rattle.terms.specs.Term.{Term, size, term-bytes, subterm-at}
-use Rattle.terms.specs.Scan.{Starts}
-use Rattle.terms.specs.Flat.{Wf}
+use Rattle.terms.specs.Flat.{Wf, Starts}
 use Rattle.terms.specs.Base.{field-bytes}
 use Rattle.unifier.specs.Arena.{Spells}
 use Rattle.unifier.specs.Steps.{at, arena}
-use Rattle.unifier.specs.Names.{renamed-bytes}
+use Rattle.naming.specs.Names.{renamed-bytes}
 use Rattle.unify.specs.Unify.{mgu}
 use Rattle.problem.specs.Problem.{Reading, ok, refused}
 use Rattle.completion.specs.Calls.{Single, parse-single, subterm-call, Unified as Common, instance, no-instance, instance-too-large, unified, written, after-unify}
@@ -50,7 +49,7 @@ unfoldable pub unify-returns : Reading Common → Returned
 unify-returns (ok (instance bytes)) = bytes-written (length bytes)
 unify-returns (ok no-instance) = none-common
 unify-returns (ok instance-too-large) = number-only 22
-unify-returns (refused n at) = number-and-place n at
+unify-returns (refused n place) = number-and-place n place
 
 -- the answer and the result buffer, before and after, are what the definition says
 pub record Unifies (u : Reading Common) (r : Unified) (d d′ : List ℕ) : Type 0 where
@@ -123,7 +122,7 @@ unfoldable pub subterm-part : List ℕ → ℕ → Part
 subterm-part l p =
     elim (parse-single l) [
       | ok P ↦ part-of (P .equation .first) p (subterm-at (P .equation .sides .left) p)
-      | refused n at ↦ record { start = 0; bytes = 0 }
+      | refused n place ↦ record { start = 0; bytes = 0 }
     ]
 
 -- "refused (2 to 12, or a position not below the node count)"
@@ -131,14 +130,14 @@ unfoldable pub subterm-refused : List ℕ → ℕ → Bool
 subterm-refused l p =
     elim (parse-single l) [
       | ok P ↦ leb (size (P .equation .sides .left)) p
-      | refused n at ↦ true
+      | refused n place ↦ true
     ]
 
 -- a reference to that part of what another refers to: the same block of memory, so many bytes on
-pub record IsPart (lent part : RefT (List ℕ)) (at : Part) : Type 0 where
+pub record IsPart (lent part : RefT (List ℕ)) (q : Part) : Type 0 where
   pub block : part .ptr .0 ≡ lent .ptr .0
-  pub place : part .ptr .1 ≡ lent .ptr .1 + at .start
-  pub bytes : part .now ≡ take (at .bytes) (drop (at .start) (lent .now))
+  pub place : part .ptr .1 ≡ lent .ptr .1 + q .start
+  pub bytes : part .now ≡ take (q .bytes) (drop (q .start) (lent .now))
 
 -- the part from a to b is the one that `subterm` hands back
 pub record PartAt (l : List ℕ) (p a b : ℕ) : Type 0 where

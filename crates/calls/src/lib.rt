@@ -125,7 +125,7 @@ fn write_instance(
     let mut out = [0u8; 120];
     let n = unifier::write(nodes, table, ends, class, 0, 1, &mut out, 0);
     let mut names = [0u8; 120];
-    unifier::rename(&mut out[..n], &mut names);
+    naming::rename(&mut out[..n], &mut names);
     put_field(&out[..n], result)
 }
 

@@ -1,4 +1,5 @@
--- Lists in the front of an array. Assumes nothing.
+-- Lists kept in the front of an array: one element more or less, the six bytes of an origin, one slot more behind the first k. Assumes nothing.
+-- Read first: store/specs/Slots (patched, OnlySlot), store/proofs/Listing.
 use mathlib.Core.Path.{_≡_, refl, sym, ap, _∙_, subst}
 use mathlib.Core.List.{List, [], _∷_, _++_, append-assoc, append-nil, map, flatMap}
 use Prim.Native.Nat.{ℕ, zero, suc, _+_, _-_, _/_, _%_, _<_, _≤_}
@@ -9,7 +10,8 @@ use lib.Seq.{take-at, drop-at, take-append-le, length-take-le, take-suc-set}
 use Rattle.terms.specs.Base.{number-bytes}
 use Rattle.terms.specs.Term.{Pair}
 use Rattle.normaliser.specs.Stored.{Layout, RuleAt, Stored}
-use Rattle.completion.specs.Turn.{Origin, waiting-input, removed-rule, scanned-input, overlapping}
+use Rattle.normaliser.proofs.Choosing.{layout-front}
+use Rattle.completion.specs.Turn.{removed-rule}
 use Rattle.completion.specs.Calls.{origin-bytes}
 use Rattle.store.specs.Slots.{patched, OnlySlot}
 use Rattle.store.proofs.Listing.{stored-same, stored-join, stored-one}
@@ -43,18 +45,6 @@ pub flatMap-one : {A : Type 0} (f : A → List ℕ) (x : A) → flatMap f (x ∷
 unfolding flatMap
 flatMap-one f x = append-nil (f x)
 
-pub map-append : {A B : Type 0} (f : A → B) (l m : List A) → map f (l ++ m) ≡ map f l ++ map f m
-map-append f [] m = refl
-map-append f (x ∷ l) m = ap (λ z. f x ∷ z) (map-append f l m)
-
--- origins
-pub origin-six : (o : Origin) → length (origin-bytes o) ≡ 6
-unfolding origin-bytes number-bytes
-origin-six (waiting-input n) = refl
-origin-six (removed-rule n) = refl
-origin-six (scanned-input n) = refl
-origin-six (overlapping i o p) = refl
-
 pub removed-bytes : (n : ℕ) → 2 ∷ (n / 256 % 256) ∷ (n % 256) ∷ 0 ∷ 0 ∷ 0 ∷ [] ≡ origin-bytes (removed-rule n)
 unfolding origin-bytes number-bytes
 removed-bytes n = refl
@@ -67,7 +57,7 @@ stored-behind tab b l b′ l′ n k ps p y m e o r h =
     (let f : k ≡ 0 + length ps = omega arith in subst (λ z. Stored tab b′ l′ z (p ∷ [])) f (stored-one tab b′ l′ k p r))
 
 pub any-table : (tab′ tab b l : List ℕ) (n : ℕ) → Layout tab b l n → Layout tab′ b l n
-any-table tab′ tab b l n y = record { slots = y .slots; lengths = y .lengths; few = y .few; short = y .short }
+any-table tab′ tab b l n y = layout-front tab tab′ b l n n y (omega arith)
 
 -- a number behind the first k
 pub number-more : (ns : List ℕ) (k v : ℕ) → k < length ns → take (k + 1) (set ns k v) ≡ take k ns ++ (v ∷ [])

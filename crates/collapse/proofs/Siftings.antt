@@ -1,7 +1,9 @@
--- Sifting one rule, and all. Assumes nothing.
+-- Step 6: one older rule is kept or joins the waiting list, as the definition's `kept` and `removed` say; and the loop over all of them. Assumes
+-- nothing.
+-- Read first: specs/Sifting (Sift, SiftedOne), completion/specs/Turn (kept, removed), proofs/Lists.
 use mathlib.Core.Path.{_≡_, refl, sym, ap, ap₂, _∙_, subst}
 use mathlib.Core.Bool.{Bool, true, false}
-use mathlib.Core.List.{List, [], _∷_, _++_, append-assoc, map}
+use mathlib.Core.List.{List, [], _∷_, _++_, append-assoc, map, map-append}
 use Prim.Native.Nat.{ℕ, suc, _+_, _-_, _*_, _<_, _≤_}
 use native.Mathlib.Omega.{arith}
 use native.Mathlib.Numerals.{add-one}
@@ -14,11 +16,12 @@ use Rattle.rewriting.specs.Overlap.{Rule, sides-of}
 use Rattle.normaliser.specs.Stored.{Layout, RuleAt, Stored, Reducible}
 use Rattle.completion.specs.Turn.{removed-rule, Candidate, rewrites, kept, removed}
 use Rattle.completion.specs.Calls.{origin-bytes}
+use Rattle.completion.proofs.Result.{origin-bytes-length}
 use Rattle.store.specs.Slots.{patched, SlotAs, OnlySlot}
 use Rattle.store.proofs.Patching.{length-patched}
 use Rattle.store.proofs.Listing.{rule-as, short-as, short-at, layout-kept, layout-more, stored-one, stored-first, stored-rest, stored-same}
 use Rattle.collapse.specs.Sifting.{pairs-of, origins-bytes, Shelf, shelf, Safe, Removes, Sift, SiftedOne, Sifted}
-use Rattle.collapse.proofs.Lists.{front-more, flatMap-append, flatMap-one, map-append, origin-six, stored-behind, any-table, number-more}
+use Rattle.collapse.proofs.Lists.{front-more, flatMap-append, flatMap-one, stored-behind, any-table, number-more}
 
 -- `rewrites`
 pub removes : (tab new sizes rules lens t : List ℕ) (i : ℕ) (r : Bool) → t ≡ take (getD lens (2 * i) 0) (drop (240 * i) rules) → Reducible tab new sizes 1 t r → Removes tab new sizes rules lens i r
@@ -73,7 +76,7 @@ module _ (tab new sizes : List ℕ) (a : Shelf) (n i k w : ℕ) (safe : Safe a n
     one-more = omega arith
 
     six-more : 6 * w + length (origin-bytes (removed-rule (getD (a .numbers) i 0))) ≤ length (a .origins)
-    six-more = let l = safe .origins-long in omega (arith, origin-six (removed-rule (getD (a .numbers) i 0)))
+    six-more = let l = safe .origins-long in omega (arith, origin-bytes-length (removed-rule (getD (a .numbers) i 0)))
 
     removed-go : (x : Rule) (rs : List Rule) (cs : List Candidate) → RuleAt tab new sizes 0 (x .sides) → (g : Sift tab x rs cs n a i k w) → (rest : List Rule) → g .rest ≡ rest → Sift tab x rs cs n after-removed (i + 1) k (w + 1)
     removed-go x rs cs h g [] q = let z = g .n-is in absurd (omega (arith, ap length q))
@@ -98,7 +101,7 @@ module _ (tab new sizes : List ℕ) (a : Shelf) (n i k w : ℕ) (safe : Safe a n
               (rule-as (short-at [] (a .rules) (a .lens) n i (safe .rules-fit) high) s ra) (g .waits));
           origins =
               ap (take (6 * (w + 1))) e
-              ∙ front-more (6 * w) (6 * (w + 1)) (origin-bytes (removed-rule (getD (a .numbers) i 0))) (a .origins) six-more (omega (arith, origin-six (removed-rule (getD (a .numbers) i 0))))
+              ∙ front-more (6 * w) (6 * (w + 1)) (origin-bytes (removed-rule (getD (a .numbers) i 0))) (a .origins) six-more (omega (arith, origin-bytes-length (removed-rule (getD (a .numbers) i 0))))
               ∙ ap₂ _++_ (g .origins) (ap (λ z. origin-bytes (removed-rule z)) (ns .0) ∙ sym (flatMap-one (λ (y : Candidate). origin-bytes (y .origin)) c))
               ∙ sym (flatMap-append (λ (y : Candidate). origin-bytes (y .origin)) (cs ++ g .rm) (c ∷ []))
               ∙ ap origins-bytes (sym all);

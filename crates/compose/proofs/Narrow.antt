@@ -1,4 +1,5 @@
--- What normalising comes to has no variables but those of the rules and the term. Assumes nothing.
+-- Rules and a term with variables below 16 normalise to a term with variables below 16. Assumes nothing.
+-- Read first: rewriting/specs/Rewrite (normalise), rewriting/proofs/Holds, normaliser/specs/Stored (Stored).
 use mathlib.Core.List.{List, [], _∷_}
 use Prim.Native.Nat.{ℕ, suc, _<_}
 use Rattle.terms.specs.Term.{Term, var, node, Terms, nil, cons}

@@ -1,4 +1,5 @@
--- The right side of one rule. Assumes nothing.
+-- The right side of one rule, normalised by all live rules: written back (`composed`), or the end and the units left (`stopped`). Assumes nothing.
+-- Read first: specs/Rights (Amid, One), proofs/Narrow, store/proofs/Listing.
 use mathlib.Core.Path.{_≡_, refl, sym, ap, _∙_, subst}
 use mathlib.Core.List.{List, [], _∷_, _++_, map-append}
 use Prim.Native.Nat.{ℕ, suc, _+_, _-_, _*_, _<_, _≤_}
@@ -17,14 +18,6 @@ use Rattle.store.proofs.Patching.{patched-here}
 use Rattle.store.proofs.Listing.{short-at, short-right, stored-split, stored-first, stored-right, layout-kept}
 use Rattle.compose.specs.Rights.{Amid, OneIs, One}
 use Rattle.compose.proofs.Narrow.{Below, narrow, normal-below}
-
--- fewer slots
-pub layout-front : (tab rules lens : List ℕ) (m n : ℕ) → Layout tab rules lens n → m ≤ n → Layout tab rules lens m
-layout-front tab rules lens m n y h =
-    let s = y .slots in
-    let l = y .lengths in
-    let f = y .few in
-    record { slots = omega arith; lengths = omega arith; few = omega arith; short = λ i q. y .short i (omega arith) }
 
 pub slot-kept : (rules lens : List ℕ) (k : ℕ) → OnlySlot rules lens k rules lens
 slot-kept rules lens k = record { same-bytes = refl; same-lengths = refl; others = λ i n. record { left-length = refl; right-length = refl; content = refl } }

@@ -1,4 +1,5 @@
--- All right sides, one after the other. Assumes nothing.
+-- All right sides, ascending: the definition's `normalise-rights` is that of the rules to come with the units left. Assumes nothing.
+-- Read first: specs/Rights (One, All), completion/specs/Turn (normalise-rights), proofs/Single.
 use mathlib.Core.Path.{_≡_, refl, sym, ap, _∙_, subst}
 use mathlib.Core.List.{List, [], _∷_, _++_, append-assoc, append-nil}
 use Prim.Native.Nat.{ℕ, _+_, _<_, _≤_}

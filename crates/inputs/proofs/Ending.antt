@@ -1,4 +1,5 @@
--- The end of a side: the walk stops where the term ends, unless the bytes are none of a side. Assumes nothing.
+-- The end of a side: a walk of at most 120 known bytes stops where the term ends, if a term of a side stands there. Assumes nothing.
+-- Read first: specs/Inputs (Known, SideEnd), terms/specs/Flat (Wf).
 use mathlib.Core.Path.{_≡_, sym, ap, _∙_, subst}
 use mathlib.Core.List.{List, [], _∷_, _++_}
 use Prim.Native.Nat.{ℕ, zero, suc, _+_, _-_, _<_, _≤_}
@@ -6,10 +7,9 @@ use native.Mathlib.Omega.{arith}
 use lib.ListN.{length, getD, drop, take, length-drop, List·getD-append}
 use lib.Seq.{take-suc, getD-drop}
 use Rattle.terms.specs.Term.{Term, var, node, Terms, nil, cons, size, term-bytes, terms-bytes}
-use Rattle.terms.specs.Scan.{Starts}
-use Rattle.terms.specs.Flat.{Wf, Wfs}
+use Rattle.terms.specs.Flat.{Wf, Wfs, Starts}
 use Rattle.terms.proofs.Every.{of-none, of-cons, every-one, every-append}
-use Rattle.terms.proofs.Flats.{any}
+use Rattle.terms.proofs.Flats.{widen}
 use Rattle.terms.proofs.Bytes.{length-bytes}
 use Rattle.inputs.specs.Inputs.{Known, SideEnd}
 
@@ -65,7 +65,7 @@ module _ (tab l : List ℕ) (at e : ℕ) (within : e ≤ length l) (ends : (x : 
         high = g .high;
         within = omega arith;
         known = g .known;
-        answer = λ x rest w s q. f x rest w s q (ends x (record { wf = any 16 tab x w; rest = rest; bytes = q }));
+        answer = λ x rest w s q. f x rest w s q (ends x (record { wf = widen 16 32 tab x (omega arith) w; rest = rest; bytes = q }));
       }
 
   pub side-far : (i : ℕ) → Going l at e i → i < e → 120 ≤ i - at → SideEnd tab l at i

@@ -1,39 +1,24 @@
--- The input equations, field behind field, go into their slots one after the other. Assumes nothing.
+-- The equation fields of a problem that is accepted stand one behind the other, and the loop puts the first k into slots 0 to k - 1. Assumes nothing.
+-- Read first: specs/Inputs (SidesAt, Filled), problem/proofs/Laid, store/proofs/Listing.
 use mathlib.Core.Path.{_≡_, refl, sym, ap, _∙_, subst}
 use mathlib.Core.List.{List, [], _∷_, _++_, map, map-map, append-assoc, append-nil}
-use Prim.Native.Nat.{ℕ, suc, _+_, _-_, _*_, _<_, _≤_}
+use Prim.Native.Nat.{ℕ, _+_, _-_, _*_, _<_, _≤_}
 use native.Mathlib.Omega.{arith}
 use lib.ListN.{length, drop, take, length-append, length-map}
 use lib.Seq.{drop-at, drop-drop}
-use Rattle.terms.specs.Term.{Term, var, node, Terms, nil, cons, size, term-bytes, Pair, renamed}
-use Rattle.terms.specs.Scan.{Wf as Plain, Wfs as Plains}
-use Rattle.terms.specs.Flat.{Wf, Wfs}
+use Rattle.terms.specs.Term.{Term, size, term-bytes, Pair, renamed}
 use Rattle.terms.proofs.Every.{Every, of-none, of-cons}
 use Rattle.terms.proofs.Bytes.{length-bytes}
-use Rattle.terms.proofs.Limits.{Made, MadeAll}
 use Rattle.normaliser.specs.Stored.{Layout, Stored}
 use Rattle.problem.specs.Problem.{ok, due, Equation, Problem}
 use Rattle.problem.specs.Parser.{field-at, Table, ParsedAt}
 use Rattle.problem.proofs.Sides.{Both}
 use Rattle.problem.proofs.Laid.{Laid, parsed-laid}
-use Rattle.completion.specs.Turn.{Origin, Candidate, candidates}
 use Rattle.completion.proofs.Limits.{HeldPair}
 use Rattle.completion.proofs.Accepts.{accepts}
 use Rattle.store.specs.Slots.{Room}
 use Rattle.store.proofs.Listing.{layout-of, layout-more, stored-none, stored-more}
 use Rattle.inputs.specs.Inputs.{SidesAt, PutEquation, Filled}
-
--- arities by the table, and variables below 16
-mutual
-  unfolding Wf Plain Made
-
-  wf-of : (n : ℕ) (tab : List ℕ) (t : Term) → Plain tab t → Made (λ f. f < n) (λ x. x < 16) t → Wf 16 tab t
-  wf-of n tab (var x) w m = m
-  wf-of n tab (node f ts) w m = (w .0, w .1, wfs-of n tab ts (w .2) (m .1))
-
-  wfs-of : (n : ℕ) (tab : List ℕ) (ts : Terms) → Plains tab ts → MadeAll (λ f. f < n) (λ x. x < 16) ts → Wfs 16 tab ts
-  wfs-of n tab nil w m = tt
-  wfs-of n tab (cons t ts) w m = (wf-of n tab t (w .0) (m .0), wfs-of n tab ts (w .1) (m .1))
 
 sides-at : (n : ℕ) (tab : List ℕ) (T : Table tab) (l : List ℕ) (at : ℕ) (q : Equation) → Both tab T l at q → HeldPair n 16 (q .sides) → SidesAt tab l (at + 3) (q .sides)
 sides-at n tab T l at q b h =
@@ -41,8 +26,8 @@ sides-at n tab T l at q b h =
     let rest-is : b .left .rest ≡ drop (at + 3 + size x) l =
     sym (drop-at (term-bytes x) (b .left .rest) (size x) (length-bytes x)) ∙ ap (drop (size x)) (sym (b .left .bytes)) ∙ drop-drop (size x) (at + 3) l in
     record {
-      left-wf = wf-of n tab x (b .left .wf) (h .left .made);
-      right-wf = wf-of n tab (q .sides .right) (b .right .wf) (h .right .made);
+      left-wf = b .left-wf;
+      right-wf = b .right-wf;
       left-small = h .left .small;
       right-small = h .right .small;
       rest = b .right .rest;
@@ -142,14 +127,3 @@ fill-end l e count b₀ l₀ bytes lens k i s n = record {
       subst (Stored (take (e - 3) (drop 3 l)) bytes lens 0) (map-map renamed (λ (q : Equation). q .sides) (P .equations))
       (whole (take (e - 3) (drop 3 l)) l bytes lens i ps (t .first) (t .rest) (t .is) (t .number ∙ sym m) (t .stored));
 }
-
--- These are the sides of the inputs as candidates, whatever their origins.
-pub candidates-sides : (origin : ℕ → Origin) (n : ℕ) (es : List Equation) → map (λ (c : Candidate). c .sides) (candidates origin n es) ≡ map (λ (e : Equation). renamed (e .sides)) es
-unfolding candidates
-candidates-sides origin n [] = refl
-candidates-sides origin n (e ∷ es) = ap (_∷_ (renamed (e .sides))) (candidates-sides origin (suc n) es)
-
-pub filled-candidates : (l : List ℕ) (e budget count : ℕ) (P : Problem) (b₀ l₀ bytes lens : List ℕ) (origin : ℕ → Origin) → Filled l e count b₀ l₀ bytes lens → ParsedAt l e budget count P →
-    Stored (take (e - 3) (drop 3 l)) bytes lens 0 (map (λ (c : Candidate). c .sides) (candidates origin 1 (P .equations)))
-filled-candidates l e budget count P b₀ l₀ bytes lens origin f A =
-    subst (Stored (take (e - 3) (drop 3 l)) bytes lens 0) (sym (candidates-sides origin 1 (P .equations))) (f .stored budget P A)

@@ -1,4 +1,3 @@
 pub mod Ending
-pub mod Renaming
 pub mod Placing
 pub mod Fields

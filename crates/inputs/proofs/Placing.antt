@@ -1,4 +1,6 @@
--- Two sides in a slot: what the functions that put them there leave behind. Assumes nothing.
+-- Two sides, found in the problem's bytes, renamed together and put into a slot: what each of the functions that do so leaves behind. Assumes
+-- nothing.
+-- Read first: specs/Inputs (SidesAt, PutSides, PutEquation), naming/proofs/Pairs, store/specs/Slots (Holds).
 use mathlib.Core.Path.{_≡_, refl, sym, ap, ap₂, _∙_, subst, subst₂}
 use mathlib.Core.List.{List, [], _++_, append-assoc}
 use Prim.Native.Nat.{ℕ, _+_, _-_, _≤_}
@@ -6,17 +8,19 @@ use native.Mathlib.Omega.{arith}
 use lib.ListN.{length, drop, take, length-drop, length-take, length-append}
 use lib.Seq.{take-all, take-at, drop-at, take-add, drop-drop, take-length, length-take-le}
 use Rattle.terms.specs.Term.{Pair, size, term-bytes, renamed}
-use Rattle.terms.proofs.Every.{every-append}
+use Rattle.terms.proofs.Every.{every-append, every-in}
 use Rattle.terms.proofs.Bytes.{length-bytes}
 use Rattle.terms.proofs.Limits.{renamed-left-size}
-use Rattle.unifier.specs.Names.{collect, renamed-bytes}
+use Rattle.naming.specs.Names.{collect, renamed-bytes}
+use Rattle.naming.proofs.Renaming.{length-renamed}
+use Rattle.naming.proofs.Few.{names-few as few-names}
+use Rattle.naming.proofs.Pairs.{wf-low, wf-few, renamed-pair, renamed-left-wf, renamed-right-wf}
 use Rattle.store.specs.Slots.{Holds, OnlySlot}
 use Rattle.store.proofs.Listing.{short-put, rule-put}
 use Rattle.problem.specs.Problem.{ok, refused, Field, due}
 use Rattle.problem.specs.Parser.{field-at}
 use Rattle.problem.proofs.Reading.{no-ok, ok-injective}
 use Rattle.inputs.specs.Inputs.{Known, SidesAt, SideEnd, PutSides, PutEquation}
-use Rattle.inputs.proofs.Renaming.{few-names, length-renamed, renamed-pair, renamed-wf-left, renamed-wf-right}
 
 -- `put_run`
 pub run-holds : (b l : List ℕ) (k : ℕ) (run : List ℕ) (m : ℕ) → Holds b l k (take (m - 0) run) (take (length run - m) (drop m run)) → Holds b l k (take m run) (drop m run)
@@ -32,7 +36,7 @@ module _ (s h h₁ : List ℕ) (c : h₁ ≡ take (length s) s ++ drop (length s
       ap₂ take z c ∙ ap (λ y. take (length s) (y ++ drop (length s) h)) (take-length s) ∙ take-at s (drop (length s) h) (length s) refl
 
   pub names-few : Known s → length (collect [] (take (length s - 0) h₁)) ≤ 127
-  names-few k = subst (λ y. length (collect [] y) ≤ 127) (sym copied-front) (few-names s k)
+  names-few k = subst (λ y. length (collect [] y) ≤ 127) (sym copied-front) (omega (arith, few-names 16 s (λ b i. every-in k i)))
 
   -- renamed there, it comes back as q
   module _ (q : List ℕ) (e : q ≡ renamed-bytes (take (length s - 0) h₁)) where
@@ -101,7 +105,7 @@ module _ (tab l : List ℕ) (at m e : ℕ) (a : SideEnd tab l at m) (b : SideEnd
         (length-append (term-bytes (p .left)) (term-bytes (p .right)) ∙ omega (arith, length-bytes (p .left), length-bytes (p .right), first-end, second-end))
 
     run-is : renamed-bytes (take (e - at) (drop at l)) ≡ term-bytes (renamed p .left) ++ term-bytes (renamed p .right)
-    run-is = ap renamed-bytes part-is ∙ renamed-pair tab p (S .left-wf) (S .right-wf)
+    run-is = ap renamed-bytes part-is ∙ renamed-pair p (wf-low 16 tab (p .left) (S .left-wf)) (wf-low 16 tab (p .right) (S .right-wf))
 
     left-length : length (term-bytes (renamed p .left)) ≡ m - at
     left-length = length-bytes (renamed p .left) ∙ renamed-left-size p ∙ omega (arith, first-end)
@@ -123,7 +127,9 @@ module _ (tab l : List ℕ) (at m e : ℕ) (a : SideEnd tab l at m) (b : SideEnd
       record {
         only = o;
         short = short-put h (omega (arith, length-take (m - at) R)) (omega (arith, length-drop (m - at) R));
-        answer = λ p S. rule-put (renamed p) (renamed-wf-left tab p (S .left-wf) (S .right-wf)) (renamed-wf-right tab p (S .left-wf) (S .right-wf)) (left-is p S) (right-is p S) h;
+        answer = λ p S.
+            let few = wf-few 16 tab p (S .left-wf) (S .right-wf) in
+            rule-put (renamed p) (renamed-left-wf 16 16 tab p few (S .left-wf)) (renamed-right-wf 16 16 tab p few (S .right-wf)) (left-is p S) (right-is p S) h;
       }
 
 -- `put_equation`

@@ -2,7 +2,7 @@
 ghost use mathlib.Core.Path.{_≡_};
 ghost use Prim.Native.Nat.{ℕ, _+_, _-_, _*_, _<_, _≤_};
 ghost use lib.ListN.{length, drop, take};
-ghost use Rattle.unifier.specs.Names.{renamed-bytes};
+ghost use Rattle.naming.specs.Names.{renamed-bytes};
 ghost use Rattle.store.specs.Slots.{Room, Holds, OnlySlot};
 ghost use Rattle.inputs.specs.Inputs.{Known, SideEnd, PutSides, PutEquation, Filled};
 
@@ -46,7 +46,7 @@ fn put_renamed(sides: &[u8], m: usize, bytes: &mut [u8], lens: &mut [u8], k: usi
     let mut held = [0u8; 240];
     let mut names = [0u8; 240];
     bytes::copy(sides, &mut held);
-    unifier::rename(&mut held[0..n], &mut names);
+    naming::rename(&mut held[0..n], &mut names);
     put_run(&held[0..n], m, bytes, lens, k);
 }
 

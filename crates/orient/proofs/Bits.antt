@@ -1,4 +1,5 @@
--- Bits of a number, and their count. Assumes nothing.
+-- Bits of a number below 2^w: how "or" and powers of two set them, and that the ones counted are the size of the set they stand for. Assumes nothing.
+-- Read first: specs/Seen (bit, Has).
 use mathlib.Core.Path.{_≡_, refl, sym, ap, _∙_, subst}
 use mathlib.Core.Logic.{_⊎_, inl, inr, ⊎-elim}
 use mathlib.Core.List.{List, [], _∷_, List·Memᴰ·head, List·Memᴰ·tail, List·Memᴰ·not-nil, List·Memᴰ·cases-cons, Memᴰ·cast}

@@ -1,4 +1,5 @@
--- The variables in bytes as a set of bits, and their count. Assumes nothing.
+-- The variables in bytes as a set of bits: what a byte and what a run of bytes adds; the ones count the pair's variables. Assumes nothing.
+-- Read first: specs/Seen (Seen, Counted), proofs/Bits.
 use mathlib.Core.Path.{_≡_, refl, sym, ap, _∙_, subst}
 use mathlib.Core.Logic.{_⊎_, inl, inr, ⊎-elim}
 use mathlib.Core.List.{List, [], _∷_, _++_, List·Memᴰ·head, List·Memᴰ·tail, List·Memᴰ·not-nil, List·Memᴰ·cases-cons, Memᴰ·append-left, Memᴰ·append-right, List·Memᴰ·append-cases}

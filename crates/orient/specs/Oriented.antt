@@ -5,11 +5,10 @@ use mathlib.Core.List.{List}
 use Prim.Native.Nat.{ℕ, _≤_}
 use lib.Dec.{ltb}
 use lib.ListN.{length}
-use Rattle.terms.specs.Term.{Pair, term-bytes, pair-variables, renamed}
-use Rattle.terms.specs.Flat.{Wf}
+use Rattle.terms.specs.Term.{Pair, pair-variables, renamed}
 use Rattle.order.specs.Walk.{rank}
 use Rattle.rewriting.specs.Rewrite.{Paid, done, stop, Paying, too-large, neither-above, _>>=_, end-if}
-use Rattle.normaliser.specs.Stored.{RuleAt}
+use Rattle.normaliser.specs.Stored.{Sides, RuleAt}
 use Rattle.problem.specs.Problem.{rank-of, Problem}
 use Rattle.completion.specs.Turn.{orient}
 use Rattle.completion.specs.Calls.{end-number}
@@ -21,18 +20,11 @@ oriented P e = do
   _ ← end-if (ltb 16 (length (pair-variables e))) too-large
   orient P e
 
--- the bytes are those of the pair's sides, with variables below 32
-pub record Sides (tab left right : List ℕ) (e : Pair) : Type 0 where
-  pub left-wf : Wf 32 tab (e .left)
-  pub right-wf : Wf 32 tab (e .right)
-  pub left-bytes : left ≡ term-bytes (e .left)
-  pub right-bytes : right ≡ term-bytes (e .right)
-
 -- `put_renamed`: the pair, renamed, stands in slot k
 pub record PutRenamed (left right b l : List ℕ) (k : ℕ) (b′ l′ : List ℕ) : Type 0 where
   pub only : OnlySlot b l k b′ l′
   pub short : ShortAt l′ k
-  pub rule : (tab : List ℕ) (e : Pair) → Sides tab left right e → length (pair-variables e) ≤ 16 → RuleAt tab b′ l′ k (renamed e)
+  pub rule : (tab : List ℕ) (e : Pair) → Sides 32 tab left right e → length (pair-variables e) ≤ 16 → RuleAt tab b′ l′ k (renamed e)
 
 -- 0 and the new rule's sides in slot k, or the end's number; no unit is paid
 abbrev pub OrientedIs : List ℕ → List ℕ → List ℕ → ℕ → ℕ → Pair → ℕ → Paid Pair → Type 0
@@ -43,4 +35,4 @@ OrientedIs tab b l k r e units (stop f left) = (r ≡ end-number f) × (left ≡
 pub record Placed (tab left right b l : List ℕ) (k r : ℕ) (b′ l′ : List ℕ) : Type 0 where
   pub only : OnlySlot b l k b′ l′
   pub short : r ≡ 0 → ShortAt l′ k
-  pub answer : (P : Problem) → rank-of (P .symbols) ≡ rank tab → (e : Pair) → Sides tab left right e → (units : ℕ) → OrientedIs tab b′ l′ k r e units (oriented P e units)
+  pub answer : (P : Problem) → rank-of (P .symbols) ≡ rank tab → (e : Pair) → Sides 32 tab left right e → (units : ℕ) → OrientedIs tab b′ l′ k r e units (oriented P e units)

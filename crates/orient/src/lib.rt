@@ -3,7 +3,6 @@ ghost use mathlib.Core.Path.{_≡_};
 ghost use mathlib.Core.List.{[], _∷_, _++_, List·Memᴰ};
 ghost use Prim.Native.Nat.{ℕ, _+_, _-_, _<_, _≤_};
 ghost use lib.ListN.{length, take, drop};
-ghost use Rattle.unifier.specs.Names.{renamed-bytes};
 ghost use Rattle.store.specs.Slots.{Room, Holds, OnlySlot};
 ghost use Rattle.orient.specs.Oriented.{PutRenamed, Placed};
 ghost use Rattle.orient.specs.Seen.{Seen, Counted};
@@ -42,15 +41,6 @@ pub fn variable_count(left: &[u8], right: &[u8]) -> u32
     u32::count_ones(seen)
 }
 
-// The first e bytes, with their variables numbered in order of first occurrence.
-fn rename_front(out: &mut [u8], e: usize)
-    requires { ⌜ (e ≤ length (now out)) × (e ≤ 240) × ((b : ℕ) → List·Memᴰ b (take e (now out)) → b < 160) ⌝ }
-    ensures { λ _. ⌜ now (out .exit) ≡ renamed-bytes (take e (now (out .entry))) ++ drop e (now (out .entry)) ⌝ }
-{
-    let mut names = [0u8; 240];
-    unifier::rename(&mut out[0..e], &mut names);
-}
-
 // The bytes to n and those from n to e into slot k.
 fn put_parts(out: &[u8], n: usize, e: usize, rules: &mut [u8], lens: &mut [u8], k: usize)
     requires { ⌜ Room (now rules) (now lens) k ⌝ }
@@ -72,7 +62,7 @@ fn put_renamed(left: &[u8], right: &[u8], rules: &mut [u8], lens: &mut [u8], k: 
     let mut out = [0u8; 240];
     store::paste(&mut out, 0, left);
     store::paste(&mut out, n, right);
-    rename_front(&mut out, e);
+    naming::rename_front(&mut out, e);
     put_parts(&out, n, e, rules, lens, k);
 }
 

@@ -1,4 +1,6 @@
--- A walk on its way: what was passed comes to the same as what is still to come. Assumes nothing.
+-- A walk on its way: the whole part from the start comes to the same as the part still to come with the units left. Assumes nothing. So loops and
+-- sequences of walks compose.
+-- Read first: specs/Walk (Part, Walked, Walks).
 use mathlib.Core.Path.{_≡_, refl, _∙_, ap}
 use mathlib.Core.List.{List}
 use Prim.Native.Nat.{ℕ, _≤_}

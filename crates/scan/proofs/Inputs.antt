@@ -1,4 +1,5 @@
--- Pairs in slots, the input equations, and the whole scan. Assumes nothing.
+-- A pair in a slot is compared, the input equations unroll one by one, and overlaps then inputs are the definition's `scan`. Assumes nothing.
+-- Read first: specs/Walk (SlotWalk, of-inputs, Scanned), completion/specs/Turn (scan), proofs/Going, proofs/Places.
 use mathlib.Core.Path.{_≡_, refl, sym, _∙_, ap, subst}
 use mathlib.Core.List.{List, [], _∷_, _++_, map}
 use Prim.Native.Nat.{ℕ, zero, suc, _+_, _-_, _*_, _<_, _≤_}

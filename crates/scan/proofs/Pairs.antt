@@ -1,4 +1,5 @@
--- `scan_pair`: the normal forms of a pair, compared. Assumes nothing.
+-- `scan_pair` by its returns: a side that does not come to a normal form, equal forms, different forms. Assumes nothing.
+-- Read first: specs/Walk (PairWalk, compared), normaliser/specs/Stored (Normalised).
 use mathlib.Core.Path.{_≡_, refl, sym, _∙_, ap, subst}
 use mathlib.Core.Bool.{Bool, true, false}
 use mathlib.Core.List.{List, [], append-nil}
@@ -135,5 +136,5 @@ module _ (tab rules lens : List ℕ) (count : ℕ) (L : List ℕ) (m : ℕ) (R :
             let u : w .units ≡ k′ = wu ∙ (let s = h .1 in omega arith) in
             found (record { origin = o; sides = record { left = y; right = y′ } }) wv
             (λ next. both-done rs o e next units y k y′ k′ q q′ ∙ other-forms rs o e next units (record { left = y; right = y′ }) k′ (apart y y′ by (h .3) (same y y′) refl) ∙ ap (done (record { origin = o; sides = record { left = y; right = y′ } })) (sym u))
-            (record { left-bytes = rw wm by; right-bytes = rw wn (h .3); left-wf = wy; right-wf = h .4; from = wo ∙ fr })
+            (record { sides = record { left-bytes = rw wm by; right-bytes = rw wn (h .3); left-wf = wy; right-wf = h .4 }; from = wo ∙ fr })
         go rs o e fr y k q z by wy (stop x k′) q′ h = zero-ends r x ok′ (h .0)

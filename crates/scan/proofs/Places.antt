@@ -1,4 +1,6 @@
--- How the parts of the scan unroll, rule by rule and position by position. Assumes nothing.
+-- How the parts of the scan unroll: a position and those behind it, both ways, a rule with each earlier one and itself, rule by rule. Assumes
+-- nothing.
+-- Read first: specs/Walk (at-positions, both-ways, of-rules), rewriting/specs/Overlap (all-places), proofs/Going (Unrolls).
 use mathlib.Core.Path.{_≡_, refl, sym, _∙_, ap}
 use mathlib.Core.List.{List, [], _∷_, _++_}
 use Prim.Native.Nat.{ℕ, zero, suc, _+_, _-_, _*_, _<_, _≤_}

@@ -1,4 +1,5 @@
--- `scan_at`: one place, by what the overlap there is. Assumes nothing.
+-- `scan_at` by what the overlap there is: none, too large (its peak or a side), or a pair that `scan_pair` compares. Assumes nothing.
+-- Read first: specs/Walk (visit, at-place), overlaps/specs/Answer (Overlapped), proofs/WellFormed, proofs/Pairs, proofs/Going.
 use mathlib.Core.Path.{_≡_, refl, sym, _∙_, ap, subst}
 use mathlib.Core.Bool.{Bool, true, false}
 use mathlib.Core.List.{List, [], _∷_, _++_}

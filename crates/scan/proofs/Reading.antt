@@ -1,4 +1,5 @@
 -- What the scan is handed, from how a state keeps it: the rules' numbers as a list, and the input equations renamed. Assumes nothing.
+-- Read first: specs/Walk (rule-at), completion/specs/Turn (candidates).
 use mathlib.Core.Path.{_≡_, refl, sym, _∙_, ap}
 use mathlib.Core.List.{List, [], _∷_, map}
 use Prim.Native.Nat.{ℕ, zero, suc, _<_}

@@ -1,4 +1,5 @@
--- The sides of an overlap of well-formed rules are well-formed, with variables below 32. Assumes nothing.
+-- The sides of an overlap of well-formed rules are, renamed, well-formed, with variables below 32. Assumes nothing.
+-- Read first: rewriting/specs/Overlap (overlap), terms/specs/Flat (Wf), completion/proofs/Over.
 use mathlib.Core.Path.{_≡_, refl, sym, _∙_, ap, subst}
 use mathlib.Core.List.{List, [], _∷_}
 use mathlib.Core.Option.{some}

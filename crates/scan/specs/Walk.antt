@@ -11,7 +11,7 @@ use Rattle.rewriting.specs.Overlap.{Rule, sides-of, overlap, Place, places, pla
 use Rattle.rewriting.specs.Rewrite.{End, complete, neither-above, spent, too-large, rules-full, log-full, Paid, done, stop, Paying, _>>=_, normalise-pair}
 use Rattle.completion.specs.Turn.{Origin, scanned-input, Candidate, candidates, scan-overlap, if-different, if-different-overlap, scan}
 use Rattle.completion.specs.Calls.{origin-bytes}
-use Rattle.normaliser.specs.Stored.{RuleAt, Stored}
+use Rattle.normaliser.specs.Stored.{Sides, RuleAt, Stored}
 use Rattle.scan.specs.declared.Walk.{Walk}
 
 -- A part of the scan, before what follows it.
@@ -40,10 +40,7 @@ visit-inputs rules (c ∷ cs) next = compared rules (c .origin) (c .sides) (visi
 
 -- The pair that was found: its forms in the buffers, and where it came from.
 pub record Shows (tab L R : List ℕ) (w : Walk) (c : Candidate) : Type 0 where
-  pub left-bytes : take (w .m) L ≡ term-bytes (c .sides .left)
-  pub right-bytes : take (w .n) R ≡ term-bytes (c .sides .right)
-  pub left-wf : Wf 32 tab (c .sides .left)
-  pub right-wf : Wf 32 tab (c .sides .right)
+  pub sides : Sides 32 tab (take (w .m) L) (take (w .n) R) (c .sides)
   pub from : w .origin ≡ origin-bytes (c .origin)
 
 -- What a walk over the part d answers, that began with u units.

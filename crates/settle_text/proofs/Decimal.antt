@@ -1,4 +1,6 @@
--- Numbers in decimal: the last digit and those before it. Assumes nothing.
+-- Numbers in decimal: the last digit behind those of a tenth, how many digits there are, and the loops of `digits` and `put_decimal`. Assumes
+-- nothing.
+-- Read first: completion/specs/Settle (decimal), report/specs/Fields (Puts), report/proofs/Appending.
 use mathlib.Core.Path.{_≡_, refl, sym, ap, _∙_}
 use mathlib.Core.Bool.{Bool, true, false}
 use mathlib.Core.List.{List, [], _∷_, _++_}

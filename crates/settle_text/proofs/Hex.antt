@@ -1,4 +1,5 @@
--- Bytes in hexadecimal, and a field's line. Assumes nothing.
+-- Bytes in hexadecimal, and from them a field's line and the text of a refusal, part behind part. Assumes nothing.
+-- Read first: completion/specs/Settle (hex-byte, line), report/specs/Fields (Puts), report/proofs/Putting, proofs/Decimal.
 use mathlib.Core.Path.{_≡_, refl, sym, ap, ap₂, _∙_}
 use mathlib.Core.List.{List, [], _∷_, _++_, flatMap}
 use Prim.Native.Nat.{ℕ, _+_, _*_, _/_, _%_, _≤_, _<_}

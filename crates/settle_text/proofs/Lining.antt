@@ -1,4 +1,6 @@
--- A line a field, from the bytes of the fields. Assumes nothing.
+-- A line a field, from the bytes of the fields: if the result is fields, the bytes from i on are the fields whose lines are to print. Assumes
+-- nothing.
+-- Read first: specs/Text (Lines), completion/specs/Settle (line), terms/specs/Base (field-bytes), report/proofs/Appending.
 use mathlib.Core.Path.{_≡_, refl, sym, ap, ap₂, _∙_}
 use mathlib.Core.List.{List, [], _∷_, _++_, flatMap}
 use Prim.Native.Nat.{ℕ, _+_, _-_, _*_, _/_, _%_, _≤_, _<_}

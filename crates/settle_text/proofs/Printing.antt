@@ -1,4 +1,5 @@
--- What settle prints, from the answer and the bytes of `complete`. Assumes nothing.
+-- What settle prints, from the answer of `complete` and the bytes that it leaves in the buffer. Assumes nothing.
+-- Read first: complete/specs/Answer (told, counted), specs/Text, proofs/Settling.
 use mathlib.Core.Path.{_≡_, refl, sym, ap, _∙_, subst}
 use mathlib.Core.List.{List, _++_}
 use Prim.Native.Nat.{ℕ, _-_, _≤_}

@@ -1,4 +1,5 @@
--- The two texts are what settle prints. Assumes nothing.
+-- The two texts, of the result's lines and of a refusal, are what the definition says that settle prints. Assumes nothing.
+-- Read first: specs/Text (Lines, Refusal), completion/specs/Settle (settle).
 use mathlib.Core.Path.{_≡_, refl, sym, _∙_}
 use mathlib.Core.List.{List}
 use Prim.Native.Nat.{ℕ, _≤_}

@@ -1,4 +1,5 @@
--- Pairs in slots: what they depend on, and what each change of the slots makes of the list. Assumes nothing.
+-- Pairs in slots: a pair depends on its slot alone, so putting, replacing, dropping or moving a slot does the same to the list. Assumes nothing.
+-- Read first: specs/Slots, normaliser/specs/Stored (Layout, RuleAt, Stored).
 use mathlib.Core.Path.{_≡_, refl, sym, ap, _∙_, subst}
 use mathlib.Core.Logic.{_⊎_, inl, inr, ⊎-elim}
 use mathlib.Core.List.{List, [], _∷_, _++_}

@@ -1,4 +1,6 @@
--- A list with another put over a part of it. Assumes nothing.
+-- A list with another put over a part of it: its length, the bytes there, before and behind are the expected ones. Assumes nothing. Also what a lent
+-- part comes back as (`patched-back`).
+-- Read first: specs/Slots (patched).
 use mathlib.Core.Path.{_≡_, refl, sym, ap, ap₂, _∙_}
 use mathlib.Core.List.{List, [], _++_, append-assoc, append-nil}
 use Prim.Native.Nat.{ℕ, _+_, _*_, _-_, _≤_}

@@ -1,4 +1,5 @@
--- What each function on slots leaves behind. Assumes nothing.
+-- What each function on slots leaves behind: the slot that was written, every other slot as it was; and the loop of `shift`. Assumes nothing.
+-- Read first: specs/Slots, proofs/Patching.
 use mathlib.Core.Path.{_≡_, refl, sym, ap, _∙_}
 use mathlib.Core.List.{List, [], _∷_, _++_}
 use Prim.Native.Nat.{ℕ, suc, _+_, _*_, _-_, _<_, _≤_}

@@ -1,4 +1,5 @@
--- `calls::common_instance` meets its contract. Assumes nothing.
+-- `common_instance`: `unifier::unify` decides; too large by the size of node 0, else its term is written: a lemma for each return. Assumes nothing.
+-- Read first: specs/Answers (TwoSides, SidesUnify), proofs/Unifying.
 use Rattle.calls.proofs.Unifying.{unify-asks, outcome-solved, solved-spelt, answers-none, answers-large, answers-instance}
 use borrow.Author.Needs.{needs}
 use Rattle.calls.proofs.common_instance.Statement.{statement}

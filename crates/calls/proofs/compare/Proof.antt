@@ -1,4 +1,6 @@
--- `calls::compare` meets its contract. Assumes nothing.
+-- `compare`: the parts from where the two sides start are compared by `order::comparison`; its number is told: `compare-1`, `compare-2`. Assumes
+-- nothing.
+-- Read first: specs/Answers (told, SingleAt), completion/specs/Calls (compare-call), proofs/Singles.
 use Prim.Native.Nat.{_+_}
 use Rattle.calls.proofs.Singles.{part-small, compare-1, compare-range, compare-2}
 use native.Mathlib.Omega.{arith}

@@ -1,4 +1,5 @@
--- `calls::named` meets its contract. Assumes nothing.
+-- `named`: each of the numbers 1 to 4 is told by the answer that is returned for it. Assumes nothing.
+-- Read first: specs/Answers (told), proofs/Singles.
 use Rattle.calls.proofs.Singles.{named-1, named-2, named-3, named-4}
 use borrow.Author.Needs.{needs}
 use Rattle.calls.proofs.named.Statement.{statement}

@@ -1,4 +1,5 @@
--- `calls::put_field` meets its contract. Assumes nothing.
+-- `put_field`: three header bytes are set, the contents copied behind them, and all other bytes stay, by `field-put`. Assumes nothing.
+-- Read first: terms/specs/Base (field-bytes), completion/specs/Calls (written), proofs/Instances.
 use native.Mathlib.Omega.{arith}
 use lib.ListN.{length}
 use Rattle.calls.proofs.Instances.{header-length, field-length, field-put, field-same, copy-room}

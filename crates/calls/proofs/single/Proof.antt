@@ -1,4 +1,6 @@
--- `calls::single` meets its contract. Assumes nothing.
+-- `single`: a lemma for each of the five returns: refused by `parse`, no equation, no whole field there, one equation, more than one. Assumes
+-- nothing.
+-- Read first: specs/Answers (IsSingle, SingleAt), proofs/Singles.
 use Rattle.calls.proofs.Singles.{single-1, single-2, single-3, single-4, single-5}
 use native.Mathlib.Omega.{arith}
 use borrow.Author.Needs.{needs}

@@ -1,4 +1,5 @@
--- `calls::subterm` meets its contract. Assumes nothing.
+-- `subterm`: the part that is handed back lies in the lent block at those bounds, and is empty only if refused. Assumes nothing.
+-- Read first: specs/Answers (IsPart, PartAt), completion/specs/Calls (subterm-call), proofs/Singles.
 use mathlib.Core.Path.{refl}
 use native.Mathlib.Omega.{arith}
 use Rattle.calls.proofs.Singles.{part-bytes, part-only}

@@ -1,4 +1,5 @@
--- `calls::subterm_bounds` meets its contract. Assumes nothing.
+-- `subterm_bounds`: refused, a position past the left side, or from the node to its term's end: `bounds-1` to `bounds-3`. Assumes nothing.
+-- Read first: specs/Answers (PartAt, subterm-part), proofs/Singles.
 use Rattle.calls.proofs.Singles.{bounds-1, bounds-2, bounds-3}
 use native.Mathlib.Omega.{arith}
 use borrow.Author.Needs.{needs}

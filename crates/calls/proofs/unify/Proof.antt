@@ -1,4 +1,5 @@
--- `calls::unify` meets its contract. Assumes nothing.
+-- `unify`: short buffer (`unify-short`), refused problem (`unify-unread`), or what `common_instance` promises (`unify-answers`). Assumes nothing.
+-- Read first: specs/Answers (Unifies), completion/specs/Calls (unify-call, after-unify), proofs/Unifying.
 use native.Mathlib.Omega.{arith}
 use Rattle.calls.proofs.Unifying.{unify-short, unify-unread, unify-two, unify-answers}
 use borrow.Author.Needs.{needs}

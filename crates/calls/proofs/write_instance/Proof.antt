@@ -1,4 +1,5 @@
--- `calls::write_instance` meets its contract. Assumes nothing.
+-- `write_instance`: the spelt term has at most 120 bytes, hence few names; written, renamed and put as a field: `spelt-written`. Assumes nothing.
+-- Read first: specs/Answers (Spelt, WritesSpelt), proofs/Instances.
 use native.Mathlib.Omega.{arith}
 use mathlib.Core.Path.{refl}
 use Rattle.calls.proofs.Instances.{spelt-room, spelt-few, prefix-length, rename-room, again-within, again-count, again-few, spelt-written}

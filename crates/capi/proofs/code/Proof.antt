@@ -1,4 +1,5 @@
--- `capi::code` meets its contract. Assumes nothing.
+-- `code`: the sum does not overflow 64 bits and is the definition's, the byte being widened by `terms::wide`. Assumes nothing.
+-- Read first: specs/Codes (code).
 use mathlib.Core.Path.{ap}
 use Prim.Native.Nat.{ℕ, _+_, _*_, _%_}
 use Rattle.capi.specs.Codes.{code}

@@ -1,4 +1,5 @@
--- `capi::vb_compare` meets its contract. Assumes nothing.
+-- `vb_compare`: the code of each answer is that of what `calls::compare` told. Assumes nothing.
+-- Read first: specs/Codes (answer-code), calls/specs/Answers (told).
 use mathlib.Core.Path.{ap, _∙_}
 use Rattle.calls.specs.Answers.{told}
 use Rattle.capi.specs.Codes.{answer-code}

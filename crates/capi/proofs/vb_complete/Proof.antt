@@ -1,3 +1,5 @@
+-- `vb_complete`: the code of each answer is that of what `complete::complete` told; the buffer is as that call leaves it. Assumes nothing.
+-- Read first: specs/Codes (answer-code), complete/specs/Answer (told, counted).
 use mathlib.Core.Path.{ap, _∙_}
 use Rattle.complete.specs.Answer.{told}
 use Rattle.capi.specs.Codes.{answer-code}
@@ -9,41 +11,32 @@ use Rattle.capi.proofs.vb_complete.Lts as lts
 use Rattle.capi.proofs.code.Reads as code-reads
 use Rattle.complete.proofs.complete.Reads as complete-reads
 
--- src/lib.rt:58:11
 complete-requires : tie.Need-complete-requires
 complete-requires c κs = search needs
 
--- src/lib.rt:59:38
 enum-known-n : tie.Need-enum-known-n
 enum-known-n c = search needs
 
--- src/lib.rt:59:44
 code-requires : tie.Need-code-requires
 code-requires c κs = search needs
 
--- src/lib.rt:60:40
 enum-known-number : tie.Need-enum-known-number
 enum-known-number c = search needs
 
--- src/lib.rt:60:59
 code-requires-2 : tie.Need-code-requires-2
 code-requires-2 c κs = search needs
 
--- src/lib.rt:53:1
 same-length : tie.Need-same-length
 same-length c = search needs
 
--- src/lib.rt:53:1
 returns : tie.Need-returns
 unfolding told answer-code
 returns c =
     (c .code .ensures ∙ ap answer-code (rw (c .before .before .n .given .1) at (c .before .before .before .before .before .before .complete .ensures .0)), c .before .before .before .before .before .before .complete .ensures .1 .0)
 
--- src/lib.rt:53:1
 same-length-2 : tie.Need-same-length-2
 same-length-2 c = search needs
 
--- src/lib.rt:53:1
 returns-2 : tie.Need-returns-2
 unfolding told answer-code
 returns-2 c =

@@ -1,4 +1,5 @@
--- `capi::vb_subterm` meets its contract. Assumes nothing.
+-- `vb_subterm`: start and length of the part that `calls::subterm_bounds` promises, in one number. Assumes nothing.
+-- Read first: specs/Codes (part-code), calls/specs/Answers (PartAt).
 use mathlib.Core.Path.{ap₂}
 use Prim.Native.Nat.{ℕ, _+_, _*_, _%_}
 use Rattle.capi.specs.Codes.{part-code}

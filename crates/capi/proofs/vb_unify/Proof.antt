@@ -1,4 +1,5 @@
--- `capi::vb_unify` meets its contract. Assumes nothing.
+-- `vb_unify`: the code of each answer is that of what `calls::unify` told; the buffer is as that call leaves it. Assumes nothing.
+-- Read first: specs/Codes (unify-code), calls/specs/Answers (unified-told, Unifies).
 use mathlib.Core.Path.{ap, _∙_}
 use Rattle.calls.specs.Answers.{unified-told}
 use Rattle.capi.specs.Codes.{unify-code}

@@ -1,3 +1,5 @@
+-- `collapse`: the invariant is that of the first i rules k are kept and i - k wait, the rest being as it was; n - i falls. Assumes nothing.
+-- Read first: specs/Sifting (Sift, Sifted), proofs/Siftings (Going).
 use Rattle.collapse.proofs.Siftings.{Going, going-start, going-more, going-end}
 use Rattle.collapse.specs.Sifting.{shelf}
 use native.Mathlib.Omega.{arith}

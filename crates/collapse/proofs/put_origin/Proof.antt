@@ -1,3 +1,5 @@
+-- `put_origin`: the six bytes that are pasted are those of the origin "removed rule", by `removed-bytes`. Assumes nothing.
+-- Read first: `put_origin` in src/lib.rt, completion/specs/Calls (origin-bytes), proofs/Lists.
 use Rattle.collapse.proofs.Lists.{removed-bytes}
 use Rattle.store.specs.Slots.{patched}
 use mathlib.Core.Path.{_∙_, ap}

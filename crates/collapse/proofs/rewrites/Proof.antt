@@ -1,3 +1,5 @@
+-- `rewrites`: the part that is handed to `normaliser::reducible` is the left side of slot i, so its answer is the definition's. Assumes nothing.
+-- Read first: specs/Sifting (Removes), proofs/Siftings.
 use Rattle.collapse.proofs.Siftings.{removes}
 use Rattle.store.proofs.Patching.{part-is}
 use lib.ListN.{take, drop}

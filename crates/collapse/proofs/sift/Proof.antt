@@ -1,3 +1,6 @@
+-- `sift`: a rule that is rewritten is copied behind the waiting equations (`sift-removed`), any other moves to place k (`sift-kept`). Assumes
+-- nothing.
+-- Read first: specs/Sifting (SiftedOne), proofs/Siftings.
 use Rattle.collapse.proofs.Siftings.{sift-removed, sift-kept}
 use Rattle.normaliser.proofs.Choosing.{layout-below}
 use mathlib.Core.List.{[]}

@@ -1,3 +1,5 @@
+-- `compose`: the invariant is that k right sides are done and the run is that of the others with the units left; older - k falls. Assumes nothing.
+-- Read first: specs/Rights (All), proofs/Sweep (Going, Midway).
 use mathlib.Core.Path.{_∙_}
 use Rattle.compose.proofs.Sweep.{Going, going-start, going-on, going-stop, going-end}
 use Prim.Native.Nat.{_-_}

@@ -1,4 +1,7 @@
-use Rattle.compose.proofs.Single.{layout-front, stopped, composed}
+-- `compose_one`: the right side is read, normalised, and written back if it came to a normal form: `stopped`, `composed`. Assumes nothing.
+-- Read first: specs/Rights (One), proofs/Single.
+use Rattle.normaliser.proofs.Choosing.{layout-front}
+use Rattle.compose.proofs.Single.{stopped, composed}
 use Rattle.store.proofs.Listing.{room-at, short-at}
 use borrow.Author.Needs.{needs}
 use Rattle.compose.proofs.compose_one.Statement.{statement}
@@ -17,7 +20,7 @@ normalise-requires : tie.Need-normalise-requires
 normalise-requires c κs =
     let m = c .before .before .before .before .get-right .ensures .0 in
     let s = short-at _ _ _ _ (c .before .before .before .before .before .before .before .before .before .before .before .args .k) (c .before .before .before .before .before .before .before .before .before .before .before .pre .0) (search needs) .right in
-    (layout-front _ _ _ _ _ (c .before .before .before .before .before .before .before .before .before .before .before .pre .0) (search needs), search needs)
+    (layout-front _ _ _ _ _ _ (c .before .before .before .before .before .before .before .before .before .before .before .pre .0) (search needs), search needs)
 
 returns : tie.Need-returns
 returns c =

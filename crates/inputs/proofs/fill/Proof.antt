@@ -1,4 +1,5 @@
--- `inputs::fill` meets its contract. Assumes nothing.
+-- `fill`: the invariant is that the first k equations are in their slots and the rest is laid out from i on; count - k falls. Assumes nothing.
+-- Read first: specs/Inputs (Filled), proofs/Fields (SoFar).
 use Rattle.inputs.proofs.Fields.{SoFar, fill-start, fill-room, fill-more, fill-end}
 use lib.ListN.{take, drop}
 use Prim.Native.Nat.{_-_, _+_, _≤_}

@@ -1,4 +1,6 @@
--- `inputs::put_equation` meets its contract. Assumes nothing.
+-- `put_equation`: no field there, and the slot is empty (`field-none`); or a field, and the sides behind its head are put (`field-one`). Assumes
+-- nothing.
+-- Read first: specs/Inputs (PutEquation), proofs/Placing.
 use Rattle.inputs.proofs.Placing.{field-none, field-one}
 use native.Mathlib.Omega.{arith}
 use borrow.Author.Needs.{needs}

@@ -1,4 +1,5 @@
--- `inputs::put_renamed` meets its contract. Assumes nothing.
+-- `put_renamed`: the run is copied to the front of a buffer, has few names (`names-few`), and comes back renamed (`renamed-holds`). Assumes nothing.
+-- Read first: `put_renamed` in src/lib.rt, naming/specs/Names (renamed-bytes), proofs/Placing.
 use Rattle.inputs.proofs.Placing.{names-few, renamed-long, renamed-fits, renamed-holds}
 use borrow.Author.Needs.{needs}
 use Rattle.inputs.proofs.put_renamed.Statement.{statement}

@@ -1,4 +1,6 @@
--- `inputs::put_sides` meets its contract. Assumes nothing.
+-- `put_sides`: two calls of `side_end` find the two sides if there are such, and the known bytes between are put renamed (`sides-put`). Assumes
+-- nothing.
+-- Read first: specs/Inputs (SideEnd, PutSides), proofs/Placing.
 use Rattle.inputs.proofs.Placing.{part-left, part-right, part-known, sides-put}
 use native.Mathlib.Omega.{arith}
 use borrow.Author.Needs.{needs}

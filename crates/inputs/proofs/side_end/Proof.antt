@@ -1,4 +1,5 @@
--- `inputs::side_end` meets its contract. Assumes nothing.
+-- `side_end`: the invariant is that the bytes passed are known and at most 120; e - i falls. A lemma for each return. Assumes nothing.
+-- Read first: specs/Inputs (SideEnd), proofs/Ending (Going).
 use Rattle.inputs.proofs.Ending.{Going, side-start, side-more, side-far, side-bad, side-whole}
 use Prim.Native.Nat.{_-_}
 use native.Mathlib.Omega.{arith}

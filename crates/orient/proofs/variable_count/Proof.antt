@@ -1,3 +1,6 @@
+-- `variable_count`: the set of both sides, one after the other (`see-append`), has as many ones as the pair has variables (`count-is`). Assumes
+-- nothing.
+-- Read first: specs/Seen (Counted), proofs/Seeing.
 use Rattle.orient.proofs.Seeing.{see-append, count-is}
 use borrow.Author.Needs.{needs}
 use Rattle.orient.proofs.variable_count.Statement.{statement}

@@ -1,3 +1,5 @@
+-- `with_byte`: a symbol adds no bit, a variable its bit, a byte above all variables every bit: a lemma for each return. Assumes nothing.
+-- Read first: specs/Seen (Seen), proofs/Seeing.
 use Rattle.orient.proofs.Seeing.{see-symbol, see-high, see-variable}
 use mathlib.Core.Path.{refl}
 use borrow.Author.Needs.{needs}

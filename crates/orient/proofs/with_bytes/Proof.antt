@@ -1,3 +1,5 @@
+-- `with_bytes`: the invariant is that the set holds what was there and the variables of the first i bytes; the bytes to come fall. Assumes nothing.
+-- Read first: specs/Seen (Seen), proofs/Seeing.
 use Rattle.orient.proofs.Seeing.{see-none, see-more, see-all}
 use Rattle.orient.specs.Seen.{Seen}
 use lib.ListN.{length, take}

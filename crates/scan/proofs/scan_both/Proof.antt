@@ -1,3 +1,5 @@
+-- `scan_both`: two walks over positions, the second if the first found nothing (`both-parts`). Assumes nothing.
+-- Read first: specs/Walk (both-ways), proofs/Going, proofs/Places.
 use Rattle.scan.proofs.Places.{both-parts}
 use Rattle.scan.proofs.Going.{going-start, going-on, going-stop, going-then, still-fits}
 use borrow.Author.Needs.{needs}

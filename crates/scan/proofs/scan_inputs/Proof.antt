@@ -1,3 +1,5 @@
+-- `scan_inputs`: the invariant is that the inputs from k on, with the units left, come to what all come to; number - k falls. Assumes nothing.
+-- Read first: specs/Walk (of-inputs), proofs/Going (Going), proofs/Inputs.
 use Prim.Native.Nat.{_-_}
 use Rattle.normaliser.proofs.Choosing.{layout-below}
 use Rattle.scan.proofs.Inputs.{inputs-more, inputs-over, input-walk}

@@ -1,3 +1,5 @@
+-- `scan_pair`: a lemma for each return: left or right comes to no normal form, the forms are equal bytes, the forms differ. Assumes nothing.
+-- Read first: specs/Walk (PairWalk), proofs/Pairs.
 use mathlib.Core.Path.{refl}
 use Rattle.scan.proofs.Pairs.{pair-left, pair-right, pair-same, pair-found}
 use borrow.Author.Needs.{needs}

@@ -1,3 +1,5 @@
+-- `scan_positions`: the invariant is that the positions from p on, with the units left, come to what all come to; n - p falls. Assumes nothing.
+-- Read first: specs/Walk (at-positions), proofs/Going (Going), proofs/Places.
 use native.Mathlib.Omega.{arith}
 use Prim.Native.Nat.{_-_}
 use Rattle.scan.proofs.Places.{positions-more, positions-over}

@@ -1,3 +1,5 @@
+-- `scan_rule`: the earlier rules, then the rule with itself from position 1 on (`rule-parts`). Assumes nothing.
+-- Read first: specs/Walk (of-rule), proofs/Going, proofs/Places.
 use Rattle.scan.proofs.Places.{rule-parts}
 use Rattle.scan.proofs.Going.{going-start, going-on, going-stop, going-then, still-fits}
 use borrow.Author.Needs.{needs}

@@ -1,3 +1,5 @@
+-- `scan_rules`: the invariant is that the rules from b on, with the units left, come to what all come to; count - b falls. Assumes nothing.
+-- Read first: specs/Walk (of-rules), proofs/Going (Going), proofs/Places.
 use Prim.Native.Nat.{_-_}
 use Rattle.scan.proofs.Places.{rules-more, rules-over}
 use Rattle.scan.proofs.Going.{Going, going-start, going-on, going-stop, going-end, still-fits}

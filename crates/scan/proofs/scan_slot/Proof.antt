@@ -1,3 +1,5 @@
+-- `scan_slot`: the two sides of the slot are read to the front of the buffers and compared as a pair, by `slot-walk`. Assumes nothing.
+-- Read first: specs/Walk (SlotWalk), proofs/Inputs.
 use Rattle.scan.proofs.Inputs.{slot-room, left-short, right-short, slot-fits, slot-walk}
 use borrow.Author.Needs.{needs}
 use Rattle.scan.proofs.scan_slot.Statement.{statement}

@@ -1,3 +1,5 @@
+-- `scan_with`: the invariant is that the earlier rules from a on, with the units left, come to what all come to; b - a falls. Assumes nothing.
+-- Read first: specs/Walk (with-earlier), proofs/Going (Going), proofs/Places.
 use native.Mathlib.Omega.{arith}
 use Prim.Native.Nat.{_-_}
 use Rattle.scan.proofs.Places.{with-more, with-over}

@@ -1,4 +1,5 @@
--- `digit`: A digit below 10 or a letter. Assumes nothing.
+-- `digit`: a digit below 10 (`digit-low`) or a letter (`digit-high`). Assumes nothing.
+-- Read first: completion/specs/Settle (hex-digit), proofs/Hex.
 use Rattle.settle_text.proofs.Hex.{digit-low, digit-high}
 use borrow.Author.Needs.{needs}
 use Rattle.settle_text.proofs.digit.Statement.{statement}

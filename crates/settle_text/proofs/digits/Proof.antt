@@ -1,4 +1,5 @@
--- `digits`: Those counted and those of what is left are all of them, and one. Assumes nothing.
+-- `digits`: the invariant is that w and the digits of m are one more than the digits of n; m falls. Assumes nothing.
+-- Read first: completion/specs/Settle (decimal), proofs/Decimal (Counting).
 use Rattle.settle_text.proofs.Decimal.{Counting, counting-start, counting-more, counting-end}
 use borrow.Author.Needs.{needs}
 use Rattle.settle_text.proofs.digits.Statement.{statement}

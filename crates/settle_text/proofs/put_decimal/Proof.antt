@@ -1,4 +1,5 @@
--- `put_decimal`: From the last digit to the first; what is still to put is a number too. Assumes nothing.
+-- `put_decimal`: from the last digit; the invariant is that m, put in the `left` places still free, gives the whole number; m falls. Assumes nothing.
+-- Read first: completion/specs/Settle (decimal), proofs/Decimal (Tens).
 use native.Mathlib.Omega.{arith}
 use lib.ListN.{length-set}
 use Rattle.settle_text.proofs.Decimal.{Tens, tens-start, tens-left, tens-more, tens-room, tens-end}

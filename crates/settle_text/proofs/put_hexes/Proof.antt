@@ -1,4 +1,5 @@
--- `put_hexes`: Two digits a byte; what is still to put is the bytes that follow. Assumes nothing.
+-- `put_hexes`: the invariant is that the digits of the bytes from i on, put at a, give the whole; the bytes to come fall. Assumes nothing.
+-- Read first: completion/specs/Settle (hex-byte), proofs/Hex (Hexing).
 use Prim.Native.Nat.{_-_}
 use lib.ListN.{length}
 use Rattle.settle_text.proofs.Hex.{Hexing, hexing-start, hexing-more, hexing-end}

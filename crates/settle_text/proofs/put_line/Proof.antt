@@ -1,4 +1,5 @@
--- `put_line`: Tag, length and contents, with a space between and the end of the line. Assumes nothing.
+-- `put_line`: tag, length and contents with a space between and the line's end; a length has at most five digits. Assumes nothing.
+-- Read first: completion/specs/Settle (line), proofs/Hex, proofs/Decimal.
 use native.Mathlib.Omega.{arith}
 use Rattle.settle_text.proofs.Decimal.{few-digits}
 use Rattle.settle_text.proofs.Hex.{puts-line}

@@ -1,4 +1,6 @@
--- `put_lines`: A line a field; what is still to print is the fields that follow. Assumes nothing.
+-- `put_lines`: the invariant is that the lines of the fields from i on, put at a, give the whole text; the bytes to come fall. Assumes nothing. Bytes
+-- that end inside a field are no fields, so nothing is promised of them.
+-- Read first: specs/Text (Lines), proofs/Lining (Printing, Lining).
 use mathlib.Core.Path.{ap₂}
 use Prim.Native.Nat.{_+_, _*_, _-_}
 use native.Mathlib.Omega.{arith}

@@ -1,4 +1,5 @@
--- `put_refused`: Two words and two numbers. Assumes nothing.
+-- `put_refused`: two words and two numbers, of at most twenty digits each, one behind the other. Assumes nothing.
+-- Read first: specs/Text (Refusal), proofs/Hex, proofs/Decimal.
 use native.Mathlib.Omega.{arith}
 use Rattle.settle_text.proofs.Decimal.{twenty-digits}
 use Rattle.settle_text.proofs.Hex.{puts-refused}

@@ -1,3 +1,5 @@
+-- `text`: what `complete` wrote is printed as lines (`prints-lines`), what it refused as a refusal (`prints-refused`). Assumes nothing.
+-- Read first: completion/specs/Settle (settle), specs/Text, proofs/Printing.
 use Rattle.settle_text.proofs.Printing.{got, prints-lines, prints-refused}
 use native.Mathlib.Omega.{arith}
 use borrow.Author.Needs.{needs}
@@ -10,62 +12,48 @@ use Rattle.settle_text.proofs.put_lines.Reads as put-lines-reads
 use Rattle.settle_text.proofs.put_refused.Reads as put-refused-reads
 use Rattle.terms.proofs.wide.Reads as wide-reads
 
--- src/lib.rt:137:39
 slice-aggregate-complete : tie.Need-slice-aggregate-complete
 slice-aggregate-complete c = search needs
 
--- src/lib.rt:137:11
 complete-requires : tie.Need-complete-requires
 complete-requires c κs = search needs
 
--- src/lib.rt:138:38
 enum-known-n : tie.Need-enum-known-n
 enum-known-n c = search needs
 
--- src/lib.rt:138:59
 sub-put-lines : tie.Need-sub-put-lines
 sub-put-lines c = search needs
 
--- src/lib.rt:138:59
 part-put-lines-start : tie.Need-part-put-lines-start
 part-put-lines-start c = search needs
 
--- src/lib.rt:138:59
 part-put-lines-end : tie.Need-part-put-lines-end
 part-put-lines-end c =
     let f = (got _ _ _ _ _ _ (c .before .before .before .n .given .1) (c .before .before .before .before .before .before .complete .ensures .0) (c .before .before .before .before .before .before .complete .ensures .1 .0)) .few in omega arith
 
--- src/lib.rt:138:44
 put-lines-requires : tie.Need-put-lines-requires
 put-lines-requires c κs =
     let f = (got _ _ _ _ _ _ (c .before .before .before .before .n .given .1) (c .before .before .before .before .before .before .before .complete .ensures .0) (c .before .before .before .before .before .before .before .complete .ensures .1 .0)) .few in let p = c .before .before .before .before .before .before .before .before .before .before .before .pre in search needs
 
--- src/lib.rt:139:40
 enum-known-number : tie.Need-enum-known-number
 enum-known-number c = search needs
 
--- src/lib.rt:140:30
 wide-requires : tie.Need-wide-requires
 wide-requires c κs = search needs
 
--- src/lib.rt:140:13
 put-refused-requires : tie.Need-put-refused-requires
 put-refused-requires c κs = search needs
 
--- src/lib.rt:131:1
 same-length : tie.Need-same-length
 same-length c = search needs
 
--- src/lib.rt:131:1
 returns : tie.Need-returns
 returns c =
     let g = got _ _ _ _ _ _ (c .before .before .before .before .before .before .before .n .given .1) (c .before .before .before .before .before .before .before .before .before .before .complete .ensures .0) (c .before .before .before .before .before .before .before .before .before .before .complete .ensures .1 .0) in (prints-lines _ _ _ _ _ _ _ g (search needs) (c .before .before .put-lines .ensures .1), c .before .before .put-lines .ensures .0)
 
--- src/lib.rt:131:1
 same-length-2 : tie.Need-same-length-2
 same-length-2 c = search needs
 
--- src/lib.rt:131:1
 returns-2 : tie.Need-returns-2
 returns-2 c =
     (prints-refused _ _ _ _ _ _ _ _ _ (c .before .before .before .before .before .before .number .given .1) (c .before .before .before .before .before .before .before .before .before .complete .ensures .0) (c .before .before .before .wide .ensures .0) (search needs) (c .before .before .put-refused .ensures .1), (let p = c .before .before .put-refused .ensures .0 in let q = c .before .before .before .before .before .before .before .before .before .before .before .before .before .pre in omega arith))

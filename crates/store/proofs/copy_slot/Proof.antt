@@ -1,3 +1,5 @@
+-- `copy_slot`: the 240 bytes and two lengths of slot j are pasted as slot k of the other store: `copied`, `copied-only`. Assumes nothing.
+-- Read first: specs/Slots (SlotAs, OnlySlot), proofs/Slotting.
 use Prim.Native.Nat.{_*_}
 use Rattle.store.proofs.Slotting.{copied, copied-only}
 use Rattle.store.proofs.Patching.{part-is}

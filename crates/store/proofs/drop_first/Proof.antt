@@ -1,3 +1,5 @@
+-- `drop_first`: bytes shifted by 240 and lengths by 2 put every slot into the place before it, by `dropped`. Assumes nothing.
+-- Read first: specs/Slots (Dropped), proofs/Slotting.
 use Rattle.store.proofs.Slotting.{dropped}
 use borrow.Author.Needs.{needs}
 use Rattle.store.proofs.drop_first.Statement.{statement}

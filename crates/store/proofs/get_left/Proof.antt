@@ -1,3 +1,5 @@
+-- `get_left`: the part from 240 * k of the slot's left length is what was pasted to the front, by `part-is`. Assumes nothing.
+-- Read first: `get_left` in src/lib.rt, specs/Slots (patched), proofs/Patching.
 use Rattle.store.specs.Slots.{patched}
 use Rattle.store.proofs.Patching.{part-is}
 use mathlib.Core.Path.{_∙_, ap}

@@ -1,3 +1,5 @@
+-- `get_right`: the part from 240 * k + 120 of the slot's right length is what was pasted to the front, by `part-is`. Assumes nothing.
+-- Read first: `get_right` in src/lib.rt, specs/Slots (patched), proofs/Patching.
 use Rattle.store.specs.Slots.{patched}
 use Rattle.store.proofs.Patching.{part-is}
 use mathlib.Core.Path.{_∙_, ap}

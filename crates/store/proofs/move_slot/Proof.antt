@@ -1,3 +1,5 @@
+-- `move_slot`: as `copy_slot`, over a buffer that the slot fills (`filled`); setting one length leaves the other. Assumes nothing.
+-- Read first: specs/Slots (SlotAs, OnlySlot), proofs/Slotting, proofs/Patching.
 use Rattle.store.proofs.Patching.{part-is, filled, whole-slot}
 use lib.Seq.{getD-set-other}
 use Prim.Native.Nat.{_*_, _+_}

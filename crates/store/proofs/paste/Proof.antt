@@ -1,3 +1,5 @@
+-- `paste`: what `bytes::copy` writes into the part from `at` on is the list patched there, by `patched-back`. Assumes nothing.
+-- Read first: specs/Slots (patched), proofs/Patching.
 use Rattle.store.proofs.Patching.{patched-back}
 use borrow.Author.Needs.{needs}
 use Rattle.store.proofs.paste.Statement.{statement}

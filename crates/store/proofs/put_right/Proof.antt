@@ -1,3 +1,5 @@
+-- `put_right`: one paste and one length change the right side of slot k alone: `right-is`, `right-only`. Assumes nothing.
+-- Read first: specs/Slots (RightIs, OnlySlot), proofs/Slotting.
 use Rattle.store.proofs.Slotting.{right-is, right-only}
 use borrow.Author.Needs.{needs}
 use Rattle.store.proofs.put_right.Statement.{statement}

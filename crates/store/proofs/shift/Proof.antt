@@ -1,3 +1,5 @@
+-- `shift`: the invariant is that the first i elements are those from `by` on and the rest is as it was; n - i falls. Assumes nothing.
+-- Read first: `shift` in src/lib.rt, proofs/Slotting (Shifted).
 use Rattle.store.proofs.Slotting.{Shifted, shift-start, shift-more, shift-end}
 use Prim.Native.Nat.{_-_}
 use borrow.Author.Needs.{needs}

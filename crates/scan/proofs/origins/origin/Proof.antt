@@ -1,3 +1,5 @@
+-- `origin`: the six bytes are the definition's by computation. Assumes nothing.
+-- Read first: `origin` in src/origins.rt, terms/specs/Base (number-bytes).
 use Rattle.terms.specs.Base.{number-bytes}
 use mathlib.Core.Path.{refl}
 use borrow.Author.Needs.{needs}
