@@ -1,26 +1,27 @@
--- The call complete, from what its parts promise: ends, the run's result, an accepted problem, and the three answers. Assumes nothing.
-use mathlib.Core.Path.{_≡_, refl, sym, ap, _∙_, subst}
+-- The call complete from the promises of its parts: numbers of ends, the run's result, an accepted problem, and the three answers. Assumes nothing.
+-- Read first: specs/Answer, completion/specs/Calls (complete-call, after-complete), run/specs/Turned (Runs, RanIs), proofs/Delivering.
+use mathlib.Core.Path.{_≡_, refl, sym, ap, _∙_}
 use mathlib.Core.Bool.{Bool, true, false}
-use mathlib.Core.List.{List, _++_}
-use Prim.Native.Nat.{ℕ, _+_, _-_, _<_, _≤_}
+use mathlib.Core.List.{List}
+use Prim.Native.Nat.{ℕ, _-_, _<_, _≤_}
 use native.Mathlib.Omega.{arith}
 use lib.Dec.{ltb}
 use lib.ListN.{length, take, drop}
 use borrow.Author.Tests.{lt-ltb, ltb-true}
-use Rattle.terms.specs.Term.{Pair}
 use Rattle.order.specs.Walk.{rank}
 use Rattle.problem.specs.Problem.{Reading, ok, refused, _>>=_, refuse-if, rank-of, Problem, parse}
 use Rattle.problem.specs.Parser.{symbols-of, Table, ParsedAt}
 use Rattle.problem.proofs.Scanned.{rank-is}
-use Rattle.rewriting.specs.Rewrite.{End, complete, neither-above, spent, too-large, rules-full, log-full}
-use Rattle.completion.specs.Turn.{Finished, run}
-use Rattle.completion.specs.Calls.{end-number, result-bytes, enough, complete-call, written, after-complete}
+use Rattle.rewriting.specs.Rewrite.{complete, neither-above, spent, too-large, rules-full, log-full}
+use Rattle.completion.specs.Turn.{run}
+use Rattle.completion.specs.Calls.{end-number, result-bytes, enough, complete-call, after-complete}
 use Rattle.report.specs.Fields.{Writes}
-use Rattle.report.specs.Report.{OfState, Ended, Forms}
+use Rattle.report.specs.Report.{OfState}
 use Rattle.completion.proofs.Accepts.{accepts}
 use Rattle.inputs.specs.Inputs.{Filled}
 use Rattle.inputs.proofs.Fields.{parsed-few}
-use Rattle.run.specs.Turned.{stop-code, Shown, Given, RanIs, Runs}
+use Rattle.engine.specs.State.{whole}
+use Rattle.run.specs.Turned.{stop-code, Given, Runs}
 use Rattle.run.specs.declared.Ran.{Ran}
 use Rattle.complete.specs.Answer.{told, counted, Delivery, EndIs, WritesRun, WritesProblem}
 use Rattle.complete.specs.declared.Completed.{Completed}
@@ -77,10 +78,10 @@ minus-zero : (n : ℕ) → n - 0 ≡ n
 minus-zero n = omega arith
 
 -- `write`
-pub write-run : (o : Ran) (end : ℕ) (left right before after : List ℕ) (r : ℕ) → EndIs (o .verdict) end → left ≡ take (o .m - 0) (o .left) → right ≡ take (o .n - 0) (o .right) →
-    OfState (o .state) end (o .paid) left right before after r → WritesRun o before after r
-write-run o end left right before after r E ql qr W tab f I =
-    W tab f (I .state)
+pub write-run : (o : Ran) (rules log : List ℕ) (end : ℕ) (left right before after : List ℕ) (r : ℕ) → EndIs (o .verdict) end → left ≡ take (o .m - 0) (o .left) → right ≡ take (o .n - 0) (o .right) →
+    OfState (o .state) rules log end (o .paid) left right before after r → WritesRun o rules log before after r
+write-run o rules log end left right before after r E ql qr W tab waiting f I =
+    W tab waiting f (I .state)
     (record {
       end-is = E (f .end) (I .end);
       units-are = I .paid;
@@ -99,12 +100,12 @@ ranks-are : (tab : List ℕ) → Table tab → rank-of (symbols-of tab) ≡ rank
 unfolding rank
 ranks-are tab T = λ i f. rank-is tab T f i
 
-pub accepted-run : (l : List ℕ) (e b n : ℕ) (slots lens slots′ lens′ before after : List ℕ) (o : Ran) (r : ℕ) → Filled l e n slots lens slots′ lens′ →
-    Runs (take (e - 3) (drop 3 l)) slots′ lens′ n b o → WritesRun o before after r → WritesProblem l e b n before after r
-accepted-run l e b n slots lens slots′ lens′ before after o r F R W P A =
+pub accepted-run : (l : List ℕ) (e b n : ℕ) (slots lens slots′ lens′ rules waiting log before after : List ℕ) (o : Ran) (r : ℕ) → Filled l e n slots lens slots′ lens′ →
+    Runs (take (e - 3) (drop 3 l)) slots′ lens′ n b o (whole (o .state) rules waiting log) → WritesRun o rules log before after r → WritesProblem l e b n before after r
+accepted-run l e b n slots lens slots′ lens′ rules waiting log before after o r F R W P A =
     let G : Given (take (e - 3) (drop 3 l)) slots′ lens′ n P =
     record { ranks = ap rank-of (A .symbols-are) ∙ ranks-are (take (e - 3) (drop 3 l)) (A .table .table); stored = F .stored b P A; counted = sym (A .number) } in
-    W (take (e - 3) (drop 3 l)) (run P) (R .answer P G (sym (A .budget-is)))
+    W (take (e - 3) (drop 3 l)) waiting (run P) (R .answer P G (sym (A .budget-is)))
 
 pub record Needs (l : List ℕ) (e b n : ℕ) : Type 0 where
   pub low : 3 ≤ e

@@ -2,7 +2,7 @@
 use mathlib.Core.Path.{_≡_}
 use mathlib.Core.List.{List}
 use Prim.Native.Nat.{ℕ}
-use lib.ListN.{length, take, drop}
+use lib.ListN.{length, take}
 use Rattle.problem.specs.Problem.{Reading, ok, refused, Problem}
 use Rattle.problem.specs.Parser.{ParsedAt}
 use Rattle.rewriting.specs.Rewrite.{End}
@@ -10,6 +10,7 @@ use Rattle.completion.specs.Turn.{Finished, run}
 use Rattle.completion.specs.Calls.{end-number, result-bytes}
 use Rattle.completion.specs.Promise.{Delivers}
 use Rattle.report.specs.Fields.{Writes}
+use Rattle.engine.specs.State.{whole}
 use Rattle.run.specs.Turned.{stop-code, RanIs}
 use Rattle.run.specs.declared.Ran.{Ran}
 use Rattle.complete.specs.declared.Completed.{Completed}
@@ -34,8 +35,8 @@ abbrev pub EndIs : ℕ → ℕ → Type 0
 EndIs verdict r = (e : End) → verdict ≡ stop-code e → r ≡ end-number e
 
 -- `write`
-abbrev pub WritesRun : Ran → List ℕ → List ℕ → ℕ → Type 0
-WritesRun ran before after r = (tab : List ℕ) (f : Finished) → RanIs tab f ran → Writes before (result-bytes f) after r
+abbrev pub WritesRun : Ran → List ℕ → List ℕ → List ℕ → List ℕ → ℕ → Type 0
+WritesRun ran rules log before after r = (tab waiting : List ℕ) (f : Finished) → RanIs tab f ran (whole (ran .state) rules waiting log) → Writes before (result-bytes f) after r
 
 -- `accepted`
 abbrev pub WritesProblem : List ℕ → ℕ → ℕ → ℕ → List ℕ → List ℕ → ℕ → Type 0

@@ -1,10 +1,11 @@
 // The call complete: from a problem's bytes to a result's.
 ghost use mathlib.Core.Path.{_≡_};
+ghost use mathlib.Core.List.{[]};
 ghost use Prim.Native.Nat.{ℕ, _+_, _*_, _<_, _≤_};
 ghost use lib.ListN.{length};
 ghost use Rattle.problem.specs.Problem.{Problem};
 ghost use Rattle.completion.specs.Calls.{complete-call, after-complete};
-ghost use Rattle.engine.specs.State.{Fine};
+ghost use Rattle.normaliser.specs.Stored.{Layout};
 ghost use Rattle.complete.specs.Answer.{told, counted, Delivery, EndIs, WritesRun, WritesProblem};
 
 pub enum Completed {
@@ -33,11 +34,11 @@ fn end_number(verdict: u8) -> u8
     23
 }
 
-// The result of a run, at the front of the lent bytes: the count of its bytes.
-fn write(ran: run::Ran, result: &mut [u8]) -> usize
-    requires { ⌜ Fine (ran .state) × (ran .m ≤ 120) × (ran .n ≤ 120) ⌝ }
-    requires { ⌜ 13726 ≤ length (now result) ⌝ }
-    ensures { λ r. ⌜ WritesRun ran (now (result .entry)) (now (result .exit)) r ⌝ }
+// The result of a run, whose rules and log lie in the lent buffers, at the front of the lent bytes: the count of its bytes.
+fn write(ran: run::Ran, rules: &[u8], log: &[u8], result: &mut [u8]) -> usize
+    requires { ⌜ Layout [] (now rules) (ran .state .lens) (ran .state .count) × (ran .state .count ≤ 32) × (ran .state .entries ≤ 512) × (length (now log) ≡ 5632) ⌝ }
+    requires { ⌜ (ran .m ≤ 120) × (ran .n ≤ 120) × (13726 ≤ length (now result)) ⌝ }
+    ensures { λ r. ⌜ WritesRun ran (now (rules .entry)) (now (log .entry)) (now (result .entry)) (now (result .exit)) r ⌝ }
 {
     let left = ran.left;
     let right = ran.right;
@@ -45,10 +46,20 @@ fn write(ran: run::Ran, result: &mut [u8]) -> usize
     let n = ran.n;
     let end = end_number(ran.verdict);
     let state = ran.state;
-    report::of_state(state, end, ran.paid, &left[0..m], &right[0..n], result)
+    report::of_state(
+        state,
+        rules,
+        log,
+        end,
+        ran.paid,
+        &left[0..m],
+        &right[0..n],
+        result,
+    )
 }
 
-// An accepted problem, whose table ends at `behind`: its run, and the result's bytes.
+// An accepted problem, whose table ends at `behind`: its run, and the result's bytes. The bytes of the rules, of the waiting equations and of
+// the log stand here.
 fn accepted(problem: &[u8], behind: usize, count: usize, budget: usize, result: &mut [u8]) -> usize
     requires { ⌜ (3 ≤ behind) × (behind ≤ length (now problem)) × (length (now problem) ≤ 65536) ⌝ }
     requires { ⌜ (count ≤ 16) × (budget ≤ 1000000) × (13726 ≤ length (now result)) ⌝ }
@@ -57,8 +68,20 @@ fn accepted(problem: &[u8], behind: usize, count: usize, budget: usize, result: 
     let mut slots = [0u8; 3840];
     let mut lens = [0u8; 32];
     inputs::fill(problem, behind, count, &mut slots, &mut lens);
-    let ran = run::run(&slots, &lens, count, &problem[3..behind], budget as u32);
-    write(ran, result)
+    let mut rules = [0u8; 7920];
+    let mut waiting = [0u8; 7920];
+    let mut log = [0u8; 5632];
+    let ran = run::run(
+        &slots,
+        &lens,
+        count,
+        &problem[3..behind],
+        budget as u32,
+        &mut rules,
+        &mut waiting,
+        &mut log,
+    );
+    write(ran, &rules, &log, result)
 }
 
 // Completion of the problem's equations. For every input the answer and the lent result bytes are the definition's (refused: every byte as it was;

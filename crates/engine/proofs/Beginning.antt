@@ -1,4 +1,5 @@
--- The first state: the input equations wait. Assumes nothing.
+-- The first state: the input equations, copied into the slots with their numbers as origins, wait as in the definition's `initial`. Assumes nothing.
+-- Read first: specs/State (Represents), specs/Steps (Begun, numbered), store/proofs/Listing.
 use mathlib.Core.Path.{_≡_, refl, sym, ap, ap₂, _∙_, subst}
 use mathlib.Core.List.{List, [], _∷_, _++_, append-assoc, append-nil, map, flatMap}
 use Prim.Native.Nat.{ℕ, zero, suc, _+_, _-_, _*_, _/_, _%_, _<_, _≤_}
@@ -13,14 +14,14 @@ use Rattle.problem.specs.Problem.{Equation, Problem}
 use Rattle.completion.specs.Turn.{waiting-input, candidates, initial}
 use Rattle.completion.specs.Calls.{origin-bytes}
 use Rattle.completion.proofs.Limits.{length-candidates}
+use Rattle.completion.proofs.Result.{origin-bytes-length}
 use Rattle.store.specs.Slots.{patched, SameSlot}
 use Rattle.store.proofs.Patching.{length-patched}
 use Rattle.store.proofs.Listing.{part-in, stored-same, stored-none, layout-of, short-at, short-as}
 use Rattle.collapse.specs.Sifting.{pairs-of, origins-bytes}
-use Rattle.collapse.proofs.Lists.{front-more, origin-six, any-table}
-use Rattle.engine.specs.State.{Represents}
+use Rattle.collapse.proofs.Lists.{front-more, any-table}
+use Rattle.engine.specs.State.{Whole, Represents}
 use Rattle.engine.specs.Steps.{numbered, Begun}
-use Rattle.engine.specs.declared.State.{State}
 
 -- `put_input`
 pub input-bytes : (n : ℕ) → n < 256 → 1 ∷ 0 ∷ n ∷ 0 ∷ 0 ∷ 0 ∷ [] ≡ origin-bytes (waiting-input n)
@@ -51,7 +52,7 @@ numbering-start os n = record { within = omega arith; same = refl; so-far = refl
 pub numbering-more : (os₀ os os′ : List ℕ) (n i : ℕ) → Numbering os₀ os n i → i < n → 6 * n ≤ length os₀ → os′ ≡ patched (6 * i) (origin-bytes (waiting-input (i + 1))) os → Numbering os₀ os′ n (i + 1)
 numbering-more os₀ os os′ n i g h room e =
     let m = g .same in
-    let l = origin-six (waiting-input (i + 1)) in
+    let l = origin-bytes-length (waiting-input (i + 1)) in
     let f : i + 1 ≡ 1 + i = omega arith in
     record {
       within = omega arith;
@@ -113,8 +114,8 @@ module _ (inputs lens : List ℕ) (number : ℕ) (y : Layout [] inputs lens numb
       }
 
   module _ (long-bytes : length wb ≡ 7920) (long-lens : length wl ≡ 66) (os : List ℕ) (g : take (6 * number) os ≡ numbered 1 number)
-      (b l ns log : List ℕ) (budget : ℕ) where
-    abbrev first-state : State
+      (b l ns log : List ℕ) (budget : ℕ) (long-rules : length b ≡ 7920) (long-log : length log ≡ 5632) where
+    abbrev first-state : Whole
     first-state = record {
       rules = b;
       lens = l;
@@ -158,6 +159,9 @@ module _ (inputs lens : List ℕ) (number : ℕ) (y : Layout [] inputs lens numb
         together = omega arith;
         log-few = omega arith;
         made-few = omega arith;
+        rules-room = long-rules;
+        waiting-room = long-bytes;
+        log-room = long-log;
       };
       units = refl;
       waits = refl;

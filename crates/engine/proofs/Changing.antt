@@ -1,6 +1,7 @@
--- What each method makes of the state that it stands for. Assumes nothing.
+-- What `take`, `orient`, `with_entry` and `collapse` make of the state that is stood for: the bytes change as the lists do. Assumes nothing.
+-- Read first: specs/State (Represents, FineBut), specs/Steps, store/proofs/Listing, collapse/proofs/Lists.
 use mathlib.Core.Path.{_≡_, refl, sym, ap, ap₂, _∙_, subst}
-use mathlib.Core.List.{List, [], _∷_, _++_, append-nil, map, flatMap}
+use mathlib.Core.List.{List, [], _∷_, _++_, append-nil, map, map-append, flatMap}
 use Prim.Native.Nat.{ℕ, suc, _+_, _-_, _*_, _/_, _%_, _<_, _≤_}
 use native.Mathlib.Omega.{arith}
 use lib.ListN.{length, getD, drop, take, set, length-append}
@@ -10,13 +11,15 @@ use Rattle.rewriting.specs.Overlap.{Rule, sides-of}
 use Rattle.normaliser.specs.Stored.{Layout, RuleAt, Stored}
 use Rattle.completion.specs.Turn.{Origin, waiting-input, removed-rule, scanned-input, overlapping, Candidate, Entry, State as RunState, kept, removed}
 use Rattle.completion.specs.Calls.{origin-bytes, entry-field}
+use Rattle.completion.proofs.Result.{origin-bytes-length}
 use Rattle.store.specs.Slots.{patched, SlotAs, OnlySlot, Dropped}
+use Rattle.store.proofs.Patching.{length-patched}
 use Rattle.store.proofs.Listing.{rule-as, short-as, short-at, layout-dropped, layout-more, stored-dropped, stored-none}
 use Rattle.collapse.specs.Sifting.{pairs-of, origins-bytes, Shelf, shelf, Sift, Sifted}
-use Rattle.engine.specs.State.{FineBut, Fine, Represents}
+use Rattle.engine.specs.State.{Whole, FineBut, Fine, Represents}
 use Rattle.engine.specs.Steps.{entry-bytes, TakenState, CollapsedState, OrientedState, LoggedState}
-use Rattle.engine.specs.declared.State.{State}
-use Rattle.collapse.proofs.Lists.{front-more, front-less, flatMap-append, flatMap-one, map-append, origin-six, stored-behind, any-table, number-more}
+use Rattle.normaliser.proofs.Choosing.{layout-front}
+use Rattle.collapse.proofs.Lists.{front-more, front-less, flatMap-append, flatMap-one, stored-behind, any-table, number-more}
 
 -- an entry's bytes
 pub entry-is : (o : Origin) (n : ℕ) → field-bytes (entry-field (record { origin = o; made = n })) ≡ entry-bytes (origin-bytes o) n
@@ -42,9 +45,9 @@ unfolding number-bytes
 entry-list l n h = ap (λ z. 19 ∷ 0 ∷ 8 ∷ (z ++ ((n / 256 % 256) ∷ (n % 256) ∷ []))) (six l h)
 
 -- `take`
-module _ (st : State) (fine : Fine st) (some : 0 < st .waits) (long : length (st .origins) ≡ 198) (wb wl os : List ℕ) (d : Dropped (st .waiting) (st .lengths) wb wl)
+module _ (st : Whole) (fine : Fine st) (some : 0 < st .waits) (long : length (st .origins) ≡ 198) (wb wl os : List ℕ) (d : Dropped (st .waiting) (st .lengths) wb wl)
     (e : os ≡ drop 6 (st .origins) ++ drop (length (st .origins) - 6) (st .origins)) where
-  abbrev without-first : State
+  abbrev without-first : Whole
   without-first = record {
     rules = st .rules;
     lens = st .lens;
@@ -77,7 +80,7 @@ module _ (st : State) (fine : Fine st) (some : 0 < st .waits) (long : length (st
         made = r .made;
         waiting = stored-dropped tab (st .waiting) (st .lengths) wb wl (st .waits) (c .sides) (pairs-of cs) (any-table tab [] _ _ _ (fine .waiting-fit)) (n ∙ ap suc (sym (lib.ListN.length-map cs (λ (c : Candidate). c .sides)))) d
             (subst (λ z. Stored tab (st .waiting) (st .lengths) 0 z) (ap pairs-of q) (r .waiting));
-        origins = front-less 6 (6 * (st .waits - 1)) (st .origins) os (origin-bytes (c .origin)) (origins-bytes cs) e (omega arith) (ap (λ z. take z (st .origins)) (sym m) ∙ h) (origin-six (c .origin));
+        origins = front-less 6 (6 * (st .waits - 1)) (st .origins) os (origin-bytes (c .origin)) (origins-bytes cs) e (omega arith) (ap (λ z. take z (st .origins)) (sym m) ∙ h) (origin-bytes-length (c .origin));
         waits = omega arith;
         log = r .log;
         entries = r .entries;
@@ -95,6 +98,9 @@ module _ (st : State) (fine : Fine st) (some : 0 < st .waits) (long : length (st
           together = omega arith;
           log-few = fine .log-few;
           made-few = g;
+          rules-room = fine .rules-room;
+          waiting-room = d .same-bytes ∙ fine .waiting-room;
+          log-room = fine .log-room;
         };
         count = refl;
         made = refl;
@@ -105,10 +111,10 @@ module _ (st : State) (fine : Fine st) (some : 0 < st .waits) (long : length (st
       }
 
 -- `orient`
-module _ (st : State) (new sizes : List ℕ) (fine : Fine st) (one : Layout [] new sizes 1) (few : st .count ≤ 31) (room : st .count + st .waits ≤ 32) (log-room : st .entries < 512)
-    (long : length (st .numbers) ≡ 33) (long-rules : length (st .rules) ≡ 7920) (long-lens : length (st .lens) ≡ 66)
+module _ (st : Whole) (new sizes : List ℕ) (fine : Fine st) (one : Layout [] new sizes 1) (few : st .count ≤ 31) (room : st .count + st .waits ≤ 32) (log-room : st .entries < 512)
+    (long : length (st .numbers) ≡ 33) (long-lens : length (st .lens) ≡ 66)
     (b l : List ℕ) (a : SlotAs new sizes 0 b l (st .count)) (o : OnlySlot (st .rules) (st .lens) (st .count) b l) where
-  abbrev with-rule : State
+  abbrev with-rule : Whole
   with-rule = record {
     rules = b;
     lens = l;
@@ -152,6 +158,7 @@ module _ (st : State) (new sizes : List ℕ) (fine : Fine st) (one : Layout [] n
   pub orient-done : OrientedState new sizes st with-rule
   orient-done =
       let g = fine .made-few in
+      let long-rules = fine .rules-room in
       record {
         fine = record {
           rules-fit = layout-more [] (st .rules) (st .lens) b l (st .count) o (short-as a (short-at [] new sizes 1 0 one (omega arith))) (st .count) (fine .rules-fit) refl (record { slots = omega arith; lengths = omega arith }) (omega arith);
@@ -160,6 +167,9 @@ module _ (st : State) (new sizes : List ℕ) (fine : Fine st) (one : Layout [] n
           together = omega arith;
           log-few = fine .log-few;
           made-few = omega arith;
+          rules-room = o .same-bytes ∙ fine .rules-room;
+          waiting-room = fine .waiting-room;
+          log-room = fine .log-room;
         };
         count = refl;
         made = refl;
@@ -170,9 +180,9 @@ module _ (st : State) (new sizes : List ℕ) (fine : Fine st) (one : Layout [] n
       }
 
 -- `with_entry`
-module _ (st : State) (origin : List ℕ) (n : ℕ) (fine : FineBut 1 st) (room : st .entries < 512) (long : length (st .log) ≡ 5632) (long-origin : length origin ≡ 6)
+module _ (st : Whole) (origin : List ℕ) (n : ℕ) (fine : FineBut 1 st) (room : st .entries < 512) (long-origin : length origin ≡ 6)
     (log : List ℕ) (e : log ≡ patched (11 * (st .entries)) (entry-bytes origin n) (st .log)) where
-  abbrev with-entry : State
+  abbrev with-entry : Whole
   with-entry = record {
     rules = st .rules;
     lens = st .lens;
@@ -197,6 +207,7 @@ module _ (st : State) (origin : List ℕ) (n : ℕ) (fine : FineBut 1 st) (room 
   entry-represents tab s o q r =
       let new : Entry = record { origin = o; made = n } in
       let k = eleven in
+      let long = fine .log-room in
       record {
         rules = r .rules;
         numbers = r .numbers;
@@ -216,6 +227,8 @@ module _ (st : State) (origin : List ℕ) (n : ℕ) (fine : FineBut 1 st) (room 
   pub entry-done : LoggedState st origin n with-entry
   entry-done =
       let g = fine .made-few in
+      let k = eleven in
+      let long = fine .log-room in
       record {
         fine = record {
           rules-fit = fine .rules-fit;
@@ -224,6 +237,9 @@ module _ (st : State) (origin : List ℕ) (n : ℕ) (fine : FineBut 1 st) (room 
           together = fine .together;
           log-few = omega arith;
           made-few = omega arith;
+          rules-room = fine .rules-room;
+          waiting-room = fine .waiting-room;
+          log-room = ap length e ∙ length-patched (11 * (st .entries)) (entry-bytes origin n) (st .log) (omega arith) ∙ long;
         };
         count = refl;
         made-same = refl;
@@ -234,18 +250,12 @@ module _ (st : State) (origin : List ℕ) (n : ℕ) (fine : FineBut 1 st) (room 
       }
 
 -- `collapse`
-layout-fewer : (b l : List ℕ) (n k : ℕ) → k ≤ n → Layout [] b l n → Layout [] b l k
-layout-fewer b l n k h y =
-    let p = y .slots in
-    let q = y .lengths in
-    let f = y .few in
-    record { slots = omega arith; lengths = omega arith; few = omega arith; short = λ i m. y .short i (omega arith) }
 
-abbrev pub shelf-of : State → Shelf
+abbrev pub shelf-of : Whole → Shelf
 shelf-of st = shelf (st .rules) (st .lens) (st .numbers) (st .waiting) (st .lengths) (st .origins)
 
-module _ (tab new sizes : List ℕ) (st : State) (fine : Fine st) (a : Shelf) (k : ℕ) (g : Sifted tab new sizes (shelf-of st) (st .count) (st .waits) a k) where
-  abbrev after-collapse : State
+module _ (tab new sizes : List ℕ) (st : Whole) (fine : Fine st) (a : Shelf) (k : ℕ) (g : Sifted tab new sizes (shelf-of st) (st .count) (st .waits) a k) where
+  abbrev after-collapse : Whole
   after-collapse = record {
     rules = a .rules;
     lens = a .lens;
@@ -312,12 +322,15 @@ module _ (tab new sizes : List ℕ) (st : State) (fine : Fine st) (a : Shelf) (k
       let f = g .few in
       record {
         fine = record {
-          rules-fit = layout-fewer (a .rules) (a .lens) (st .count) k f (g .safe .rules-fit);
+          rules-fit = layout-front [] [] (a .rules) (a .lens) k (st .count) (g .safe .rules-fit) f;
           waiting-fit = g .safe .waiting-fit;
           live = omega arith;
           together = omega arith;
           log-few = fine .log-few;
           made-few = fine .made-few;
+          rules-room = g .safe .rules-long;
+          waiting-room = g .safe .waiting-long;
+          log-room = fine .log-room;
         };
         together = omega arith;
         fewer = f;

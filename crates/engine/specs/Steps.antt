@@ -10,7 +10,7 @@ use Rattle.normaliser.specs.Stored.{RuleAt, Stored}
 use Rattle.problem.specs.Problem.{Problem}
 use Rattle.completion.specs.Turn.{Origin, waiting-input, Candidate, State as RunState, initial, kept, removed}
 use Rattle.completion.specs.Calls.{origin-bytes}
-use Rattle.engine.specs.State.{Fine, FineBut, Represents}
+use Rattle.engine.specs.State.{Whole, whole, Fine, FineBut, Represents}
 use Rattle.engine.specs.declared.State.{State}
 
 -- the bytes of an entry
@@ -22,15 +22,19 @@ unfoldable pub numbered : ℕ → ℕ → List ℕ
 numbered k zero = []
 numbered k (suc n) = origin-bytes (waiting-input k) ++ numbered (suc k) n
 
--- `begin`
-pub record Begun (inputs lens : List ℕ) (number budget : ℕ) (r : State) : Type 0 where
+-- the first state
+pub record Begun (inputs lens : List ℕ) (number budget : ℕ) (r : Whole) : Type 0 where
   pub fine : Fine r
   pub units : r .units ≡ budget
   pub waits : r .waits ≡ number
   pub represents : (tab : List ℕ) (P : Problem) → Stored tab inputs lens 0 (map (λ e. renamed (e .sides)) (P .equations)) → number ≡ length (P .equations) → Represents tab r (initial P)
 
--- `take`: the waiting list without its oldest
-pub record TakenState (st r : State) : Type 0 where
+-- `begin`, whatever bytes the other two buffers hold
+pub record Begins (inputs lens : List ℕ) (number budget : ℕ) (waiting : List ℕ) (r : State) : Type 0 where
+  pub begun : (rules log : List ℕ) → length rules ≡ 7920 → length log ≡ 5632 → Begun inputs lens number budget (whole r rules waiting log)
+
+-- the waiting list without its oldest
+pub record TakenState (st r : Whole) : Type 0 where
   pub fine : Fine r
   pub count : r .count ≡ st .count
   pub made : r .made ≡ st .made
@@ -40,8 +44,13 @@ pub record TakenState (st r : State) : Type 0 where
   pub represents : (tab : List ℕ) (s : RunState) (c : Candidate) (cs : List Candidate) → Represents tab st s → s .waiting ≡ c ∷ cs →
       Represents tab r (record { rules = s .rules; made = s .made; waiting = cs; log = s .log })
 
--- `collapse`: the older rules that the new one leaves, the others behind the waiting equations
-pub record CollapsedState (tab new sizes : List ℕ) (st r : State) : Type 0 where
+-- `take`, with any rules and any log
+pub record Takes (st : State) (waiting waiting′ : List ℕ) (r : State) : Type 0 where
+  pub entries : r .entries ≡ st .entries
+  pub taken : (rules log : List ℕ) → Fine (whole st rules waiting log) → TakenState (whole st rules waiting log) (whole r rules waiting′ log)
+
+-- the older rules that the new one leaves, the others behind the waiting equations
+pub record CollapsedState (tab new sizes : List ℕ) (st r : Whole) : Type 0 where
   pub fine : Fine r
   pub together : r .count + r .waits ≡ st .count + st .waits
   pub fewer : r .count ≤ st .count
@@ -51,8 +60,12 @@ pub record CollapsedState (tab new sizes : List ℕ) (st r : State) : Type 0 whe
   pub represents : (s : RunState) (n : Rule) → RuleAt tab new sizes 0 (n .sides) → Represents tab st s →
       Represents tab r (record { rules = kept n (s .rules); made = s .made; waiting = s .waiting ++ removed n (s .rules); log = s .log })
 
--- `orient`: the new rule behind the live ones
-pub record OrientedState (new sizes : List ℕ) (st r : State) : Type 0 where
+-- `collapse`, with any log
+pub record Collapses (tab new sizes : List ℕ) (st : State) (rules waiting rules′ waiting′ : List ℕ) (r : State) : Type 0 where
+  pub collapsed : (log : List ℕ) → Fine (whole st rules waiting log) → CollapsedState tab new sizes (whole st rules waiting log) (whole r rules′ waiting′ log)
+
+-- the new rule behind the live ones
+pub record OrientedState (new sizes : List ℕ) (st r : Whole) : Type 0 where
   pub fine : FineBut 1 r
   pub count : r .count ≡ st .count + 1
   pub made : r .made ≡ st .made + 1
@@ -62,8 +75,12 @@ pub record OrientedState (new sizes : List ℕ) (st r : State) : Type 0 where
   pub represents : (tab : List ℕ) (s : RunState) (p : Pair) → RuleAt tab new sizes 0 p → Represents tab st s →
       Represents tab r (record { rules = s .rules ++ (record { number = suc (s .made); sides = p } ∷ []); made = suc (s .made); waiting = s .waiting; log = s .log })
 
--- `with_entry`
-pub record LoggedState (st : State) (origin : List ℕ) (made : ℕ) (r : State) : Type 0 where
+-- `orient`, with any waiting list and any log
+pub record Orients (new sizes : List ℕ) (st : State) (rules rules′ : List ℕ) (r : State) : Type 0 where
+  pub oriented : (waiting log : List ℕ) → Fine (whole st rules waiting log) → st .count + st .waits ≤ 32 → OrientedState new sizes (whole st rules waiting log) (whole r rules′ waiting log)
+
+-- one entry more
+pub record LoggedState (st : Whole) (origin : List ℕ) (made : ℕ) (r : Whole) : Type 0 where
   pub fine : Fine r
   pub count : r .count ≡ st .count
   pub made-same : r .made ≡ st .made
@@ -72,3 +89,7 @@ pub record LoggedState (st : State) (origin : List ℕ) (made : ℕ) (r : State)
   pub units : r .units ≡ st .units
   pub represents : (tab : List ℕ) (s : RunState) (o : Origin) → origin ≡ origin-bytes o → Represents tab st s →
       Represents tab r (record { rules = s .rules; made = s .made; waiting = s .waiting; log = s .log ++ (record { origin = o; made = made } ∷ []) })
+
+-- `with_entry`, with any rules and any waiting list
+pub record Logs (st : State) (log origin : List ℕ) (made : ℕ) (log′ : List ℕ) (r : State) : Type 0 where
+  pub logged : (rules waiting : List ℕ) → FineBut 1 (whole st rules waiting log) → LoggedState (whole st rules waiting log) origin made (whole r rules waiting log′)

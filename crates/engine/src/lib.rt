@@ -1,4 +1,4 @@
-// The run's state by value, and the steps of a turn that change it.
+// The run's state, and the steps of a turn that change it.
 ghost use mathlib.Core.Path.{_≡_};
 ghost use mathlib.Core.List.{[]};
 ghost use Prim.Native.Nat.{_+_, _*_, _<_, _≤_};
@@ -7,22 +7,19 @@ ghost use Rattle.completion.specs.Turn.{waiting-input};
 ghost use Rattle.completion.specs.Calls.{origin-bytes};
 ghost use Rattle.normaliser.specs.Stored.{Layout};
 ghost use Rattle.store.specs.Slots.{patched};
-ghost use Rattle.engine.specs.State.{Fine, FineBut};
-ghost use Rattle.engine.specs.Steps.{numbered, entry-bytes, Begun, TakenState, CollapsedState, OrientedState, LoggedState};
+ghost use Rattle.engine.specs.Steps.{numbered, entry-bytes, Begins, Takes, Collapses, Orients, Logs};
 
 // Rules and waiting equations stand in slots, oldest first; a rule has its number beside it, a waiting equation its origin in six bytes,
-// and an entry of the log has eleven, as field 13 of the result.
+// and an entry of the log has eleven, as field 13 of the result. The bytes of the slots and of the log lie in lent buffers of 7920, 7920
+// and 5632 bytes.
 pub struct State {
-    pub rules: [u8; 7920],
     pub lens: [u8; 66],
     pub numbers: [u16; 33],
     pub count: usize,
     pub made: usize,
-    pub waiting: [u8; 7920],
     pub lengths: [u8; 66],
     pub origins: [u8; 198],
     pub waits: usize,
-    pub log: [u8; 5632],
     pub entries: usize,
     // The units that are left.
     pub units: u32,
@@ -30,45 +27,46 @@ pub struct State {
 
 impl State {
     // The first state: the input equations, which stand in the first slots of a store, wait in their order.
-    pub fn begin(inputs: &[u8], lens: &[u8], number: usize, budget: u32) -> State
+    pub fn begin(
+        inputs: &[u8],
+        lens: &[u8],
+        number: usize,
+        budget: u32,
+        waiting: &mut [u8],
+    ) -> State
         requires { ⌜ Layout [] (now inputs) (now lens) number × (number ≤ 16) ⌝ }
-        ensures { λ r. ⌜ Begun (now (inputs .entry)) (now (lens .entry)) number budget r ⌝ }
+        requires { ⌜ length (now waiting) ≡ 7920 ⌝ }
+        ensures { λ r. ⌜ Begins (now (inputs .entry)) (now (lens .entry)) number budget (now (waiting .exit)) r ⌝ }
     {
         let a = 240 * number;
         let b = 2 * number;
-        let mut waiting = [0u8; 7920];
         let mut lengths = [0u8; 66];
         let mut origins = [0u8; 198];
-        store::paste(&mut waiting, 0, &inputs[0..a]);
+        store::paste(waiting, 0, &inputs[0..a]);
         store::paste(&mut lengths, 0, &lens[0..b]);
         number_inputs(&mut origins, number);
         State {
-            rules: [0u8; 7920],
             lens: [0u8; 66],
             numbers: [0u16; 33],
             count: 0,
             made: 0,
-            waiting: waiting,
             lengths: lengths,
             origins: origins,
             waits: number,
-            log: [0u8; 5632],
             entries: 0,
             units: budget,
         }
     }
 
     // The waiting list without its oldest equation.
-    pub fn take(mut self) -> State
-        requires { ⌜ Fine self × (0 < self .waits) ⌝ }
-        ensures { λ r. ⌜ TakenState self r ⌝ }
+    pub fn take(mut self, waiting: &mut [u8]) -> State
+        requires { ⌜ (0 < self .waits) × (length (now waiting) ≡ 7920) ⌝ }
+        ensures { λ r. ⌜ Takes self (now (waiting .entry)) (now (waiting .exit)) r ⌝ }
     {
-        let mut waiting = self.waiting;
         let mut lengths = self.lengths;
         let mut origins = self.origins;
-        store::drop_first(&mut waiting, &mut lengths);
+        store::drop_first(waiting, &mut lengths);
         store::shift(&mut origins, 6);
-        self.waiting = waiting;
         self.lengths = lengths;
         self.origins = origins;
         self.waits = self.waits - 1;
@@ -76,23 +74,29 @@ impl State {
     }
 
     // Step 6: the older rules that the new one, alone in its store, does not rewrite; the others join the waiting list.
-    pub fn collapse(mut self, new: &[u8], sizes: &[u8], table: &[u8]) -> State
-        requires { ⌜ Fine self × Layout [] (now new) (now sizes) 1 ⌝ }
-        ensures { λ r. ⌜ CollapsedState (now (table .entry)) (now (new .entry)) (now (sizes .entry)) self r ⌝ }
+    pub fn collapse(
+        mut self,
+        rules: &mut [u8],
+        waiting: &mut [u8],
+        new: &[u8],
+        sizes: &[u8],
+        table: &[u8],
+    ) -> State
+        requires { ⌜ Layout [] (now rules) (self .lens) (self .count) × Layout [] (now waiting) (self .lengths) (self .waits) × Layout [] (now new) (now sizes) 1 ⌝ }
+        requires { ⌜ (self .count ≤ 32) × (self .count + self .waits ≤ 33) × (length (now rules) ≡ 7920) × (length (now waiting) ≡ 7920) ⌝ }
+        ensures { λ r. ⌜ Collapses (now (table .entry)) (now (new .entry)) (now (sizes .entry)) self (now (rules .entry)) (now (waiting .entry)) (now (rules .exit)) (now (waiting .exit)) r ⌝ }
     {
-        let mut rules = self.rules;
         let mut lens = self.lens;
         let mut numbers = self.numbers;
-        let mut waiting = self.waiting;
         let mut lengths = self.lengths;
         let mut origins = self.origins;
         let n = self.count;
         let w = self.waits;
         let k = collapse::collapse(
-            &mut rules,
+            rules,
             &mut lens,
             &mut numbers,
-            &mut waiting,
+            waiting,
             &mut lengths,
             &mut origins,
             new,
@@ -101,10 +105,8 @@ impl State {
             n,
             w,
         );
-        self.rules = rules;
         self.lens = lens;
         self.numbers = numbers;
-        self.waiting = waiting;
         self.lengths = lengths;
         self.origins = origins;
         self.count = k;
@@ -113,17 +115,15 @@ impl State {
     }
 
     // Step 5: the new rule behind the live ones.
-    pub fn orient(mut self, new: &[u8], sizes: &[u8]) -> State
-        requires { ⌜ Fine self × Layout [] (now new) (now sizes) 1 ⌝ }
-        requires { ⌜ (self .count ≤ 31) × (self .count + self .waits ≤ 32) × (self .entries < 512) ⌝ }
-        ensures { λ r. ⌜ OrientedState (now (new .entry)) (now (sizes .entry)) self r ⌝ }
+    pub fn orient(mut self, rules: &mut [u8], new: &[u8], sizes: &[u8]) -> State
+        requires { ⌜ Layout [] (now new) (now sizes) 1 × (length (now rules) ≡ 7920) ⌝ }
+        requires { ⌜ (self .count ≤ 31) × (self .made ≤ self .entries) × (self .entries < 512) ⌝ }
+        ensures { λ r. ⌜ Orients (now (new .entry)) (now (sizes .entry)) self (now (rules .entry)) (now (rules .exit)) r ⌝ }
     {
-        let mut rules = self.rules;
         let mut lens = self.lens;
         let n = self.count;
         let made = self.made + 1;
-        store::copy_slot(new, sizes, 0, &mut rules, &mut lens, n);
-        self.rules = rules;
+        store::copy_slot(new, sizes, 0, rules, &mut lens, n);
         self.lens = lens;
         let mut numbers = self.numbers;
         numbers[n] = made as u16;
@@ -134,14 +134,12 @@ impl State {
     }
 
     // One entry more in the log.
-    pub fn with_entry(mut self, origin: [u8; 6], made: u16) -> State
-        requires { ⌜ FineBut 1 self × (self .entries < 512) ⌝ }
-        ensures { λ r. ⌜ LoggedState self origin made r ⌝ }
+    pub fn with_entry(mut self, log: &mut [u8], origin: [u8; 6], made: u16) -> State
+        requires { ⌜ (self .entries < 512) × (length (now log) ≡ 5632) ⌝ }
+        ensures { λ r. ⌜ Logs self (now (log .entry)) origin made (now (log .exit)) r ⌝ }
     {
-        let mut log = self.log;
         let n = self.entries;
-        add_entry(&mut log, n, &origin, made);
-        self.log = log;
+        add_entry(log, n, &origin, made);
         self.entries = n + 1;
         self
     }

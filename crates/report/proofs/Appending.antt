@@ -1,4 +1,5 @@
--- Bytes put behind bytes. Assumes nothing.
+-- Bytes put behind or before bytes that were put are all of them put at once. Assumes nothing.
+-- Read first: store/specs/Slots (patched), store/proofs/Patching.
 use mathlib.Core.Path.{_≡_, refl, sym, ap, ap₂, _∙_}
 use mathlib.Core.List.{List, [], _∷_, _++_, append-assoc}
 use Prim.Native.Nat.{ℕ, _+_, _≤_, _<_}

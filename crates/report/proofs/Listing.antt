@@ -1,4 +1,5 @@
--- Fields 12, one behind the other. Assumes nothing.
+-- Fields 12, one behind the other: what is still to put is the fields of the slots to come. Assumes nothing.
+-- Read first: specs/Fields (slot-fields, PutsSome), proofs/Putting.
 use mathlib.Core.Path.{_≡_, refl, sym, ap, ap₂, _∙_}
 use mathlib.Core.List.{List, [], _++_, flatMap}
 use Prim.Native.Nat.{ℕ, zero, suc, _+_, _-_, _*_, _≤_, _<_}

@@ -1,4 +1,5 @@
--- Bytes below 160: what the test says, and that terms with variables below 32 pass it. Assumes nothing.
+-- Bytes below 160: the loop decides `low`, such bytes have at most 127 names, and terms with variables below 32 have only such. Assumes nothing.
+-- Read first: specs/Fields (low), naming/specs/Names (collect).
 use mathlib.Core.Path.{_≡_, refl, sym, ap, _∙_}
 use mathlib.Core.Bool.{Bool, true, false, not, _&&_}
 use mathlib.Core.Logic.{⊎-elim}
@@ -12,8 +13,8 @@ use lib.Seq.{drop-cons}
 use borrow.Author.Tests.{ltb-true, lt-ltb, le-ltb}
 use Rattle.terms.specs.Term.{Term, var, node, Terms, nil, cons, term-bytes, terms-bytes}
 use Rattle.terms.specs.Flat.{Wf, Wfs}
-use Rattle.unifier.specs.Names.{collect}
-use Rattle.orient.proofs.Placing.{names-few}
+use Rattle.naming.specs.Names.{collect}
+use Rattle.naming.proofs.Few.{names-few}
 use Rattle.report.specs.Fields.{low}
 
 low-cons : (b : ℕ) (l : List ℕ) → low (b ∷ l) ≡ ltb b 160 && low l
@@ -70,7 +71,7 @@ low-says (c ∷ l) h b i =
 
 -- so their names are few
 pub low-names : (left right : List ℕ) → low left ≡ true → low right ≡ true → length (collect [] (left ++ right)) ≤ 127
-low-names left right h k = names-few (left ++ right) (λ b i. ⊎-elim (λ j. low-says left h b j) (λ j. low-says right k b j) (List·Memᴰ·append-cases left i))
+low-names left right h k = omega (arith, names-few 32 (left ++ right) (λ b i. ⊎-elim (λ j. low-says left h b j) (λ j. low-says right k b j) (List·Memᴰ·append-cases left i)))
 
 mutual
   unfolding Wf term-bytes

@@ -1,4 +1,5 @@
--- The fields that are written are those of the run. Assumes nothing.
+-- The fields written from slots, numbers, log and forms are the result fields of the run that these stand for. Assumes nothing.
+-- Read first: specs/Report (Kept, Ended), completion/specs/Calls (result-bytes), proofs/Lowness.
 use mathlib.Core.Path.{_≡_, refl, sym, ap, ap₂, subst, _∙_}
 use mathlib.Core.Bool.{true}
 use mathlib.Core.List.{List, [], _∷_, _++_, map, flatMap, append-assoc, append-nil}
@@ -7,24 +8,19 @@ use native.Mathlib.Omega.{arith}
 use lib.ListN.{length, getD, take, drop}
 use lib.Seq.{getD-drop, drop-drop}
 use Rattle.terms.specs.Base.{if_then_else_, number-bytes, Tagged, field-bytes}
-use Rattle.terms.specs.Term.{Term, var, node, Terms, nil, cons, Pair, term-bytes, variables, subst-term, pair-variables, renamed}
-use Rattle.terms.specs.Flat.{Wf, Wfs}
-use Rattle.terms.proofs.Rename.{renames}
+use Rattle.terms.specs.Term.{Pair, renamed}
 use Rattle.rewriting.specs.Overlap.{Rule, sides-of}
 use Rattle.rewriting.specs.Rewrite.{End, complete, neither-above, spent, too-large, rules-full, log-full}
-use Rattle.normaliser.specs.Stored.{RuleAt, Stored}
-use Rattle.unifier.specs.Names.{renamed-bytes}
-use Rattle.unifier.proofs.Naming.{Low, Lows, renamed-terms}
+use Rattle.normaliser.specs.Stored.{Sides, RuleAt, Stored}
+use Rattle.naming.specs.Names.{renamed-bytes}
+use Rattle.naming.proofs.Renaming.{Low}
+use Rattle.naming.proofs.Pairs.{wf-low, renamed-pair}
 use Rattle.completion.specs.Turn.{Finished}
 use Rattle.completion.specs.Calls.{end-number, pair-bytes, rule-field, entry-field, forms-field, result-fields, result-bytes}
 use Rattle.report.specs.Fields.{Writes, tagged, slot-bytes, slot-field, slot-fields, low, forms-bytes, all-bytes}
+use Rattle.collapse.proofs.Lists.{flatMap-append}
 use Rattle.report.proofs.Lowness.{term-low}
-use Rattle.report.specs.Report.{Kept, Forms, Ended}
-
-flatMap-append : {A : Type 0} (f : A → List ℕ) (a b : List A) → flatMap f (a ++ b) ≡ flatMap f a ++ flatMap f b
-unfolding flatMap
-flatMap-append f [] b = refl
-flatMap-append f (x ∷ a) b = ap (λ l. f x ++ l) (flatMap-append f a b) ∙ sym (append-assoc (f x) (flatMap f a) (flatMap f b))
+use Rattle.report.specs.Report.{Kept, Ended}
 
 flatMap-map : {A B : Type 0} (f : B → List ℕ) (g : A → B) (a : List A) → flatMap (λ x. f (g x)) a ≡ flatMap f (map g a)
 unfolding flatMap
@@ -54,31 +50,20 @@ module _ (tab rules lens numbers : List ℕ) where
       ap₂ _∷_ (one-field k r (h .0) a) (slots-are (suc k) rs (h .1) b)
 
 -- Field 14.
-mutual
-  unfolding Wf Low
-
-  wf-low : (n : ℕ) (tab : List ℕ) (t : Term) → Wf n tab t → Low t
-  wf-low n tab (var x) w = tt
-  wf-low n tab (node f ts) w = (let h : f < 16 = w .0 in omega arith, wf-lows n tab ts (w .2))
-
-  wf-lows : (n : ℕ) (tab : List ℕ) (ts : Terms) → Wfs n tab ts → Lows ts
-  wf-lows n tab nil w = tt
-  wf-lows n tab (cons t ts) w = (wf-low n tab t (w .0), wf-lows n tab ts (w .1))
-
 pair-renamed : (e : Pair) → Low (e .left) → Low (e .right) → renamed-bytes (pair-bytes e) ≡ pair-bytes (renamed e)
-unfolding renames renamed pair-variables subst-term term-bytes variables Low pair-bytes
-pair-renamed e l r = simp append-nil at (renamed-terms (cons (e .left) (cons (e .right) nil)) (l, (r, tt)))
+unfolding pair-bytes
+pair-renamed e l r = renamed-pair e l r
 
-pair-is : (tab left right : List ℕ) (e : Pair) → Forms tab left right e → left ++ right ≡ pair-bytes e
+pair-is : (tab left right : List ℕ) (e : Pair) → Sides 32 tab left right e → left ++ right ≡ pair-bytes e
 unfolding pair-bytes
 pair-is tab left right e k = ap₂ _++_ (k .left-bytes) (k .right-bytes)
 
-forms-are : (tab left right : List ℕ) (end : ℕ) (x : End) → end ≡ end-number x → ((e : Pair) → x ≡ neither-above e → Forms tab left right e) →
+forms-are : (tab left right : List ℕ) (end : ℕ) (x : End) → end ≡ end-number x → ((e : Pair) → x ≡ neither-above e → Sides 32 tab left right e) →
     forms-bytes end left right ≡ flatMap field-bytes (forms-field x)
 unfolding forms-bytes forms-field end-number flatMap if_then_else_
 forms-are tab left right end complete h f = rw h refl
 forms-are tab left right end (neither-above e) h f =
-    let k : Forms tab left right e = f e refl in
+    let k : Sides 32 tab left right e = f e refl in
     let p : left ++ right ≡ pair-bytes e = pair-is tab left right e k in
     let x : low left ≡ true = term-low tab (e .left) (k .left-wf) left (k .left-bytes) in
     let y : low right ≡ true = term-low tab (e .right) (k .right-wf) right (k .right-bytes) in

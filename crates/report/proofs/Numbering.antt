@@ -1,4 +1,5 @@
--- A number's bytes, put from the last to the first. Assumes nothing.
+-- A number's bytes put from the last to the first: what is still to put is the rest of the number in the bytes left. Assumes nothing.
+-- Read first: terms/specs/Base (number-bytes), specs/Fields (Puts), proofs/Appending.
 use mathlib.Core.Path.{_≡_, refl, sym, ap, _∙_}
 use mathlib.Core.List.{List, [], _∷_}
 use Prim.Native.Nat.{ℕ, suc, _+_, _-_, _/_, _%_, _≤_, _<_}

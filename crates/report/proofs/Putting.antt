@@ -1,4 +1,5 @@
--- Fields put together from their parts. Assumes nothing.
+-- `Puts` one behind the other compose; so heads, fields and field 12 are put from their parts. Assumes nothing.
+-- Read first: specs/Fields (Puts, PutsSome, slot-field), proofs/Appending.
 use mathlib.Core.Path.{_≡_, refl, ap, ap₂, subst₂, _∙_}
 use mathlib.Core.List.{List, [], _∷_, _++_}
 use Prim.Native.Nat.{ℕ, _+_, _-_, _*_, _≤_, _<_}
@@ -52,13 +53,6 @@ puts-field l at tag len cs l₁ l₂ a r room p q =
 
 pub puts-counted : (l : List ℕ) (at n : ℕ) (xs l′ : List ℕ) (r : ℕ) → Puts l at n xs l′ r → Puts l at (length xs) xs l′ r
 puts-counted l at n xs l′ r p = record { bytes = p .bytes; counted = refl; next = p .next ∙ omega (arith, p .counted) }
-
-pub layout-one : (rules lens : List ℕ) (count i : ℕ) → Layout [] rules lens count → i < count → Layout [] rules lens (i + 1)
-layout-one rules lens count i h l =
-    let a : 240 * count ≤ length rules = h .slots in
-    let b : 2 * count ≤ length lens = h .lengths in
-    let c : count ≤ 33 = h .few in
-    record { slots = omega arith; lengths = omega arith; few = omega arith; short = λ j k. h .short j (omega arith) }
 
 module _ (rules lens : List ℕ) (k : ℕ) (lay : Layout [] rules lens (k + 1)) where
   pub left-short : getD lens (2 * k) 0 ≤ 120

@@ -1,4 +1,5 @@
--- All fields, one behind the other. Assumes nothing.
+-- Field 14 is put or left out, and all fields one behind the other fill the front of the buffer, which has room for them. Assumes nothing.
+-- Read first: specs/Fields (Writes, all-bytes, forms-bytes), proofs/Putting.
 use mathlib.Core.Path.{_≡_, refl, sym, _∙_}
 use mathlib.Core.Bool.{true, false}
 use mathlib.Core.List.{List, [], _++_, flatMap}
@@ -7,7 +8,7 @@ use native.Mathlib.Omega.{arith}
 use lib.ListN.{length}
 use borrow.Author.Tests.{eq-eqb, ne-eqb}
 use Rattle.terms.specs.Base.{if_then_else_, number-bytes, Tagged, field-bytes}
-use Rattle.unifier.specs.Names.{renamed-bytes}
+use Rattle.naming.specs.Names.{renamed-bytes}
 use Rattle.completion.specs.Calls.{written}
 use Rattle.report.specs.Fields.{Puts, PutsSome, Writes, tagged, low, forms-bytes, all-bytes}
 use Rattle.report.proofs.Appending.{patched-none, patched-front}

@@ -4,15 +4,14 @@ use mathlib.Core.List.{List, map, flatMap}
 use Prim.Native.Nat.{ℕ, _*_}
 use lib.ListN.{length, take}
 use Rattle.terms.specs.Base.{field-bytes}
-use Rattle.terms.specs.Term.{Pair, term-bytes}
-use Rattle.terms.specs.Flat.{Wf}
+use Rattle.terms.specs.Term.{Pair}
 use Rattle.rewriting.specs.Overlap.{Rule, sides-of}
 use Rattle.rewriting.specs.Rewrite.{neither-above}
-use Rattle.normaliser.specs.Stored.{Stored}
+use Rattle.normaliser.specs.Stored.{Sides, Stored}
 use Rattle.completion.specs.Turn.{State as RunState, Finished}
 use Rattle.completion.specs.Calls.{end-number, entry-field, result-bytes}
 use Rattle.engine.specs.declared.State.{State}
-use Rattle.engine.specs.State.{Represents}
+use Rattle.engine.specs.State.{whole, Held}
 use Rattle.report.specs.Fields.{Writes}
 
 -- the rules of the state s stand in slots, with their numbers beside, and its log in the form of fields 13
@@ -22,25 +21,18 @@ pub record Kept (tab rules lens numbers : List ℕ) (count : ℕ) (log : List �
   pub counted : count ≡ length (s .rules)
   pub logged : take (11 * entries) log ≡ flatMap (λ e. field-bytes (entry-field e)) (s .log)
 
--- the two lists are the bytes of the pair's sides
-pub record Forms (tab left right : List ℕ) (e : Pair) : Type 0 where
-  pub left-wf : Wf 32 tab (e .left)
-  pub right-wf : Wf 32 tab (e .right)
-  pub left-bytes : left ≡ term-bytes (e .left)
-  pub right-bytes : right ≡ term-bytes (e .right)
-
 -- the end and the units of the run f, and with end 20 its two normal forms
 pub record Ended (tab : List ℕ) (end units : ℕ) (left right : List ℕ) (f : Finished) : Type 0 where
   pub end-is : end ≡ end-number (f .end)
   pub units-are : units ≡ f .units
-  pub forms : (e : Pair) → f .end ≡ neither-above e → Forms tab left right e
+  pub forms : (e : Pair) → f .end ≡ neither-above e → Sides 32 tab left right e
 
 -- "Complete .. return the count of result bytes"; "bytes past the result" are left as they were
 abbrev pub Reports : ℕ → ℕ → List ℕ → List ℕ → List ℕ → ℕ → List ℕ → ℕ → List ℕ → List ℕ → List ℕ → List ℕ → ℕ → Type 0
 Reports end units rules lens numbers count log entries left right before after r =
     (tab : List ℕ) (f : Finished) → Kept tab rules lens numbers count log entries (f .state) → Ended tab end units left right f → Writes before (result-bytes f) after r
 
--- the same of the run's last state by value
-abbrev pub OfState : State → ℕ → ℕ → List ℕ → List ℕ → List ℕ → List ℕ → ℕ → Type 0
-OfState state end units left right before after r =
-    (tab : List ℕ) (f : Finished) → Represents tab state (f .state) → Ended tab end units left right f → Writes before (result-bytes f) after r
+-- the same of the run's last state, with its rules and its log
+abbrev pub OfState : State → List ℕ → List ℕ → ℕ → ℕ → List ℕ → List ℕ → List ℕ → List ℕ → ℕ → Type 0
+OfState state rules log end units left right before after r =
+    (tab waiting : List ℕ) (f : Finished) → Held tab (whole state rules waiting log) (f .state) → Ended tab end units left right f → Writes before (result-bytes f) after r

@@ -5,9 +5,8 @@ ghost use Prim.Native.Nat.{_+_, _*_, _<_, _≤_};
 ghost use lib.ListN.{length, take, drop};
 ghost use Rattle.terms.specs.Base.{number-bytes, field-bytes};
 ghost use Rattle.normaliser.specs.Stored.{Layout};
-ghost use Rattle.unifier.specs.Names.{collect, renamed-bytes};
+ghost use Rattle.naming.specs.Names.{collect, renamed-bytes};
 ghost use Rattle.report.specs.Fields.{Puts, PutsSome, Lent, tagged, slot-field, slot-fields, low, forms-bytes};
-ghost use Rattle.engine.specs.State.{Fine};
 ghost use Rattle.report.specs.Report.{Reports, OfState};
 
 // A number in so many bytes, high byte first: the place behind it.
@@ -105,15 +104,6 @@ fn put_rules(
     a
 }
 
-// The first e bytes, with their variables numbered in order of first occurrence.
-fn rename_front(pair: &mut [u8], e: usize)
-    requires { ⌜ (e ≤ length (now pair)) × (e ≤ 240) × (length (collect [] (take e (now pair))) ≤ 127) ⌝ }
-    ensures { λ _. ⌜ take e (now (pair .exit)) ≡ renamed-bytes (take e (now (pair .entry))) ⌝ }
-{
-    let mut names = [0u8; 240];
-    unifier::rename(&mut pair[0..e], &mut names);
-}
-
 // Field 14: two terms, renamed as a pair.
 fn put_forms(out: &mut [u8], at: usize, left: &[u8], right: &[u8]) -> usize
     requires { ⌜ (at + 243 ≤ length (now out)) × (length (now left) ≤ 120) × (length (now right) ≤ 120) ⌝ }
@@ -125,7 +115,7 @@ fn put_forms(out: &mut [u8], at: usize, left: &[u8], right: &[u8]) -> usize
     let e = n + right.len();
     store::paste(&mut pair, 0, left);
     store::paste(&mut pair, n, right);
-    rename_front(&mut pair, e);
+    naming::rename_front(&mut pair, e);
     put_field(out, at, 20, &pair[0..e])
 }
 
@@ -185,9 +175,11 @@ pub fn report(
     put_forms_if(out, d, end, left, right)
 }
 
-// The same from the run's last state.
+// The same from the run's last state, whose rules and log lie in the lent buffers.
 pub fn of_state(
     state: engine::State,
+    rules: &[u8],
+    log: &[u8],
     end: u8,
     units: u32,
     left: &[u8],
@@ -195,22 +187,21 @@ pub fn of_state(
     out: &mut [u8],
 ) -> usize
     requires { ⌜ 13726 ≤ length (now out) ⌝ }
-    requires { ⌜ Fine state × (length (now left) ≤ 120) × (length (now right) ≤ 120) ⌝ }
-    ensures { λ r. ⌜ OfState state end units (now (left .entry)) (now (right .entry)) (now (out .entry)) (now (out .exit)) r ⌝ }
+    requires { ⌜ Layout [] (now rules) (state .lens) (state .count) × (state .count ≤ 32) × (state .entries ≤ 512) × (length (now log) ≡ 5632) ⌝ }
+    requires { ⌜ (length (now left) ≤ 120) × (length (now right) ≤ 120) ⌝ }
+    ensures { λ r. ⌜ OfState state (now (rules .entry)) (now (log .entry)) end units (now (left .entry)) (now (right .entry)) (now (out .entry)) (now (out .exit)) r ⌝ }
 {
-    let rules = state.rules;
     let lens = state.lens;
     let numbers = state.numbers;
-    let log = state.log;
     report(
         out,
         end,
         units,
-        &rules,
+        rules,
         &lens,
         &numbers,
         state.count,
-        &log,
+        log,
         state.entries,
         left,
         right,

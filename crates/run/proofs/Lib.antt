@@ -1,3 +1,5 @@
+pub mod Keeping
+pub mod Copying
 pub mod Making
 pub mod Turns
 pub mod ScanEnds

@@ -1,13 +1,13 @@
--- Steps 4 to 7 of a turn on the state by value: what its parts answer makes up what the definition says. Assumes nothing.
+-- Steps 4 to 7 of a turn on the state by value: by the outcome of each test, what the definition's `make-rule` comes to. Assumes nothing.
+-- Read first: specs/Turned (FinishedIs, MadeIs), completion/specs/Turn (make-rule), engine/specs/State (Represents).
 use mathlib.Core.Path.{_≡_, refl, sym, ap, _∙_, subst}
 use mathlib.Core.Logic.{_⊎_, inl, inr}
 use mathlib.Core.List.{List, [], _∷_, _++_, map}
-use Prim.Native.Nat.{ℕ, zero, suc, _+_, _<_, _≤_}
+use Prim.Native.Nat.{ℕ, suc, _+_, _<_, _≤_}
 use native.Mathlib.Omega.{arith}
-use lib.ListN.{length, take, length-append}
+use lib.ListN.{length, length-append}
 use Rattle.terms.specs.Term.{Pair}
-use Rattle.order.specs.Walk.{rank}
-use Rattle.problem.specs.Problem.{rank-of, Problem}
+use Rattle.problem.specs.Problem.{Problem}
 use Rattle.rewriting.specs.Overlap.{Rule, sides-of}
 use Rattle.rewriting.specs.Rewrite.{End, complete, neither-above, spent, too-large, rules-full, log-full, Paid, done, stop}
 use Rattle.normaliser.specs.Stored.{Stored, code}
@@ -16,12 +16,10 @@ use Rattle.completion.specs.Calls.{origin-bytes, end-number}
 use Rattle.completion.proofs.Turning.{new-rule, make-stops, make-rules-full, make-rights-stop, make-done}
 use Rattle.compose.specs.Rights.{AllIs}
 use Rattle.compose.specs.declared.Composed.{Composed}
-use Rattle.engine.specs.State.{Fine, Represents}
+use Rattle.engine.specs.State.{Whole, Represents}
 use Rattle.engine.specs.Steps.{LoggedState}
-use Rattle.engine.specs.declared.State.{State}
 use Rattle.orient.specs.Oriented.{oriented, OrientedIs}
-use Rattle.run.specs.Turned.{stop-code, Stays, FinishedIs, without-taken, MadeIs}
-use Rattle.run.specs.declared.Turned.{Turned}
+use Rattle.run.specs.Turned.{Outcome, Stops, stop-code, Stays, FinishedIs, MadeIs}
 
 -- the codes of normalising are those of a turn
 codes : (e : End) → code e ≤ 4 → code e ≡ stop-code e
@@ -49,7 +47,7 @@ abbrev pub logged : RunState → Origin → ℕ → RunState
 logged s o n = record { rules = s .rules; made = s .made; waiting = s .waiting; log = s .log ++ (record { origin = o; made = n } ∷ []) }
 
 -- `finish`: a right side stopped
-pub finish-stops : (tab b l : List ℕ) (older : ℕ) (rs : List Rule) (c : Composed) (p : Paid (List Rule)) (s : RunState) (from : Origin) (st : State) (m n : ℕ) (o : Turned) →
+pub finish-stops : (tab b l : List ℕ) (older : ℕ) (rs : List Rule) (c : Composed) (p : Paid (List Rule)) (s : RunState) (from : Origin) (st : Whole) (m n : ℕ) (o : Outcome) →
     AllIs tab b l older rs c p → (c .verdict ≡ 0 → ⊥) → c .verdict ≤ 4 → Stays st (c .verdict) (c .units) m n o → FinishedIs tab s from o p
 finish-stops tab b l older rs c (done rs′ left) s from st m n o a v k y = absurd (v (a .0))
 finish-stops tab b l older rs c (stop e left) s from st m n o a v k y =
@@ -57,7 +55,7 @@ finish-stops tab b l older rs c (stop e left) s from st m n o a v k y =
     (y .verdict-is ∙ a .0 ∙ codes e q, y .units-are ∙ a .1, not-neither e q)
 
 -- the state with other rules in its slots
-abbrev pub with-slots : State → List ℕ → List ℕ → State
+abbrev pub with-slots : Whole → List ℕ → List ℕ → Whole
 with-slots st b l = record {
   rules = b;
   lens = l;
@@ -76,7 +74,7 @@ with-slots st b l = record {
 abbrev with-rules : RunState → List Rule → RunState
 with-rules s rules = record { rules = rules; made = s .made; waiting = s .waiting; log = s .log }
 
-module _ (tab : List ℕ) (st : State) (s : RunState) (rs : List Rule) (R : Represents tab st s) where
+module _ (tab : List ℕ) (st : Whole) (s : RunState) (rs : List Rule) (R : Represents tab st s) where
   slots-represent : (b l : List ℕ) → Stored tab b l 0 (sides-of rs) → st .count ≡ length rs → map (λ r. r .number) rs ≡ map (λ r. r .number) (s .rules) →
       Represents tab (with-slots st b l) (with-rules s rs)
   slots-represent b l h n k =
@@ -93,8 +91,8 @@ module _ (tab : List ℕ) (st : State) (s : RunState) (rs : List Rule) (R : Repr
       }
 
 -- all right sides were done
-pub finish-done : (tab b l : List ℕ) (older : ℕ) (st : State) (c : Composed) (s : RunState) (rules : List Rule) (new : Rule) (p : Paid (List Rule)) (from : Origin) (origin : List ℕ)
-    (st′ : State) (o : Turned) → AllIs tab b l older (rules ++ (new ∷ [])) c p → c .verdict ≡ 0 → s .rules ≡ rules ++ (new ∷ []) → st .count ≡ older + 1 → Represents tab st s →
+pub finish-done : (tab b l : List ℕ) (older : ℕ) (st : Whole) (c : Composed) (s : RunState) (rules : List Rule) (new : Rule) (p : Paid (List Rule)) (from : Origin) (origin : List ℕ)
+    (st′ : Whole) (o : Outcome) → AllIs tab b l older (rules ++ (new ∷ [])) c p → c .verdict ≡ 0 → s .rules ≡ rules ++ (new ∷ []) → st .count ≡ older + 1 → Represents tab st s →
     LoggedState (with-slots st b l) origin (st .made) st′ → origin ≡ origin-bytes from → Stays st′ 0 (c .units) 0 0 o → FinishedIs tab s from o p
 finish-done tab b l older st c s rules new (stop e left) from origin st′ o a v q n R G g y = absurd (code-not-zero e (sym (a .0) ∙ v))
 finish-done tab b l older st c s rules new (done rs left) from origin st′ o a v q n R G g y =
@@ -110,7 +108,7 @@ unfolding end-number
 end-numbers e f (inl q) = (λ h. absurd (let k : end-number too-large ≡ 20 = sym (ap end-number q) ∙ h in omega arith), λ _. q)
 end-numbers e f (inr q) = (λ _. q, λ n. absurd (n (ap end-number q)))
 
-module _ (tab : List ℕ) (P : Problem) (s : RunState) (t : Taken) (units : ℕ) (b l : List ℕ) (k r m n : ℕ) (o : Turned) where
+module _ (tab : List ℕ) (P : Problem) (s : RunState) (t : Taken) (units : ℕ) (b l : List ℕ) (k r m n : ℕ) (o : Outcome) where
   abbrev sides : Pair
   sides = t .pair .sides
 
@@ -118,7 +116,7 @@ module _ (tab : List ℕ) (P : Problem) (s : RunState) (t : Taken) (units : ℕ)
   Is p = MadeIs tab sides m n o p
 
   -- neither side is above the other
-  pub make-neither : (st : State) (p : Paid Pair) → oriented P sides units ≡ p → OrientedIs tab b l k r sides units p → r ≡ 20 → Stays st 6 units m n o → Is (make-rule P s t units)
+  pub make-neither : (st : Whole) (p : Paid Pair) → oriented P sides units ≡ p → OrientedIs tab b l k r sides units p → r ≡ 20 → Stops st 6 units m n o → Is (make-rule P s t units)
   unfolding oriented stop-code
   make-neither st (done e left) q a v y = absurd (let z : 0 ≡ 20 = sym (a .0) ∙ v in omega arith)
   make-neither st (stop f left) q a v y =
@@ -130,7 +128,7 @@ module _ (tab : List ℕ) (P : Problem) (s : RunState) (t : Taken) (units : ℕ)
       )
 
   -- more than 16 variables
-  pub make-large : (st : State) (i j : ℕ) (p : Paid Pair) → oriented P sides units ≡ p → OrientedIs tab b l k r sides units p → (r ≡ 20 → ⊥) → (r ≡ 0 → ⊥) → Stays st 2 units i j o → Is (make-rule P s t units)
+  pub make-large : (st : Whole) (i j : ℕ) (p : Paid Pair) → oriented P sides units ≡ p → OrientedIs tab b l k r sides units p → (r ≡ 20 → ⊥) → (r ≡ 0 → ⊥) → Stops st 2 units i j o → Is (make-rule P s t units)
   unfolding oriented stop-code
   make-large st i j (done e left) q a v w y = absurd (w (a .0))
   make-large st i j (stop f left) q a v w y =
@@ -142,7 +140,7 @@ module _ (tab : List ℕ) (P : Problem) (s : RunState) (t : Taken) (units : ℕ)
       too≢neither g z = let c : _≡_ {A = ℕ} 0 1 = cc in omega arith
 
 -- The pair was oriented, and the state has the new rule behind the older ones that are kept.
-module _ (tab : List ℕ) (P : Problem) (s : RunState) (t : Taken) (units : ℕ) (m n : ℕ) (o : Turned) (sides : Pair) (left : ℕ)
+module _ (tab : List ℕ) (P : Problem) (s : RunState) (t : Taken) (units : ℕ) (m n : ℕ) (o : Outcome) (sides : Pair) (left : ℕ)
     (h : oriented P (t .pair .sides) units ≡ done sides left) (same : left ≡ units) where
   abbrev new : Rule
   new = new-rule s sides
@@ -160,7 +158,7 @@ module _ (tab : List ℕ) (P : Problem) (s : RunState) (t : Taken) (units : ℕ)
   length-new : length (kept new (s .rules) ++ (new ∷ [])) ≡ suc (length (kept new (s .rules)))
   length-new = omega (arith, length-append (kept new (s .rules)) (new ∷ []))
 
-  pub make-full : (st st₂ : State) (i j : ℕ) → Represents tab st₂ collapsed → 32 ≤ st₂ .count → Stays st 4 units i j o → IsMade (make-rule P s t units)
+  pub make-full : (st st₂ : Whole) (i j : ℕ) → Represents tab st₂ collapsed → 32 ≤ st₂ .count → Stops st 4 units i j o → IsMade (make-rule P s t units)
   unfolding oriented stop-code
   make-full st st₂ i j R over y =
       let q : 32 < suc (length (kept new (s .rules))) = omega (arith, R .count) in
@@ -169,7 +167,7 @@ module _ (tab : List ℕ) (P : Problem) (s : RunState) (t : Taken) (units : ℕ)
       full≢neither : (g : Pair) → rules-full ≡ neither-above g → ⊥
       full≢neither g z = let c : _≡_ {A = ℕ} 0 1 = cc in omega arith
 
-  pub make-finished : (st₂ : State) → Represents tab st₂ with-new → st₂ .count ≤ 32 → (p : Paid (List Rule)) →
+  pub make-finished : (st₂ : Whole) → Represents tab st₂ with-new → st₂ .count ≤ 32 → (p : Paid (List Rule)) →
       normalise-rights [] (kept new (s .rules)) new units ≡ p → FinishedIs tab with-new (t .pair .origin) o p → IsMade (make-rule P s t units)
   unfolding oriented
   make-finished st₂ R few (done rules now) q a =

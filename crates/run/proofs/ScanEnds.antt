@@ -1,4 +1,5 @@
--- The scan ends with complete, spent or too large, and no other end. Assumes nothing.
+-- The definition's scan ends with complete, spent or too large, and with no other end. Assumes nothing.
+-- Read first: completion/specs/Turn (scan), rewriting/specs/Rewrite (End, normalise).
 use mathlib.Core.Path.{_≡_, refl, subst}
 use mathlib.Core.Bool.{Bool, true, false}
 use mathlib.Core.List.{List, [], _∷_}

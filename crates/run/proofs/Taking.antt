@@ -1,35 +1,34 @@
 -- Step 1 of a turn: what a pair's walk says of what the definition takes, for the oldest waiting equation and for the scan. Assumes nothing.
+-- Read first: completion/specs/Turn (take-pair), scan/specs/Walk (Walked, Finds), specs/Turned (TakenBy), proofs/ScanEnds.
 use mathlib.Core.Path.{_≡_, refl, sym, ap, _∙_, subst}
 use mathlib.Core.Bool.{true, false}
-use mathlib.Core.List.{List, [], _∷_, _++_, map}
-use Prim.Native.Nat.{ℕ, zero, suc, _+_, _<_, _≤_}
+use mathlib.Core.List.{List, [], _∷_}
+use Prim.Native.Nat.{ℕ, suc}
 use native.Mathlib.Omega.{arith}
-use lib.ListN.{length, take}
 use Rattle.terms.specs.Term.{Pair, same}
 use Rattle.problem.specs.Problem.{Problem}
-use Rattle.rewriting.specs.Overlap.{Rule, all-places}
-use Rattle.rewriting.specs.Rewrite.{End, complete, neither-above, spent, too-large, rules-full, log-full, Paid, done, stop, Paying, _>>=_, normalise-pair}
-use Rattle.completion.specs.Turn.{Origin, scanned-input, Candidate, State as RunState, Taken, candidates, scan, take-pair, turn}
+use Rattle.rewriting.specs.Overlap.{all-places}
+use Rattle.rewriting.specs.Rewrite.{End, complete, neither-above, spent, too-large, rules-full, log-full, Paid, done, stop, _>>=_, normalise-pair}
+use Rattle.completion.specs.Turn.{scanned-input, Candidate, State as RunState, Taken, candidates, scan, take-pair, turn}
 use Rattle.completion.proofs.Turning.{turn-stops, scan-different, take-scan-stops, take-scan, take-waiting-stops, take-waiting}
-use Rattle.completion.proofs.Comparing.{Found, found-forms, Equal, equal-forms, stop-forms}
-use Rattle.engine.specs.State.{Represents}
-use Rattle.engine.specs.declared.State.{State}
+use Rattle.completion.proofs.Comparing.{found-forms, equal-forms, stop-forms}
+use Rattle.engine.specs.State.{Whole, Represents}
 use Rattle.scan.specs.Walk.{compared, Walked, found, short, large, on, Shows, Finds, stop-number}
 use Rattle.scan.specs.declared.Walk.{Walk}
-use Rattle.run.specs.Turned.{stop-code, Stays, TakenBy, Shown, TurnedIs}
-use Rattle.run.specs.declared.Turned.{Turned}
+use Rattle.run.specs.Turned.{Outcome, Stops, stop-code, TakenBy, Shown, TurnedIs}
+use Rattle.run.proofs.Keeping.{held-of}
 use Rattle.run.proofs.ScanEnds.{ScanEnd, scan-ends}
 
 zero≢one : _≡_ {A = ℕ} 0 1 → ⊥
 zero≢one z = omega arith
 
 -- a stop of step 1 is a stop of the turn
-module _ (tab L R : List ℕ) (P : Problem) (s : RunState) (u i j : ℕ) (st : State) (w : Walk) (o : Turned) where
+module _ (tab L R : List ℕ) (P : Problem) (s : RunState) (u i j : ℕ) (st : Whole) (w : Walk) (o : Outcome) where
   pub stops-turn : (e : End) → take-pair P (s .rules) (s .waiting) u ≡ stop e (w .units) → w .verdict ≡ stop-code e → ((g : Pair) → e ≡ neither-above g → ⊥) → Represents tab st s →
-      Stays st (w .verdict) (w .units) i j o → TurnedIs tab s L R o (turn P s (suc u))
+      Stops st (w .verdict) (w .units) i j o → TurnedIs tab s L R o (turn P s (suc u))
   stops-turn e h v n R′ y =
       subst (TurnedIs tab s L R o) (sym (turn-stops P s u e (w .units) h))
-      (y .verdict-is ∙ v, y .units-are, subst (λ x. Represents tab x s) (sym (y .state)) R′, λ g z. absurd (n g z))
+      (y .verdict-is ∙ v, y .units-are, held-of R′ (y .kept), λ g z. absurd (n g z))
 
 -- The oldest waiting equation.
 module _ (tab L R : List ℕ) (P : Problem) (s : RunState) (c : Candidate) (cs : List Candidate) (waits : s .waiting ≡ c ∷ cs) (u : ℕ) (w : Walk)
@@ -76,7 +75,7 @@ module _ (tab L R : List ℕ) (P : Problem) (s : RunState) (c : Candidate) (cs :
             forms = e .forms;
             taken = taken-by (e .forms) (e .is);
             differ = e .differ;
-            shown = subst (Shown tab L R (w .m) (w .n)) q (record { left-bytes = y .left-bytes; right-bytes = y .right-bytes; left-wf = y .left-wf; right-wf = y .right-wf });
+            shown = subst (Shown tab L R (w .m) (w .n)) q (y .sides);
           }
       go (short z h) = absurd (let k : 1 ≡ 0 = sym z ∙ v in omega arith)
       go (large z h) = absurd (let k : 2 ≡ 0 = sym z ∙ v in omega arith)
@@ -85,7 +84,7 @@ module _ (tab L R : List ℕ) (P : Problem) (s : RunState) (c : Candidate) (cs :
   stop-taken : (e : End) → forms-of ≡ stop e (w .units) → take-pair P (s .rules) (s .waiting) u ≡ stop e (w .units)
   stop-taken e h = ap (λ q. take-pair P (s .rules) q u) waits ∙ take-waiting-stops P (s .rules) u c cs e (w .units) h
 
-  pub waiting-stops : (w .verdict ≡ 0 → ⊥) → (w .verdict ≡ 3 → ⊥) → (st : State) → Represents tab st s → (i j : ℕ) (o : Turned) → Stays st (w .verdict) (w .units) i j o →
+  pub waiting-stops : (w .verdict ≡ 0 → ⊥) → (w .verdict ≡ 3 → ⊥) → (st : Whole) → Represents tab st s → (i j : ℕ) (o : Outcome) → Stops st (w .verdict) (w .units) i j o →
       TurnedIs tab s L R o (turn P s (suc u))
   unfolding compared _>>=_ stop-code
   waiting-stops n m st R′ i j o y = go W
@@ -135,8 +134,8 @@ module _ (tab L R : List ℕ) (P : Problem) (s : RunState) (waits : s .waiting �
   number-code rules-full h = absurd h
   number-code log-full h = absurd h
 
-  pub scan-stops : (p : Paid Candidate) → scanned ≡ p → Finds tab L R w p → (w .verdict ≡ 0 → ⊥) → (st : State) → Represents tab st s → (i j : ℕ) (o : Turned) →
-      Stays st (w .verdict) (w .units) i j o → TurnedIs tab s L R o (turn P s (suc u))
+  pub scan-stops : (p : Paid Candidate) → scanned ≡ p → Finds tab L R w p → (w .verdict ≡ 0 → ⊥) → (st : Whole) → Represents tab st s → (i j : ℕ) (o : Outcome) →
+      Stops st (w .verdict) (w .units) i j o → TurnedIs tab s L R o (turn P s (suc u))
   scan-stops (done c left) h f v st R′ i j o y = absurd (v (f .0))
   scan-stops (stop e left) h f v st R′ i j o y =
       let q : scanned ≡ stop e (w .units) = h ∙ ap (stop e) (sym (f .1)) in

@@ -1,21 +1,19 @@
--- A whole turn on the state by value, from what its parts answer. Read completion/proofs/Turning first. Assumes nothing.
-use mathlib.Core.Path.{_≡_, refl, sym, ap, _∙_, subst}
+-- A turn of the definition, once a pair is taken: full log, equal forms, a new rule, or a stop in making it. Assumes nothing.
+-- Read first: completion/proofs/Turning, specs/Turned (TurnWith, MadeTurn, TakenBy), proofs/Making.
+use mathlib.Core.Path.{_≡_, sym, _∙_, subst}
 use mathlib.Core.Bool.{true, false}
-use mathlib.Core.List.{List, [], _∷_, _++_, map}
-use Prim.Native.Nat.{ℕ, zero, suc, _+_, _<_, _≤_}
+use mathlib.Core.List.{List}
+use Prim.Native.Nat.{ℕ, suc, _<_, _≤_}
 use native.Mathlib.Omega.{arith}
-use lib.ListN.{length, take}
 use Rattle.terms.specs.Term.{Pair, same}
 use Rattle.problem.specs.Problem.{Problem}
 use Rattle.rewriting.specs.Rewrite.{End, complete, neither-above, spent, too-large, rules-full, log-full, Paid, done, stop}
-use Rattle.completion.specs.Turn.{Origin, Candidate, State as RunState, Taken, settled, make-rule, turn}
-use Rattle.completion.specs.Calls.{origin-bytes}
-use Rattle.completion.proofs.Turning.{turn-unpaid, turn-stops, turn-log-full, turn-settles, turn-makes}
-use Rattle.engine.specs.State.{Fine, Represents}
+use Rattle.completion.specs.Turn.{State as RunState, Taken, settled, make-rule, turn}
+use Rattle.completion.proofs.Turning.{turn-log-full, turn-settles, turn-makes}
+use Rattle.engine.specs.State.{Whole, Represents}
+use Rattle.run.proofs.Keeping.{held-of}
 use Rattle.run.proofs.Making.{logged}
-use Rattle.engine.specs.declared.State.{State}
-use Rattle.run.specs.Turned.{stop-code, Stays, without-taken, MadeIs, TurnWith, MadeTurn, TakenBy, Shown, TurnedIs}
-use Rattle.run.specs.declared.Turned.{Turned}
+use Rattle.run.specs.Turned.{Outcome, Stops, stop-code, Stays, without-taken, MadeIs, TurnWith, MadeTurn, TakenBy}
 
 full≢neither : (g : Pair) → log-full ≡ neither-above g → ⊥
 full≢neither g z = let c : _≡_ {A = ℕ} 0 1 = cc in omega arith
@@ -29,16 +27,16 @@ stop-positive rules-full h = omega arith
 stop-positive log-full h = omega arith
 stop-positive (neither-above e) h = omega arith
 
-module _ (tab : List ℕ) (P : Problem) (s : RunState) (t : Taken) (u units : ℕ) (st : State) (R : Represents tab st s) (T : TakenBy P s u t units) (o : Turned) where
+module _ (tab : List ℕ) (P : Problem) (s : RunState) (t : Taken) (u units : ℕ) (st : Whole) (R : Represents tab st s) (T : TakenBy P s u t units) (o : Outcome) where
   -- with 512 entries in the log
-  pub turn-full : (Q : Pair → Type 0) (i j : ℕ) → 512 ≤ st .entries → Stays st 5 units i j o → TurnWith Q tab s o (turn P s (suc u))
+  pub turn-full : (Q : Pair → Type 0) (i j : ℕ) → 512 ≤ st .entries → Stops st 5 units i j o → TurnWith Q tab s o (turn P s (suc u))
   unfolding stop-code
   turn-full Q i j full y =
       subst (TurnWith Q tab s o) (sym (turn-log-full P s u t units (T .is) (omega (arith, R .entries))))
-      (y .verdict-is, y .units-are, subst (λ x. Represents tab x s) (sym (y .state)) R, λ g z. absurd (full≢neither g z))
+      (y .verdict-is, y .units-are, held-of R (y .kept), λ g z. absurd (full≢neither g z))
 
   -- equal forms
-  pub turn-settled : (Q : Pair → Type 0) (st′ : State) (i j : ℕ) → st .entries < 512 → same (t .pair .sides .left) (t .pair .sides .right) ≡ true →
+  pub turn-settled : (Q : Pair → Type 0) (st′ : Whole) (i j : ℕ) → st .entries < 512 → same (t .pair .sides .left) (t .pair .sides .right) ≡ true →
       Represents tab st′ (logged (without-taken s t) (t .pair .origin) 0) → Stays st′ 0 units i j o → TurnWith Q tab s o (turn P s (suc u))
   unfolding settled
   turn-settled Q st′ i j few e W y =
@@ -55,13 +53,13 @@ module _ (tab : List ℕ) (P : Problem) (s : RunState) (t : Taken) (u units : �
     turn-made few e v (stop f left) q a = absurd (stop-positive f (sym (a .0) ∙ v))
 
     -- a stop in making it
-    pub turn-not-made : st .entries < 512 → same (t .pair .sides .left) (t .pair .sides .right) ≡ false → (o′ : Turned) → (o′ .verdict ≡ 0 → ⊥) →
-        Stays st (o′ .verdict) (o′ .units) (o′ .m) (o′ .n) o → (p : Paid RunState) → make-rule P s t units ≡ p → MadeIs tab (t .pair .sides) m n o′ p → IsTurn (turn P s (suc u))
+    pub turn-not-made : st .entries < 512 → same (t .pair .sides .left) (t .pair .sides .right) ≡ false → (o′ : Outcome) → (o′ .verdict ≡ 0 → ⊥) →
+        Stops st (o′ .verdict) (o′ .units) (o′ .m) (o′ .n) o → (p : Paid RunState) → make-rule P s t units ≡ p → MadeIs tab (t .pair .sides) m n o′ p → IsTurn (turn P s (suc u))
     turn-not-made few e o′ v y (done s′ left) q a = absurd (v (a .0))
     turn-not-made few e o′ v y (stop f left) q a =
         subst IsTurn (sym (turn-makes P s u t units (T .is) (omega (arith, R .entries)) e ∙ q)) (
           y .verdict-is ∙ a .0,
           y .units-are ∙ a .1,
-          subst (λ x. Represents tab x s) (sym (y .state)) R,
+          held-of R (y .kept),
           λ g z. let h = a .2 g z in (h .0, y .m-is ∙ h .1, y .n-is ∙ h .2),
         )

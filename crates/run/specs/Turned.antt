@@ -2,20 +2,19 @@
 use mathlib.Core.Path.{_≡_}
 use mathlib.Core.Bool.{true, false}
 use mathlib.Core.List.{List, [], _∷_, _++_, map}
-use Prim.Native.Nat.{ℕ, suc, _+_, _≤_}
+use Prim.Native.Nat.{ℕ, suc, _+_, _-_, _≤_}
 use lib.ListN.{length, take}
-use Rattle.terms.specs.Term.{Pair, term-bytes, same, renamed}
-use Rattle.terms.specs.Flat.{Wf}
+use Rattle.terms.specs.Term.{Pair, same, renamed}
 use Rattle.order.specs.Walk.{rank}
 use Rattle.problem.specs.Problem.{rank-of, Problem}
 use Rattle.rewriting.specs.Overlap.{Rule}
 use Rattle.rewriting.specs.Rewrite.{End, complete, neither-above, spent, too-large, rules-full, log-full, Paid, done, stop}
-use Rattle.normaliser.specs.Stored.{Stored}
-use Rattle.completion.specs.Turn.{Origin, Candidate, Entry, State as RunState, Taken, take-pair, normalise-rights, make-rule, turn, Finished, run}
+use Rattle.normaliser.specs.Stored.{Layout, Sides, RuleAt, Stored}
+use Rattle.completion.specs.Turn.{Origin, Candidate, State as RunState, Taken, take-pair, normalise-rights, make-rule, turn, Finished, run}
 use Rattle.completion.specs.Calls.{origin-bytes}
-use Rattle.engine.specs.State.{Fine, Represents}
+use Rattle.engine.specs.State.{Whole, whole, Fine, FineBut, Represents, Held}
 use Rattle.engine.specs.declared.State.{State}
-use Rattle.orient.specs.Oriented.{Sides}
+use Rattle.orient.specs.Oriented.{oriented}
 use Rattle.run.specs.declared.Turned.{Turned}
 use Rattle.run.specs.declared.Ran.{Ran}
 
@@ -28,8 +27,45 @@ stop-code rules-full = 4
 stop-code log-full = 5
 stop-code (neither-above e) = 6
 
+-- an answer, with the bytes that the lent buffers then hold
+pub record Outcome : Type 0 where
+  pub state : Whole
+  pub verdict : ℕ
+  pub units : ℕ
+  pub m : ℕ
+  pub n : ℕ
+
+abbrev pub outcome : Turned → List ℕ → List ℕ → List ℕ → Outcome
+outcome t rules waiting log = record { state = whole (t .state) rules waiting log; verdict = t .verdict; units = t .units; m = t .m; n = t .n }
+
+-- the rules and the log are as they were
+pub record Kept (st r : Whole) : Type 0 where
+  pub rules : r .rules ≡ st .rules
+  pub lens : r .lens ≡ st .lens
+  pub numbers : r .numbers ≡ st .numbers
+  pub count : r .count ≡ st .count
+  pub made : r .made ≡ st .made
+  pub log : r .log ≡ st .log
+  pub entries : r .entries ≡ st .entries
+
+-- the answer has the state st
+pub record Stays (st : Whole) (verdict units m n : ℕ) (o : Outcome) : Type 0 where
+  pub state : o .state ≡ st
+  pub verdict-is : o .verdict ≡ verdict
+  pub units-are : o .units ≡ units
+  pub m-is : o .m ≡ m
+  pub n-is : o .n ≡ n
+
+-- a stop: the answer has the rules and the log of st
+pub record Stops (st : Whole) (verdict units m n : ℕ) (o : Outcome) : Type 0 where
+  pub kept : Kept st (o .state)
+  pub verdict-is : o .verdict ≡ verdict
+  pub units-are : o .units ≡ units
+  pub m-is : o .m ≡ m
+  pub n-is : o .n ≡ n
+
 -- `stopped`
-pub record Stays (st : State) (verdict units m n : ℕ) (o : Turned) : Type 0 where
+pub record Answers (st : State) (verdict units m n : ℕ) (o : Turned) : Type 0 where
   pub state : o .state ≡ st
   pub verdict-is : o .verdict ≡ verdict
   pub units-are : o .units ≡ units
@@ -37,75 +73,92 @@ pub record Stays (st : State) (verdict units m n : ℕ) (o : Turned) : Type 0 wh
   pub n-is : o .n ≡ n
 
 -- what every answer has, of a turn that began with so many entries in the log
-pub record Safe (entries : ℕ) (o : Turned) : Type 0 where
+pub record Safe (entries : ℕ) (o : Outcome) : Type 0 where
   pub fine : o .verdict ≡ 0 → Fine (o .state)
   pub grows : o .verdict ≡ 0 → o .state .entries ≡ entries + 1
   pub left-few : o .m ≤ 120
   pub right-few : o .n ≤ 120
 
 -- step 7 and the log, from the state s, whose last rule is the new one
-abbrev pub FinishedIs : List ℕ → RunState → Origin → Turned → Paid (List Rule) → Type 0
+abbrev pub FinishedIs : List ℕ → RunState → Origin → Outcome → Paid (List Rule) → Type 0
 FinishedIs tab s from o (done rules left) =
     (o .verdict ≡ 0) × (o .units ≡ left)
     × Represents tab (o .state) (record { rules = rules; made = s .made; waiting = s .waiting; log = s .log ++ (record { origin = from; made = s .made } ∷ []) })
 FinishedIs tab s from o (stop e left) = (o .verdict ≡ stop-code e) × (o .units ≡ left) × ((g : Pair) → e ≡ neither-above g → ⊥)
 
--- `finish`
-pub record Finishes (st : State) (tab origin : List ℕ) (units : ℕ) (o : Turned) : Type 0 where
+pub record Finishes (st : Whole) (tab origin : List ℕ) (units : ℕ) (o : Outcome) : Type 0 where
   pub safe : Safe (st .entries) o
   pub answer : (s : RunState) (rules : List Rule) (new : Rule) (from : Origin) → s .rules ≡ rules ++ (new ∷ []) → Represents tab st s → origin ≡ origin-bytes from →
       FinishedIs tab s from o (normalise-rights [] rules new units)
+
+-- `finish`, with any waiting list: the rules of st are in the buffer `next`
+pub record FinishesIn (st : State) (next rules log tab origin : List ℕ) (units : ℕ) (rules′ log′ : List ℕ) (o : Turned) : Type 0 where
+  pub kept : (o .verdict ≡ 0 → ⊥) → (rules′ ≡ rules) × (log′ ≡ log)
+  pub finishes : (waiting : List ℕ) → FineBut 1 (whole st next waiting log) → Finishes (whole st next waiting log) tab origin units (outcome o rules′ waiting log′)
 
 -- `make_rule`: the state of a turn's beginning, without the pair that was taken
 abbrev pub without-taken : RunState → Taken → RunState
 without-taken s t = record { rules = s .rules; made = s .made; waiting = t .waiting; log = s .log }
 
-abbrev pub MadeIs : List ℕ → Pair → ℕ → ℕ → Turned → Paid RunState → Type 0
+abbrev pub MadeIs : List ℕ → Pair → ℕ → ℕ → Outcome → Paid RunState → Type 0
 MadeIs tab e m n o (done s left) = (o .verdict ≡ 0) × (o .units ≡ left) × Represents tab (o .state) s
 MadeIs tab e m n o (stop f left) = (o .verdict ≡ stop-code f) × (o .units ≡ left) × ((g : Pair) → f ≡ neither-above g → (g ≡ e) × (o .m ≡ m) × (o .n ≡ n))
 
-pub record Makes (st : State) (tab left right origin : List ℕ) (units : ℕ) (o : Turned) : Type 0 where
+pub record Makes (st : Whole) (tab left right origin : List ℕ) (units : ℕ) (o : Outcome) : Type 0 where
   pub safe : Safe (st .entries) o
+  pub kept : (o .verdict ≡ 0 → ⊥) → (o .state .rules ≡ st .rules) × (o .state .log ≡ st .log)
   pub answer : (P : Problem) → rank-of (P .symbols) ≡ rank tab → (s : RunState) (t : Taken) → Represents tab st (without-taken s t) →
-      Sides tab left right (t .pair .sides) → origin ≡ origin-bytes (t .pair .origin) → MadeIs tab (t .pair .sides) (length left) (length right) o (make-rule P s t units)
+      Sides 32 tab left right (t .pair .sides) → origin ≡ origin-bytes (t .pair .origin) → MadeIs tab (t .pair .sides) (length left) (length right) o (make-rule P s t units)
 
--- a turn: a stop leaves the state as at its beginning, and with 20 the forms have Q
-abbrev pub TurnWith : (Pair → Type 0) → List ℕ → RunState → Turned → Paid RunState → Type 0
+-- `with_rule`: the taken pair is oriented, and its rule stands alone in a store
+pub record WithRule (st : Whole) (tab new sizes origin : List ℕ) (units : ℕ) (o : Outcome) : Type 0 where
+  pub safe : Safe (st .entries) o
+  pub kept : (o .verdict ≡ 0 → ⊥) → (o .state .rules ≡ st .rules) × (o .state .log ≡ st .log)
+  pub answer : (P : Problem) (s : RunState) (t : Taken) (sides : Pair) (left m n : ℕ) → oriented P (t .pair .sides) units ≡ done sides left → left ≡ units → RuleAt tab new sizes 0 sides →
+      Represents tab st (without-taken s t) → origin ≡ origin-bytes (t .pair .origin) → MadeIs tab (t .pair .sides) m n o (make-rule P s t units)
+
+-- a turn: a stop leaves the rules and the log as at its beginning, and with 20 the forms have Q
+abbrev pub TurnWith : (Pair → Type 0) → List ℕ → RunState → Outcome → Paid RunState → Type 0
 TurnWith Q tab s o (done s′ left) = (o .verdict ≡ 0) × (o .units ≡ left) × Represents tab (o .state) s′
-TurnWith Q tab s o (stop f left) = (o .verdict ≡ stop-code f) × (o .units ≡ left) × Represents tab (o .state) s × ((g : Pair) → f ≡ neither-above g → Q g)
+TurnWith Q tab s o (stop f left) = (o .verdict ≡ stop-code f) × (o .units ≡ left) × Held tab (o .state) s × ((g : Pair) → f ≡ neither-above g → Q g)
 
 -- they are the taken pair, m and n bytes long
-abbrev pub MadeTurn : List ℕ → RunState → Pair → ℕ → ℕ → Turned → Paid RunState → Type 0
+abbrev pub MadeTurn : List ℕ → RunState → Pair → ℕ → ℕ → Outcome → Paid RunState → Type 0
 MadeTurn tab s e m n o p = TurnWith (λ g. (g ≡ e) × (o .m ≡ m) × (o .n ≡ n)) tab s o p
 
 -- what the definition takes, behind its unit
 pub record TakenBy (P : Problem) (s : RunState) (u : ℕ) (t : Taken) (units : ℕ) : Type 0 where
   pub is : take-pair P (s .rules) (s .waiting) u ≡ done t units
 
--- `settled`
-pub record SettledTurn (st : State) (origin : List ℕ) (units : ℕ) (o : Turned) : Type 0 where
+-- the taken pair has equal forms
+pub record SettledTurn (st : Whole) (origin : List ℕ) (units : ℕ) (o : Outcome) : Type 0 where
   pub safe : Safe (st .entries) o
-  pub stays : (o .verdict ≡ 0 → ⊥) → o .state ≡ st
+  pub stays : (o .verdict ≡ 0 → ⊥) → Kept st (o .state)
   pub answer : (tab : List ℕ) (P : Problem) (s : RunState) (t : Taken) (u : ℕ) (c : Candidate) → Represents tab st s → s .waiting ≡ c ∷ (t .waiting) → origin ≡ origin-bytes (t .pair .origin) →
       TakenBy P s u t units → same (t .pair .sides .left) (t .pair .sides .right) ≡ true → TurnWith (λ g. ⊥) tab s o (turn P s (suc u))
 
--- `make`: `rest` is the state without the pair that was taken
-pub record MakesTurn (st rest : State) (tab left right origin : List ℕ) (units : ℕ) (o : Turned) : Type 0 where
+-- `settled`, with any rules
+pub record Settles (st : State) (waiting log origin : List ℕ) (units : ℕ) (waiting′ log′ : List ℕ) (o : Turned) : Type 0 where
+  pub settles : (rules : List ℕ) → Fine (whole st rules waiting log) → SettledTurn (whole st rules waiting log) origin units (outcome o rules waiting′ log′)
+
+-- it has different forms; `rest` is the state without it
+pub record MakesTurn (st rest : Whole) (tab left right origin : List ℕ) (units : ℕ) (o : Outcome) : Type 0 where
   pub safe : Safe (st .entries) o
-  pub stays : (o .verdict ≡ 0 → ⊥) → o .state ≡ st
+  pub stays : (o .verdict ≡ 0 → ⊥) → Kept st (o .state)
   pub answer : (P : Problem) → rank-of (P .symbols) ≡ rank tab → (s : RunState) (t : Taken) (u : ℕ) → Represents tab st s → Represents tab rest (without-taken s t) →
-      Sides tab left right (t .pair .sides) → origin ≡ origin-bytes (t .pair .origin) → TakenBy P s u t units → same (t .pair .sides .left) (t .pair .sides .right) ≡ false →
+      Sides 32 tab left right (t .pair .sides) → origin ≡ origin-bytes (t .pair .origin) → TakenBy P s u t units → same (t .pair .sides .left) (t .pair .sides .right) ≡ false →
       MadeTurn tab s (t .pair .sides) (length left) (length right) o (turn P s (suc u))
 
+-- `make`, whatever waited before the pair was taken
+pub record MakesIn (st rest : State) (rules waiting log tab left right origin : List ℕ) (units : ℕ) (rules′ waiting′ log′ : List ℕ) (o : Turned) : Type 0 where
+  pub makes : (before : List ℕ) → MakesTurn (whole st rules before log) (whole rest rules waiting log) tab left right origin units (outcome o rules′ waiting′ log′)
+
 -- the two forms that stand in the buffers
-pub record Shown (tab L R : List ℕ) (m n : ℕ) (e : Pair) : Type 0 where
-  pub left-bytes : take m L ≡ term-bytes (e .left)
-  pub right-bytes : take n R ≡ term-bytes (e .right)
-  pub left-wf : Wf 32 tab (e .left)
-  pub right-wf : Wf 32 tab (e .right)
+abbrev pub Shown : List ℕ → List ℕ → List ℕ → ℕ → ℕ → Pair → Type 0
+Shown tab L R m n e = Sides 32 tab (take m L) (take n R) e
 
 -- they stand in the buffers
-abbrev pub TurnedIs : List ℕ → RunState → List ℕ → List ℕ → Turned → Paid RunState → Type 0
+abbrev pub TurnedIs : List ℕ → RunState → List ℕ → List ℕ → Outcome → Paid RunState → Type 0
 TurnedIs tab s L R o p = TurnWith (λ g. Shown tab L R (o .m) (o .n) g) tab s o p
 
 pub record Buffers (L R L′ R′ : List ℕ) : Type 0 where
@@ -113,9 +166,9 @@ pub record Buffers (L R L′ R′ : List ℕ) : Type 0 where
   pub right-kept : length R′ ≡ length R
 
 -- `turn_waiting`
-pub record WaitingTurn (st : State) (tab L R L′ R′ : List ℕ) (u : ℕ) (o : Turned) : Type 0 where
+pub record WaitingTurn (st : Whole) (tab L R L′ R′ : List ℕ) (u : ℕ) (o : Outcome) : Type 0 where
   pub safe : Safe (st .entries) o
-  pub stays : (o .verdict ≡ 0 → ⊥) → o .state ≡ st
+  pub stays : (o .verdict ≡ 0 → ⊥) → Kept st (o .state)
   pub buffers : Buffers L R L′ R′
   pub answer : (P : Problem) → rank-of (P .symbols) ≡ rank tab → (s : RunState) → Represents tab st s → TurnedIs tab s L′ R′ o (turn P s (suc u))
 
@@ -126,44 +179,53 @@ pub record Given (tab inputs lens : List ℕ) (count : ℕ) (P : Problem) : Type
   pub counted : count ≡ length (P .equations)
 
 -- `turn_scan`, where nothing waits, and `turn`
-pub record ScanTurn (st : State) (tab inputs lens : List ℕ) (count : ℕ) (L R L′ R′ : List ℕ) (u : ℕ) (o : Turned) : Type 0 where
+pub record ScanTurn (st : Whole) (tab inputs lens : List ℕ) (count : ℕ) (L R L′ R′ : List ℕ) (u : ℕ) (o : Outcome) : Type 0 where
   pub safe : Safe (st .entries) o
-  pub stays : (o .verdict ≡ 0 → ⊥) → o .state ≡ st
+  pub stays : (o .verdict ≡ 0 → ⊥) → Kept st (o .state)
   pub buffers : Buffers L R L′ R′
   pub answer : (P : Problem) → Given tab inputs lens count P → (s : RunState) → Represents tab st s → TurnedIs tab s L′ R′ o (turn P s (suc u))
 
-pub record WholeTurn (st : State) (tab inputs lens : List ℕ) (count : ℕ) (L R L′ R′ : List ℕ) (o : Turned) : Type 0 where
+pub record WholeTurn (st : Whole) (tab inputs lens : List ℕ) (count : ℕ) (L R L′ R′ : List ℕ) (o : Outcome) : Type 0 where
   pub safe : Safe (st .entries) o
-  pub stays : (o .verdict ≡ 0 → ⊥) → o .state ≡ st
+  pub stays : (o .verdict ≡ 0 → ⊥) → Kept st (o .state)
   pub buffers : Buffers L R L′ R′
   pub answer : (P : Problem) → Given tab inputs lens count P → (s : RunState) → Represents tab st s → TurnedIs tab s L′ R′ o (turn P s (st .units))
 
 -- the state with other units
 abbrev pub with-units : State → ℕ → State
 with-units st u = record {
-  rules = st .rules;
   lens = st .lens;
   numbers = st .numbers;
   count = st .count;
   made = st .made;
-  waiting = st .waiting;
   lengths = st .lengths;
   origins = st .origins;
   waits = st .waits;
-  log = st .log;
   entries = st .entries;
   units = u;
 }
 
--- `run`: the last state, the end, the units paid, and with 20 the two forms
-pub record RanIs (tab : List ℕ) (f : Finished) (o : Ran) : Type 0 where
-  pub state : Represents tab (o .state) (f .state)
+-- `ended`
+pub record Ends (t : Turned) (budget : ℕ) (left right : List ℕ) (o : Ran) : Type 0 where
+  pub state : o .state ≡ t .state
+  pub verdict : o .verdict ≡ t .verdict
+  pub paid : o .paid ≡ budget - t .units
+  pub left-is : o .left ≡ left
+  pub right-is : o .right ≡ right
+  pub m : o .m ≡ t .m
+  pub n : o .n ≡ t .n
+
+-- `run`: the rules and the log of the last state, the end, the units paid, and with 20 the two forms
+pub record RanIs (tab : List ℕ) (f : Finished) (o : Ran) (last : Whole) : Type 0 where
+  pub state : Held tab last (f .state)
   pub end : o .verdict ≡ stop-code (f .end)
   pub paid : o .paid ≡ f .units
   pub forms : (g : Pair) → f .end ≡ neither-above g → Shown tab (o .left) (o .right) (o .m) (o .n) g
 
-pub record Runs (tab inputs lens : List ℕ) (count budget : ℕ) (o : Ran) : Type 0 where
-  pub fine : Fine (o .state)
+pub record Runs (tab inputs lens : List ℕ) (count budget : ℕ) (o : Ran) (last : Whole) : Type 0 where
+  pub rules-fit : Layout [] (last .rules) (last .lens) (last .count)
+  pub live : last .count ≤ 32
+  pub log-few : last .entries ≤ 512
   pub left-few : o .m ≤ 120
   pub right-few : o .n ≤ 120
-  pub answer : (P : Problem) → Given tab inputs lens count P → budget ≡ P .budget → RanIs tab (run P) o
+  pub answer : (P : Problem) → Given tab inputs lens count P → budget ≡ P .budget → RanIs tab (run P) o last

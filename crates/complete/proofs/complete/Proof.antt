@@ -1,3 +1,5 @@
+-- `complete`: a lemma for each return: short buffer, refused problem, written result; demand 3 follows from each (`delivers`). Assumes nothing.
+-- Read first: specs/Answer (told, counted, Delivery), completion/specs/Calls (complete-call), proofs/Completing.
 use Rattle.complete.proofs.Completing.{accepted-needs, answers-short, answers-refused, answers-written, delivers}
 use native.Mathlib.Omega.{arith}
 use borrow.Author.Needs.{needs}
@@ -8,38 +10,30 @@ use Rattle.complete.proofs.complete.Lts as lts
 use Rattle.complete.proofs.accepted.Reads as accepted-reads
 use Rattle.problem.proofs.parse.Reads as parse-reads
 
--- src/lib.rt:79:9
 returns : tie.Need-returns
 returns c =
     let a = answers-short _ _ (c .if1 .taken) in (a .answer, (a .bytes, delivers _ _ _ _ a))
 
--- src/lib.rt:84:11
 parse-requires : tie.Need-parse-requires
 parse-requires c κs = search needs
 
--- src/lib.rt:85:35
 enum-known-number : tie.Need-enum-known-number
 enum-known-number c = search needs
 
--- src/lib.rt:87:13
 enum-known-table-end : tie.Need-enum-known-table-end
 enum-known-table-end c = search needs
 
--- src/lib.rt:91:17
 accepted-requires : tie.Need-accepted-requires
 accepted-requires c κs =
     let q = accepted-needs _ _ _ _ (rw (c .before .before .table-end .given .1) at (c .before .before .before .before .parse .ensures .1)) in ((q .low, q .within, q .small), (q .few, q .budget, (let p = c .before .before .before .before .before .if1 .left in omega arith)))
 
--- src/lib.rt:73:1
 returns-2 : tie.Need-returns-2
 returns-2 c =
     let a = answers-refused _ _ (c .before .before .before .before .if1 .left) _ _ (rw (c .before .number .given .1) at (c .before .before .before .parse .ensures .1)) in (a .answer, (a .bytes, delivers _ _ _ _ a))
 
--- src/lib.rt:73:1
 same-length : tie.Need-same-length
 same-length c = search needs
 
--- src/lib.rt:73:1
 returns-3 : tie.Need-returns-3
 returns-3 c =
     let q = rw (c .before .before .before .before .before .table-end .given .1) at (c .before .before .before .before .before .before .before .parse .ensures .1) in let a = answers-written _ _ (c .before .before .before .before .before .before .before .before .if1 .left) (q .0) (q .1 .is) _ _ (c .before .before .accepted .ensures (q .0) (q .1)) in (a .answer, (a .bytes, delivers _ _ _ _ a))

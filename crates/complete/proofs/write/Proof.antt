@@ -1,7 +1,9 @@
-use Rattle.complete.proofs.Completing.{write-run}
-use native.Mathlib.Omega.{arith}
-use mathlib.Core.Path.{_≡_, refl}
+-- `write`: the state, the units and the two forms of the run are what `report::of_state` writes, by `write-run`. Assumes nothing.
+-- Read first: specs/Answer (WritesRun), report/specs/Report (OfState), proofs/Completing.
 use lib.ListN.{length}
+use mathlib.Core.Path.{_≡_, refl}
+use native.Mathlib.Omega.{arith}
+use Rattle.complete.proofs.Completing.{write-run}
 use borrow.Author.Needs.{needs}
 use Rattle.complete.proofs.write.Statement.{statement}
 use Rattle.complete.proofs.write.Tie as tie
@@ -10,49 +12,39 @@ use Rattle.complete.proofs.write.Lts as lts
 use Rattle.complete.proofs.end_number.Reads as end-number-reads
 use Rattle.report.proofs.of_state.Reads as of-state-reads
 
--- src/lib.rt:46:9
 end-number-requires : tie.Need-end-number-requires
 end-number-requires c κs = search needs
 
--- src/lib.rt:48:44
 sub-of-state : tie.Need-sub-of-state
 sub-of-state c = search needs
 
--- src/lib.rt:48:44
 part-of-state-start : tie.Need-part-of-state-start
 part-of-state-start c = search needs
 
--- src/lib.rt:48:44
 part-of-state-end : tie.Need-part-of-state-end
 part-of-state-end c =
-    let n : length (c .before .before .before .before .before .before .args .ran .left) ≡ 120 = search needs in let p = c .before .before .before .before .before .before .pre .0 .1 in omega arith
+    let n : length (c .before .before .before .before .before .before .before .before .args .ran .left) ≡ 120 = search needs in let p = c .before .before .before .before .before .before .before .before .pre .1 .0 in omega arith
 
--- src/lib.rt:48:57
 sub-of-state-2 : tie.Need-sub-of-state-2
 sub-of-state-2 c = search needs
 
--- src/lib.rt:48:57
 part-of-state-start-2 : tie.Need-part-of-state-start-2
 part-of-state-start-2 c = search needs
 
--- src/lib.rt:48:57
 part-of-state-end-2 : tie.Need-part-of-state-end-2
 part-of-state-end-2 c =
-    let n : length (c .before .before .before .before .before .before .before .before .args .ran .right) ≡ 120 = search needs in let p = c .before .before .before .before .before .before .before .before .pre .0 .2 in omega arith
+    let n : length (c .before .before .before .before .before .before .before .before .before .before .args .ran .right) ≡ 120 = search needs in let p = c .before .before .before .before .before .before .before .before .before .before .pre .1 .1 in omega arith
 
--- src/lib.rt:48:5
 of-state-requires : tie.Need-of-state-requires
 of-state-requires c κs =
-    (c .before .before .before .before .before .before .before .before .before .before .pre .1, (c .before .before .before .before .before .before .before .before .before .before .pre .0 .0, (let p = c .before .before .before .before .before .before .before .before .before .before .pre .0 .1 in search needs), (let p = c .before .before .before .before .before .before .before .before .before .before .pre .0 .2 in search needs)))
+    (c .before .before .before .before .before .before .before .before .before .before .before .before .pre .1 .2, (c .before .before .before .before .before .before .before .before .before .before .before .before .pre .0, ((let p = c .before .before .before .before .before .before .before .before .before .before .before .before .pre .1 .0 in search needs), (let p = c .before .before .before .before .before .before .before .before .before .before .before .before .pre .1 .1 in search needs))))
 
--- src/lib.rt:37:1
 same-length : tie.Need-same-length
 same-length c = search needs
 
--- src/lib.rt:37:1
 returns : tie.Need-returns
 returns c =
-    write-run _ _ _ _ _ _ _ (c .before .before .before .before .before .before .before .before .before .end-number .ensures) refl refl (c .before .before .of-state .ensures)
+    write-run _ _ _ _ _ _ _ _ _ (c .before .before .before .before .before .before .before .before .before .end-number .ensures) refl refl (c .before .before .of-state .ensures)
 
 pub write-spec : {M : Type 1} → statement M
 write-spec =

@@ -1,3 +1,5 @@
+-- `add_entry`: the eleven bytes that are pasted are those of the entry's field 13, by `entry-list`. Assumes nothing.
+-- Read first: specs/Steps (entry-bytes), proofs/Changing.
 use Rattle.engine.proofs.Changing.{entry-list}
 use Rattle.store.specs.Slots.{patched}
 use mathlib.Core.Path.{_∙_, ap}

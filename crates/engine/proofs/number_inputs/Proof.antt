@@ -1,3 +1,5 @@
+-- `number_inputs`: the invariant is that the first i origins are those of the inputs 1 to i; n - i falls. Assumes nothing.
+-- Read first: specs/Steps (numbered), proofs/Beginning (Numbering).
 use Rattle.engine.proofs.Beginning.{Numbering, numbering-start, numbering-more, numbering-end}
 use native.Mathlib.Omega.{arith}
 use Prim.Native.Nat.{_-_}

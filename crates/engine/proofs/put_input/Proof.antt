@@ -1,3 +1,5 @@
+-- `put_input`: the six bytes that are pasted are those of the origin "waiting input", by `input-bytes`. Assumes nothing.
+-- Read first: `put_input` in src/lib.rt, completion/specs/Calls (origin-bytes), proofs/Beginning.
 use Rattle.engine.proofs.Beginning.{input-bytes}
 use Rattle.store.specs.Slots.{patched}
 use native.Mathlib.Omega.{arith}

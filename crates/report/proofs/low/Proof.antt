@@ -1,4 +1,5 @@
--- `low`: Those passed are below 160. Assumes nothing.
+-- `low`: the invariant is that the bytes from i on are low exactly if all are, those passed being below 160; the bytes to come fall. Assumes nothing.
+-- Read first: specs/Fields (low), proofs/Lowness (Looking).
 use Prim.Native.Nat.{_-_}
 use lib.ListN.{length}
 use Rattle.report.proofs.Lowness.{Looking, looking-start, looking-more, looking-no, looking-end}

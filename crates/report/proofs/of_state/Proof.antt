@@ -1,6 +1,8 @@
--- `of_state`: The last state is what the writer is lent. Assumes nothing.
-use mathlib.Core.Path.{_≡_}
+-- `of_state`: the arrays of the last state are what `report` asks for (`lent-of`), and its promise is one of that state (`of-state`). Assumes
+-- nothing.
+-- Read first: specs/Report (OfState), proofs/Stated.
 use lib.ListN.{length}
+use mathlib.Core.Path.{_≡_}
 use Rattle.report.proofs.Stated.{lent-of, of-state}
 use borrow.Author.Needs.{needs}
 use Rattle.report.proofs.of_state.Statement.{statement}
@@ -9,23 +11,24 @@ use Rattle.report.proofs.of_state.Reads as reads
 use Rattle.report.proofs.of_state.Lts as lts
 use Rattle.report.proofs.report.Reads as report-reads
 
+slice-aggregate-report : tie.Need-slice-aggregate-report
+slice-aggregate-report c = search needs
+
+slice-aggregate-report-2 : tie.Need-slice-aggregate-report-2
+slice-aggregate-report-2 c = search needs
+
 report-requires : tie.Need-report-requires
 report-requires c κs =
-    let n : length (c .before .before .before .before .before .before .before .before .before .before .before .before .args .state .numbers) ≡ 33 = search needs in
-    let l : length (c .before .before .before .before .before .before .before .before .before .before .before .before .args .state .log) ≡ 5632 = search needs in
-    (c .before .before .before .before .before .before .before .before .before .before .before .before .pre .0, lent-of (c .before .before .before .before .before .before .before .before .before .before .before .before .args .state) _ _ n l (c .before .before .before .before .before .before .before .before .before .before .before .before .pre .1 .0) (c .before .before .before .before .before .before .before .before .before .before .before .before .pre .1 .1) (c .before .before .before .before .before .before .before .before .before .before .before .before .pre .1 .2))
+    let n : length (c .before .before .before .before .before .before .before .before .before .before .args .state .numbers) ≡ 33 = search needs in
+    (c .before .before .before .before .before .before .before .before .before .before .pre .0, lent-of (c .before .before .before .before .before .before .before .before .before .before .args .state) _ _ _ _ n (c .before .before .before .before .before .before .before .before .before .before .pre .1 .0 .3) (c .before .before .before .before .before .before .before .before .before .before .pre .1 .0 .0) (c .before .before .before .before .before .before .before .before .before .before .pre .1 .0 .1) (c .before .before .before .before .before .before .before .before .before .before .pre .1 .0 .2) (c .before .before .before .before .before .before .before .before .before .before .pre .1 .1 .0) (c .before .before .before .before .before .before .before .before .before .before .pre .1 .1 .1))
+
+same-length : tie.Need-same-length
+same-length c = search needs
 
 returns : tie.Need-returns
-returns c = of-state (c .before .before .before .before .before .before .before .before .before .before .before .before .before .before .before .args .state) _ _ _ _ _ _ _ (c .before .before .report .ensures)
+returns c = of-state (c .before .before .before .before .before .before .before .before .before .before .before .before .before .args .state) _ _ _ _ _ _ _ _ _ (c .before .before .report .ensures)
 
 pub of-state-spec : {M : Type 1} → statement M
 of-state-spec =
     tie.close
-    (tie.spec
-    (λ c. search needs)
-    (λ c. search needs)
-    (λ c. search needs)
-    (λ c. search needs)
-    report-requires
-    (λ c. search needs)
-    returns)
+    (tie.spec slice-aggregate-report slice-aggregate-report-2 report-requires same-length returns)

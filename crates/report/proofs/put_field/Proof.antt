@@ -1,4 +1,5 @@
--- `put_field`: A head, then the contents. Assumes nothing.
+-- `put_field`: a head and the contents pasted behind it are the field's bytes, by `puts-field`. Assumes nothing.
+-- Read first: specs/Fields (Puts, tagged), terms/specs/Base (field-bytes), proofs/Putting.
 use mathlib.Core.Path.{refl}
 use Rattle.report.proofs.Putting.{puts-field, puts-pasted}
 use borrow.Author.Needs.{needs}

@@ -1,4 +1,5 @@
--- `put_head`: A tag and a length. Assumes nothing.
+-- `put_head`: one byte, then a number of two bytes, is a field's head, by `puts-head`. Assumes nothing.
+-- Read first: specs/Fields (Puts), proofs/Putting.
 use mathlib.Core.Path.{_∙_}
 use Rattle.report.proofs.Putting.{puts-head, puts-length}
 use lib.ListN.{length-set}

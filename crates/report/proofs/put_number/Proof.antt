@@ -1,4 +1,5 @@
--- `put_number`: A number is put from its last byte to its first; what is still to put is a number too. Assumes nothing.
+-- `put_number`: the invariant is that the rest m of the number, put in the `left` bytes still free, gives the whole; `left` falls. Assumes nothing.
+-- Read first: specs/Fields (Puts), proofs/Numbering (Numbering).
 use Rattle.report.proofs.Numbering.{Numbering, numbering-start, numbering-more, numbering-end}
 use borrow.Author.Needs.{needs}
 use Rattle.report.proofs.put_number.Statement.{statement}

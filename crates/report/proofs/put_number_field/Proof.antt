@@ -1,4 +1,5 @@
--- `put_number_field`: A head, then a number. Assumes nothing.
+-- `put_number_field`: a head and a number behind it are the field's bytes, by `puts-field`. Assumes nothing.
+-- Read first: specs/Fields (Puts, tagged), terms/specs/Base (field-bytes), proofs/Putting.
 use Rattle.report.proofs.Putting.{puts-field}
 use borrow.Author.Needs.{needs}
 use Rattle.report.proofs.put_number_field.Statement.{statement}

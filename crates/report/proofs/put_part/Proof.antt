@@ -1,4 +1,5 @@
--- `put_part`: The part that was pasted. Assumes nothing.
+-- `put_part`: the n bytes from a on are what was pasted, by `puts-part`. Assumes nothing.
+-- Read first: specs/Fields (Puts), proofs/Putting.
 use Rattle.report.proofs.Putting.{puts-part}
 use borrow.Author.Needs.{needs}
 use Rattle.report.proofs.put_part.Statement.{statement}

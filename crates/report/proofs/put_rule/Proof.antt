@@ -1,4 +1,5 @@
--- `put_rule`: A head, a number and two parts of a slot. Assumes nothing.
+-- `put_rule`: head, number and the two sides of slot k are field 12, of at most 245 bytes, by `puts-rule`. Assumes nothing.
+-- Read first: specs/Fields (slot-field, PutsSome), proofs/Putting.
 use native.Mathlib.Omega.{arith}
 use Rattle.report.proofs.Putting.{left-short, right-short, puts-rule}
 use borrow.Author.Needs.{needs}

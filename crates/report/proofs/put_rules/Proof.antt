@@ -1,6 +1,7 @@
--- `put_rules`: One field a slot; what is still to put is the fields of the other slots. Assumes nothing.
+-- `put_rules`: the invariant is that the fields of the slots from i on, put at a, give the whole list; count - i falls. Assumes nothing.
+-- Read first: specs/Fields (slot-fields, PutsSome), proofs/Listing (Listing).
 use Prim.Native.Nat.{_-_}
-use Rattle.report.proofs.Putting.{layout-one}
+use Rattle.normaliser.proofs.Choosing.{layout-below}
 use Rattle.report.proofs.Listing.{Listing, listing-start, listing-more, listing-end}
 use borrow.Author.Needs.{needs}
 use Rattle.report.proofs.put_rules.Statement.{statement}
@@ -19,7 +20,7 @@ loop-holds : tie.Need-loop-holds Inv-loop μ-loop
 loop-holds c = listing-start _ _ _ _ _ _
 
 put-rule-requires : tie.Need-put-rule-requires Inv-loop μ-loop
-put-rule-requires c κs = (search needs, (layout-one _ _ _ _ (c .before .before .before .before .before .before .before .pre .1 .0) (search needs), search needs))
+put-rule-requires c κs = (search needs, (layout-below _ _ _ _ _ (c .before .before .before .before .before .before .before .pre .1 .0) (search needs), search needs))
 
 loop-again : tie.Need-loop-again Inv-loop μ-loop
 loop-again c = listing-more _ _ _ _ _ _ (c .before .before .before .before .before .before .before .before .before .before .pre .0) _ _ _ (c .before .before .before .before .before .loop .inv) _ _ (c .before .before .before .before .loop-test .taken) (c .before .before .put-rule .ensures)

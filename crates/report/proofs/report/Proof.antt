@@ -1,4 +1,6 @@
--- `report`: The fields one behind the other are the bytes of the run. Assumes nothing.
+-- `report`: the five parts fit the 13,726 bytes and stand one behind the other (`wrote-all`); they are the run's result (`reported`). Assumes
+-- nothing.
+-- Read first: specs/Report (Reports), proofs/Whole, proofs/Meaning.
 use Rattle.report.proofs.Whole.{wrote-all}
 use Rattle.report.proofs.Meaning.{reported}
 use borrow.Author.Needs.{needs}

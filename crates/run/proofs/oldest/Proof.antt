@@ -1,38 +1,33 @@
-use Rattle.run.proofs.Whole.{six-front}
-use mathlib.Core.Path.{_≡_}
-use lib.ListN.{length}
+-- `oldest`: the six bytes read one by one are the first six, by `six-front`. Assumes nothing.
+-- Read first: `oldest` in src/lib.rt, proofs/Whole.
 use native.Mathlib.Omega.{arith}
+use lib.ListN.{length}
+use mathlib.Core.Path.{_≡_}
+use Rattle.run.proofs.Whole.{six-front}
 use borrow.Author.Needs.{needs}
 use Rattle.run.proofs.oldest.Statement.{statement}
 use Rattle.run.proofs.oldest.Tie as tie
 use Rattle.run.proofs.oldest.Reads as reads
 use Rattle.run.proofs.oldest.Lts as lts
 
--- src/lib.rt:124:6
 array-read-t5 : tie.Need-array-read-t5
 array-read-t5 c = search needs
 
--- src/lib.rt:124:12
 array-read-t8 : tie.Need-array-read-t8
 array-read-t8 c = search needs
 
--- src/lib.rt:124:18
 array-read-t11 : tie.Need-array-read-t11
 array-read-t11 c = search needs
 
--- src/lib.rt:124:24
 array-read-t14 : tie.Need-array-read-t14
 array-read-t14 c = search needs
 
--- src/lib.rt:124:30
 array-read-t17 : tie.Need-array-read-t17
 array-read-t17 c = search needs
 
--- src/lib.rt:124:36
 array-read-t20 : tie.Need-array-read-t20
 array-read-t20 c = search needs
 
--- src/lib.rt:120:1
 returns : tie.Need-returns
 returns c =
     let n : length (c .before .args .st .origins) ≡ 198 = search needs in six-front (c .before .args .st .origins) (omega arith)

@@ -1,0 +1,58 @@
+-- `settled`: the log is full (`settled-full`), or the pair is taken and logged without a rule (`settled-done`). Assumes nothing.
+-- Read first: specs/Turned (SettledTurn), proofs/Parts.
+use native.Mathlib.Omega.{arith}
+use mathlib.Core.Path.{refl}
+use Rattle.run.proofs.Keeping.{stays, stops}
+use Rattle.run.proofs.Parts.{settled-full, settled-done, one-behind}
+use borrow.Author.Needs.{needs}
+use Rattle.run.proofs.rule.settled.Statement.{statement}
+use Rattle.run.proofs.rule.settled.Tie as tie
+use Rattle.run.proofs.rule.settled.Reads as reads
+use Rattle.run.proofs.rule.settled.Lts as lts
+use Rattle.engine.proofs.State.take.Reads as take-reads
+use Rattle.engine.proofs.State.with_entry.Reads as with-entry-reads
+use Rattle.run.proofs.stopped.Reads as stopped-reads
+
+stopped-requires : tie.Need-stopped-requires
+stopped-requires c κs = search needs
+
+returns : tie.Need-returns
+returns c =
+    record { settles = λ rules fine. settled-full _ _ _ _ (c .before .if1 .taken) (stops (c .stopped .ensures) _ _ _ _ _ _ refl refl) }
+
+take-requires : tie.Need-take-requires
+take-requires c κs = search needs
+
+with-entry-requires : tie.Need-with-entry-requires
+with-entry-requires c κs =
+    (let p = c .before .before .before .before .before .if1 .left in let q = c .before .before .before .take .ensures .entries in omega arith, c .before .before .before .before .before .before .before .before .before .pre .2)
+
+stopped-requires-2 : tie.Need-stopped-requires-2
+stopped-requires-2 c κs = search needs
+
+same-length : tie.Need-same-length
+same-length c = search needs
+
+same-length-2 : tie.Need-same-length-2
+same-length-2 c = search needs
+
+returns-2 : tie.Need-returns-2
+returns-2 c =
+    record {
+      settles = λ rules fine.
+          let K = c .before .before .before .before .before .before .before .take .ensures .taken rules (c .before .before .before .before .before .before .before .before .before .before .before .before .before .args .log .now) fine in
+          settled-done _ _ _ _ (c .before .before .before .before .before .before .before .before .before .if1 .left) _ _ K (c .before .before .before .with-entry .ensures .logged rules _ (one-behind _ (K .fine))) (stays (c .stopped2 .ensures) _ _ _);
+    }
+
+pub settled-spec : {M : Type 1} → statement M
+settled-spec =
+    tie.close
+    (tie.spec
+    stopped-requires
+    returns
+    take-requires
+    with-entry-requires
+    stopped-requires-2
+    same-length
+    same-length-2
+    returns-2)
