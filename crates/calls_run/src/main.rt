@@ -1,63 +1,48 @@
-// Runs the public calls on document 01's worked instances and edges, and prints a line for each problem.
-mod build;
-mod edges;
+// Runs the public calls on the cases of standard input, document 01's worked instances and edges, and prints a line for each.
+// A case is a byte that says what is asked, the length of its name, the length of its problem in two bytes, the name and the problem;
+// rust/src/bin/call_cases.rs writes them.
 mod print;
 
-// Over e, i and *, or 0, s and +: symbols 0, 1 and 2 with 0, 1 and 2 arguments and the ranks 0, 2 and 1.
-fn with_sides(name: &[u8], sides: &[u8], low: u8) {
-    let mut text = [0u8; 512];
-    let s = build::start(&mut text);
-    let n = build::equation(&mut text, s, low, sides);
-    if n <= 512 {
-        print::calls_on(name, &text[0..n]);
+fn line(asked: u8, name: &[u8], problem: &[u8]) {
+    print::print(name);
+    match asked {
+        0 => print::calls_on(problem),
+        1 => print::later_parts(problem),
+        _ => print::short_buffer(problem),
+    }
+    print::print(b"\n");
+}
+
+// The end of the case that starts at this place, after printing its line; a case that is cut is left out.
+fn case(text: &[u8], at: usize) -> usize {
+    if at >= text.len() {
+        return at;
+    }
+    if text.len() - at < 4 {
+        return text.len();
+    }
+    let name = at + 4;
+    let problem = name + terms::wide(text[at + 1]);
+    let end = problem + 256 * terms::wide(text[at + 2]) + terms::wide(text[at + 3]);
+    if end <= text.len() {
+        line(text[at], &text[name..problem], &text[problem..end]);
+    }
+    end
+}
+
+fn cases(text: &[u8]) {
+    let mut at = 0;
+    while at < text.len() {
+        let end = case(text, at);
+        if end <= at {
+            return;
+        }
+        at = end;
     }
 }
 
-fn instances() {
-    with_sides(b"instance 1", b"\x02\x80\x81\x02\x81\x80", 6);
-    with_sides(b"instance 2", b"\x01\x02\x80\x81\x02\x01\x81\x01\x80", 9);
-    with_sides(
-        b"instance 3",
-        b"\x02\x02\x80\x81\x82\x02\x80\x02\x81\x82",
-        10,
-    );
-    with_sides(b"instance 4", b"\x01\x80\x81", 3);
-    with_sides(b"instance 7", b"\x80\x01\x80", 3);
-    with_sides(
-        b"instance 8",
-        b"\x02\x80\x02\x00\x01\x81\x02\x01\x82\x02\x00\x80",
-        12,
-    );
-}
-
-fn orders() {
-    with_sides(b"right above", b"\x80\x01\x80", 3);
-    with_sides(b"identical", b"\x02\x80\x81\x02\x80\x81", 6);
-    with_sides(b"arguments", b"\x02\x01\x80\x81\x02\x80\x01\x81", 8);
-    with_sides(b"renamed", b"\x02\x8f\x83\x02\x83\x8e", 6);
-}
-
-fn terms_refused() {
-    with_sides(b"no symbol", b"\x05\x80", 2);
-    with_sides(b"no variable", b"\x80\x90", 2);
-    with_sides(b"left cut", b"\x02\x80", 2);
-    with_sides(b"right missing", b"\x80", 1);
-    with_sides(b"byte behind", b"\x80\x80\x80", 3);
-    with_sides(b"no contents", b"", 0);
-}
-
 fn main() {
-    instances();
-    orders();
-    terms_refused();
-    edges::positions();
-    edges::headers();
-    edges::tables();
-    edges::budgets();
-    edges::counts();
-    edges::long_sides();
-    edges::long_problems();
-    edges::doublings();
-    edges::clashes();
-    edges::cycles();
+    let mut text = [0u8; 32768];
+    let n = io::read_full(0, &mut text);
+    cases(&text[..n]);
 }

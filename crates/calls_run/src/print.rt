@@ -5,11 +5,11 @@ pub fn print(text: &[u8]) {
     io::write_all(STDOUT_FILENO, text);
 }
 
-pub fn number(n: usize) {
+fn number(n: usize) {
     io::print_decimal(STDOUT_FILENO, n as u64);
 }
 
-pub fn bytes(s: &[u8]) {
+fn bytes(s: &[u8]) {
     let mut i = 0;
     while i < s.len() {
         io::print_hex(STDOUT_FILENO, terms::wide(s[i]) as u64, 2);
@@ -58,19 +58,25 @@ pub fn short_buffer(problem: &[u8]) {
     }
 }
 
-pub fn part(problem: &[u8], position: usize) {
+fn part(problem: &[u8], position: usize) {
     print(b", subterm ");
     number(position);
     print(b" ");
     bytes(calls::subterm(problem, position));
 }
 
-// A line with the answers of compare, unify and subterm at the first two positions.
-pub fn calls_on(name: &[u8], problem: &[u8]) {
-    print(name);
+// The answers of compare, unify and subterm at the first two positions.
+pub fn calls_on(problem: &[u8]) {
     compared(problem);
     unified(problem);
     part(problem, 0);
     part(problem, 1);
-    print(b"\n");
+}
+
+// The answers of subterm at four more positions.
+pub fn later_parts(problem: &[u8]) {
+    part(problem, 2);
+    part(problem, 3);
+    part(problem, 4);
+    part(problem, 5);
 }

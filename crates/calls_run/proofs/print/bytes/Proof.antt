@@ -1,4 +1,5 @@
--- `calls_run::print::bytes` meets its contract. Assumes nothing.
+-- `bytes` makes no promise: the loop stays within the bytes, and those to come fall. Assumes nothing.
+-- Read first: `bytes` in src/print.rt.
 use lib.ListN.{length}
 use Prim.Native.Nat.{_-_, _≤_}
 use borrow.Author.Needs.{needs}
