@@ -1,12 +1,12 @@
 -- A pair in a slot is compared, the input equations unroll one by one, and overlaps then inputs are the definition's `scan`. Assumes nothing.
 -- Read first: specs/Walk (SlotWalk, of-inputs, Scanned), completion/specs/Turn (scan), proofs/Going, proofs/Places.
 use mathlib.Core.Path.{_≡_, refl, sym, _∙_, ap, subst}
-use mathlib.Core.List.{List, [], _∷_, _++_, map}
-use Prim.Native.Nat.{ℕ, zero, suc, _+_, _-_, _*_, _<_, _≤_}
+use mathlib.Core.List.{List, [], _∷_, _++_}
+use Prim.Native.Nat.{ℕ, zero, suc, _+_, _*_, _<_, _≤_}
 use native.Mathlib.Omega.{arith}
 use native.Mathlib.Numerals.{add-one}
-use lib.ListN.{length, getD, take, drop, length-append, length-drop}
-use lib.Seq.{length-take-le, take-at, drop-cons}
+use lib.ListN.{length, getD, take, drop, length-drop, drop-of-length-le}
+use lib.Seq.{length-take-le, drop-cons}
 use Rattle.terms.specs.Base.{number-bytes}
 use Rattle.terms.proofs.Flats.{widen}
 use Rattle.rewriting.specs.Overlap.{Rule, all-places}
@@ -15,46 +15,35 @@ use Rattle.problem.specs.Problem.{Equation}
 use Rattle.completion.specs.Turn.{scanned-input, Candidate, candidates, scan-inputs, scan}
 use Rattle.completion.specs.Calls.{origin-bytes}
 use Rattle.completion.proofs.Limits.{length-candidates}
-use Rattle.normaliser.specs.Stored.{Layout, RuleAt, Stored}
-use Rattle.store.specs.Slots.{patched, Room as SlotRoom}
+use Rattle.normaliser.specs.Stored.{Layout, RuleAt}
+use Rattle.store.specs.Slots.{patched}
+use Rattle.store.proofs.Patching.{length-patched, patched-here}
+use Rattle.store.proofs.Listing.{short-at}
 use Rattle.scan.specs.declared.Walk.{Walk}
 use Rattle.scan.specs.Walk.{compared, visits, visit-inputs, Walked, found, short, large, on, Walks, Holds, of-rules, PairWalk, SlotWalk, World, inputs-of, Given, no-candidate, of-input, of-inputs, rules-part, of-all, Finds, Scanned}
 use Rattle.scan.proofs.Going.{Unrolls, Over}
-use Rattle.scan.proofs.Places.{scan-visits, drop-past}
+use Rattle.scan.proofs.Placing.{stored-at}
+use Rattle.scan.proofs.Places.{scan-visits}
 
--- the part p in front of a buffer
+-- a part of the bytes put in front of a buffer
 module _ (bytes : List ℕ) (a m : ℕ) (d d′ : List ℕ) (e : d′ ≡ patched 0 (take m (drop a bytes)) d) (fits : a + m ≤ length bytes) (room : m ≤ length d) where
   part-length : length (take m (drop a bytes)) ≡ m
-  part-length = let l : length (drop a bytes) ≡ length bytes - a = length-drop a bytes in length-take-le m (drop a bytes) (omega arith)
+  part-length = length-take-le m (drop a bytes) (omega (arith, length-drop a bytes))
 
   front : take m d′ ≡ take m (drop a bytes)
-  unfolding patched
-  front = ap (take m) e ∙ take-at (take m (drop a bytes)) (drop (0 + length (take m (drop a bytes))) d) m part-length
+  front = ap (take m) e ∙ ap (λ n. take n (patched 0 (take m (drop a bytes)) d)) (sym part-length) ∙ patched-here 0 (take m (drop a bytes)) d (omega (arith, part-length))
 
   kept-length : length d′ ≡ length d
-  unfolding patched
-  kept-length =
-      ap length e ∙ length-append (take m (drop a bytes)) (drop (0 + length (take m (drop a bytes))) d)
-      ∙ (let p = part-length in let l : length (drop (0 + length (take m (drop a bytes))) d) ≡ length d - (0 + length (take m (drop a bytes))) = length-drop (0 + length (take m (drop a bytes))) d in omega arith)
-
--- what `scan_slot` asks of the functions that it calls
-pub slot-room : {tab b l : List ℕ} {k : ℕ} → Layout tab b l (k + 1) → SlotRoom b l k
-slot-room lay = record { slots = lay .slots; lengths = lay .lengths }
-
-pub left-short : {tab b l : List ℕ} (k : ℕ) → Layout tab b l (k + 1) → getD l (2 * k) 0 ≤ 120
-left-short k lay = lay .short (2 * k) (omega arith)
-
-pub right-short : {tab b l : List ℕ} (k : ℕ) → Layout tab b l (k + 1) → getD l (2 * k + 1) 0 ≤ 120
-right-short k lay = lay .short (2 * k + 1) (omega arith)
+  kept-length = ap length e ∙ length-patched 0 (take m (drop a bytes)) d (omega (arith, part-length))
 
 module _ (tab bytes sizes : List ℕ) (k : ℕ) (lay : Layout tab bytes sizes (k + 1)) (L R L₁ R₁ : List ℕ) (m n : ℕ) (rl : 120 ≤ length L) (rr : 120 ≤ length R)
     (zm : m ≡ getD sizes (2 * k) 0) (zn : n ≡ getD sizes (2 * k + 1) 0)
     (el : L₁ ≡ patched 0 (take m (drop (240 * k) bytes)) L) (er : R₁ ≡ patched 0 (take n (drop (240 * k + 120) bytes)) R) where
   few-left : m ≤ 120
-  few-left = let s = left-short k lay in omega arith
+  few-left = let s = short-at tab bytes sizes (k + 1) k lay (omega arith) in omega arith
 
   few-right : n ≤ 120
-  few-right = let s = right-short k lay in omega arith
+  few-right = let s = short-at tab bytes sizes (k + 1) k lay (omega arith) in omega arith
 
   fits-left : 240 * k + m ≤ length bytes
   fits-left = let s = lay .slots in let f = few-left in omega arith
@@ -81,13 +70,6 @@ module _ (tab bytes sizes : List ℕ) (k : ℕ) (lay : Layout tab bytes sizes (k
             (front bytes (240 * k) m L L₁ el fits-left (let f = few-left in omega arith) ∙ ap (λ j. take j (drop (240 * k) bytes)) zm ∙ at .left-bytes)
             (front bytes (240 * k + 120) n R R₁ er fits-right (let f = few-right in omega arith) ∙ ap (λ j. take j (drop (240 * k + 120) bytes)) zn ∙ at .right-bytes);
       }
-
--- a candidate by its place
-candidate-stands : {tab b l : List ℕ} (j : ℕ) (cs : List Candidate) → Stored tab b l j (map (λ c. c .sides) cs) → (i : ℕ) → i < length cs → RuleAt tab b l (j + i) (getD cs i no-candidate .sides)
-unfolding Stored
-candidate-stands j [] h i l = absurd (omega arith)
-candidate-stands {tab} {b} {l} j (c ∷ cs) h zero q = subst (λ n. RuleAt tab b l n (c .sides)) (omega arith) (h .0)
-candidate-stands {tab} {b} {l} j (c ∷ cs) h (suc i) q = subst (λ n. RuleAt tab b l n (getD cs i no-candidate .sides)) (omega arith) (candidate-stands (suc j) cs (h .1) i (omega arith))
 
 origin-at : (n : ℕ) (es : List Equation) (k : ℕ) → k < length es → getD (candidates scanned-input n es) k no-candidate .origin ≡ scanned-input (n + k)
 unfolding candidates
@@ -128,7 +110,7 @@ module _ (tab rules lens : List ℕ) (count : ℕ) (bytes sizes : List ℕ) (num
 
   pub inputs-over : (k : ℕ) → number ≤ k → Over Here (of-inputs k)
   unfolding of-inputs visit-inputs
-  inputs-over k l = record { is = λ x h next. let f = few x h in ap (λ cs. visit-inputs (x .rules) cs next) (drop-past (inputs-of x) k (omega arith)) }
+  inputs-over k l = record { is = λ x h next. let f = few x h in ap (λ cs. visit-inputs (x .rules) cs next) (drop-of-length-le (inputs-of x) {i = k} (omega arith)) }
 
   origin-is : (x : World) → Here x → (k : ℕ) → k < number → 3 ∷ (number-bytes 2 (k + 1) ++ number-bytes 2 0 ++ number-bytes 1 0) ≡ origin-bytes (getD (inputs-of x) k no-candidate .origin)
   unfolding origin-bytes
@@ -145,7 +127,7 @@ module _ (tab rules lens : List ℕ) (count : ℕ) (bytes sizes : List ℕ) (num
         room = p .room;
         answer = λ x h.
             let f = few x h in
-            p .answer (x .rules) (h .stored) (h .counted) _ _ (fr ∙ origin-is x h k l) (subst (λ j. RuleAt tab bytes sizes j (getD (inputs-of x) k no-candidate .sides)) (omega arith) (candidate-stands 0 (inputs-of x) (h .inputs) k (omega arith)));
+            p .answer (x .rules) (h .stored) (h .counted) _ _ (fr ∙ origin-is x h k l) (subst (λ j. RuleAt tab bytes sizes j (getD (inputs-of x) k no-candidate .sides)) (omega arith) (stored-at (λ (c : Candidate). c .sides) no-candidate 0 (inputs-of x) (h .inputs) k (omega arith)));
       }
 
 -- the whole scan

@@ -17,6 +17,7 @@ use Rattle.completion.specs.Turn.{Origin, Candidate, if-different}
 use Rattle.completion.specs.Calls.{origin-bytes}
 use Rattle.normaliser.specs.Stored.{Stored, code, NormalIs, Normalised}
 use Rattle.normaliser.specs.declared.Normal.{Normal}
+use Rattle.normaliser.proofs.Parts.{zero≢code}
 use Rattle.scan.specs.declared.Walk.{Walk}
 use Rattle.scan.specs.Walk.{Part, compared, Walked, found, short, large, on, Room, Bare, PairWalk}
 
@@ -57,15 +58,6 @@ ends {tab} {L} {R} {d} {u} {v} {w} l too-large k few b h e = let q : w .units �
 ends l rules-full k few b h e = absurd (let z = h .0 in omega arith)
 ends l log-full k few b h e = absurd (let z = h .0 in omega arith)
 
--- no end has code 0
-zero-ends : {A : Type 0} (l : Normal) (x : End) → l .verdict ≡ 0 → l .verdict ≡ code x → A
-zero-ends l complete ok z = absurd (omega arith)
-zero-ends l (neither-above p) ok z = absurd (omega arith)
-zero-ends l spent ok z = absurd (omega arith)
-zero-ends l too-large ok z = absurd (omega arith)
-zero-ends l rules-full ok z = absurd (omega arith)
-zero-ends l log-full ok z = absurd (omega arith)
-
 module _ (tab rules lens : List ℕ) (count : ℕ) (L : List ℕ) (m : ℕ) (R : List ℕ) (n : ℕ) (L′ from : List ℕ) (units : ℕ) (l : Normal) (hl : Normalised tab rules lens count L L′ m units l) (w : Walk) where
   pub pair-left : (l .verdict ≡ 0 → ⊥) → Bare (l .verdict) (units - l .paid) w → PairWalk tab rules lens count L m R n L′ R from units w
   pair-left bad b = record { room = bare-room b (hl .same) refl (omega arith); answer = λ rs st ct o e fr wl wr bl br. go rs o e (normalise rs (e .left) units) refl (hl .answer rs st ct (e .left) wl bl) }
@@ -86,7 +78,7 @@ module _ (tab rules lens : List ℕ) (count : ℕ) (L : List ℕ) (m : ℕ) (R :
         let z : k ≡ units - l .paid = let s = h .1 in omega arith in
         let a : NormalIs tab R′ k r (normalise rs (e .right) k) = subst (λ j. NormalIs tab R′ j r (normalise rs (e .right) j)) (sym z) (hr .answer rs st ct (e .right) wr br) in
         rest y k q z (h .3) (h .4) (normalise rs (e .right) k) refl a
-    after-left ok rs st ct o e wr br rest (stop x k) q h = zero-ends l x ok (h .0)
+    after-left ok rs st ct o e wr br rest (stop x k) q h = absurd (zero≢code x (sym ok ∙ h .0))
 
     both : (l .verdict ≡ 0) → Room L R L′ R′ units w → ((rs : List Rule) (o : Origin) (e : Pair) → from ≡ origin-bytes o → Rest rs o e) → PairWalk tab rules lens count L m R n L′ R′ from units w
     both ok room rest =
@@ -120,7 +112,7 @@ module _ (tab rules lens : List ℕ) (count : ℕ) (L : List ℕ) (m : ℕ) (R :
         go rs o e y k q z by wy (done y′ k′) q′ h =
             let u : w .units ≡ k′ = b .units ∙ (let s = h .1 in omega arith) in
             on (b .verdict) (λ next. both-done rs o e next units y k y′ k′ q q′ ∙ same-forms rs o e next units (record { left = y; right = y′ }) k′ (same-dec y y′ .1 (forms y y′ by (h .3) wy (h .4) (uncut cut))) ∙ ap next (sym u))
-        go rs o e y k q z by wy (stop x k′) q′ h = zero-ends r x ok′ (h .0)
+        go rs o e y k q z by wy (stop x k′) q′ h = absurd (zero≢code x (sym ok′ ∙ h .0))
 
     pub pair-found : (l .verdict ≡ 0) → (r .verdict ≡ 0) → (t : Bool) → t ≡ false → (take (l .len - 0) L′ ≡ take (r .len - 0) R′ → t ≡ true) →
         w .verdict ≡ 0 → w .units ≡ (units - l .paid) - r .paid → w .m ≡ l .len → w .n ≡ r .len → w .origin ≡ from → PairWalk tab rules lens count L m R n L′ R′ from units w
@@ -137,4 +129,4 @@ module _ (tab rules lens : List ℕ) (count : ℕ) (L : List ℕ) (m : ℕ) (R :
             found (record { origin = o; sides = record { left = y; right = y′ } }) wv
             (λ next. both-done rs o e next units y k y′ k′ q q′ ∙ other-forms rs o e next units (record { left = y; right = y′ }) k′ (apart y y′ by (h .3) (same y y′) refl) ∙ ap (done (record { origin = o; sides = record { left = y; right = y′ } })) (sym u))
             (record { sides = record { left-bytes = rw wm by; right-bytes = rw wn (h .3); left-wf = wy; right-wf = h .4 }; from = wo ∙ fr })
-        go rs o e fr y k q z by wy (stop x k′) q′ h = zero-ends r x ok′ (h .0)
+        go rs o e fr y k q z by wy (stop x k′) q′ h = absurd (zero≢code x (sym ok′ ∙ h .0))

@@ -1,13 +1,15 @@
 // The scan: the overlaps of the rules in order, then the input equations, up to the first pair with two different normal forms.
 mod origins;
+mod spots;
 
 ghost use mathlib.Core.Path.{_≡_};
 ghost use mathlib.Core.List.{List, [], _∷_, _++_};
 ghost use Prim.Native.Nat.{ℕ, _+_, _-_, _*_, _<_, _≤_};
 ghost use lib.ListN.{length, getD, take};
 ghost use Rattle.normaliser.specs.Stored.{Layout};
-ghost use Rattle.scan.specs.Walk.{Bare, PairWalk, Walks, Holds, at-place, at-positions, both-ways, with-earlier, of-rule, of-rules, SlotWalk, Given, of-inputs, Scanned};
+ghost use Rattle.scan.specs.Walk.{Bare, PairWalk, Walks, Holds, at-place, of-rules, SlotWalk, Given, of-inputs, Scanned};
 use overlaps::Met;
+use spots::Spot;
 
 // 0: a pair with two different normal forms, which stand in the buffers, m and n bytes long; 1: spent; 2: too large; 3: none so far; 4: bytes of
 // no term. `units` are left.
@@ -72,25 +74,26 @@ fn scan_pair(
     }
 }
 
-// One overlap: rule `inner` in rule `outer` at a position.
+// The overlap at one place.
 fn scan_at(
     rules: &[u8],
     lens: &[u8],
     numbers: &[u16],
     count: usize,
     table: &[u8],
-    inner: usize,
-    outer: usize,
-    position: usize,
+    at: Spot,
     left: &mut [u8],
     right: &mut [u8],
     units: u32,
 ) -> Walk
     requires { ⌜ Layout (now table) (now rules) (now lens) count × (count ≤ length (now numbers)) ⌝ }
-    requires { ⌜ (inner < count) × (outer < count) × (position < getD (now lens) (2 * outer) 0) ⌝ }
+    requires { ⌜ (at .inner < count) × (at .outer < count) × (at .position < 256) ⌝ }
     requires { ⌜ (120 ≤ length (now left)) × (120 ≤ length (now right)) ⌝ }
-    ensures { λ r. ⌜ Walks (Holds (now (table .entry)) (now (rules .entry)) (now (lens .entry)) (now (numbers .entry)) count) (at-place inner outer position) (now (table .entry)) (now (left .entry)) (now (right .entry)) (now (left .exit)) (now (right .exit)) units r ⌝ }
+    ensures { λ r. ⌜ Walks (Holds (now (table .entry)) (now (rules .entry)) (now (lens .entry)) (now (numbers .entry)) count) (at-place at) (now (table .entry)) (now (left .entry)) (now (right .entry)) (now (left .exit)) (now (right .exit)) units r ⌝ }
 {
+    let inner = at.inner;
+    let outer = at.outer;
+    let position = at.position;
     match overlaps::overlap(rules, lens, table, inner, outer, position, left, right) {
         Met::Nothing => stopped(3, units),
         Met::TooLarge => stopped(2, units),
@@ -101,167 +104,7 @@ fn scan_at(
     }
 }
 
-// Rule `inner` in rule `outer`, at the positions from `from` on.
-fn scan_positions(
-    rules: &[u8],
-    lens: &[u8],
-    numbers: &[u16],
-    count: usize,
-    table: &[u8],
-    inner: usize,
-    outer: usize,
-    from: usize,
-    left: &mut [u8],
-    right: &mut [u8],
-    units: u32,
-) -> Walk
-    requires { ⌜ Layout (now table) (now rules) (now lens) count × (count ≤ length (now numbers)) ⌝ }
-    requires { ⌜ (inner < count) × (outer < count) ⌝ }
-    requires { ⌜ (120 ≤ length (now left)) × (120 ≤ length (now right)) ⌝ }
-    ensures { λ r. ⌜ Walks (Holds (now (table .entry)) (now (rules .entry)) (now (lens .entry)) (now (numbers .entry)) count) (at-positions inner outer from) (now (table .entry)) (now (left .entry)) (now (right .entry)) (now (left .exit)) (now (right .exit)) units r ⌝ }
-{
-    let n = terms::wide(lens[2 * outer]);
-    let mut p = from;
-    let mut u = units;
-    while p < n {
-        let w = scan_at(
-            rules,
-            lens,
-            numbers,
-            count,
-            table,
-            inner,
-            outer,
-            p,
-            left,
-            right,
-            u,
-        );
-        if w.verdict != 3 {
-            return w;
-        }
-        u = w.units;
-        p += 1;
-    }
-    stopped(3, u)
-}
-
-// An earlier rule a in a later rule b, then b in a.
-fn scan_both(
-    rules: &[u8],
-    lens: &[u8],
-    numbers: &[u16],
-    count: usize,
-    table: &[u8],
-    a: usize,
-    b: usize,
-    left: &mut [u8],
-    right: &mut [u8],
-    units: u32,
-) -> Walk
-    requires { ⌜ Layout (now table) (now rules) (now lens) count × (count ≤ length (now numbers)) ⌝ }
-    requires { ⌜ (a < count) × (b < count) ⌝ }
-    requires { ⌜ (120 ≤ length (now left)) × (120 ≤ length (now right)) ⌝ }
-    ensures { λ r. ⌜ Walks (Holds (now (table .entry)) (now (rules .entry)) (now (lens .entry)) (now (numbers .entry)) count) (both-ways a b) (now (table .entry)) (now (left .entry)) (now (right .entry)) (now (left .exit)) (now (right .exit)) units r ⌝ }
-{
-    let w = scan_positions(
-        rules,
-        lens,
-        numbers,
-        count,
-        table,
-        a,
-        b,
-        0,
-        left,
-        right,
-        units,
-    );
-    if w.verdict != 3 {
-        return w;
-    }
-    scan_positions(
-        rules,
-        lens,
-        numbers,
-        count,
-        table,
-        b,
-        a,
-        0,
-        left,
-        right,
-        w.units,
-    )
-}
-
-// Each earlier rule with rule b.
-fn scan_with(
-    rules: &[u8],
-    lens: &[u8],
-    numbers: &[u16],
-    count: usize,
-    table: &[u8],
-    b: usize,
-    left: &mut [u8],
-    right: &mut [u8],
-    units: u32,
-) -> Walk
-    requires { ⌜ Layout (now table) (now rules) (now lens) count × (count ≤ length (now numbers)) ⌝ }
-    requires { ⌜ b < count ⌝ }
-    requires { ⌜ (120 ≤ length (now left)) × (120 ≤ length (now right)) ⌝ }
-    ensures { λ r. ⌜ Walks (Holds (now (table .entry)) (now (rules .entry)) (now (lens .entry)) (now (numbers .entry)) count) (with-earlier 0 b) (now (table .entry)) (now (left .entry)) (now (right .entry)) (now (left .exit)) (now (right .exit)) units r ⌝ }
-{
-    let mut a = 0;
-    let mut u = units;
-    while a < b {
-        let w = scan_both(rules, lens, numbers, count, table, a, b, left, right, u);
-        if w.verdict != 3 {
-            return w;
-        }
-        u = w.units;
-        a += 1;
-    }
-    stopped(3, u)
-}
-
-// Rule b with each earlier rule, then with itself, but not at the root.
-fn scan_rule(
-    rules: &[u8],
-    lens: &[u8],
-    numbers: &[u16],
-    count: usize,
-    table: &[u8],
-    b: usize,
-    left: &mut [u8],
-    right: &mut [u8],
-    units: u32,
-) -> Walk
-    requires { ⌜ Layout (now table) (now rules) (now lens) count × (count ≤ length (now numbers)) ⌝ }
-    requires { ⌜ b < count ⌝ }
-    requires { ⌜ (120 ≤ length (now left)) × (120 ≤ length (now right)) ⌝ }
-    ensures { λ r. ⌜ Walks (Holds (now (table .entry)) (now (rules .entry)) (now (lens .entry)) (now (numbers .entry)) count) (of-rule b) (now (table .entry)) (now (left .entry)) (now (right .entry)) (now (left .exit)) (now (right .exit)) units r ⌝ }
-{
-    let w = scan_with(rules, lens, numbers, count, table, b, left, right, units);
-    if w.verdict != 3 {
-        return w;
-    }
-    scan_positions(
-        rules,
-        lens,
-        numbers,
-        count,
-        table,
-        b,
-        b,
-        1,
-        left,
-        right,
-        w.units,
-    )
-}
-
-// All rules.
+// All overlaps, place by place.
 fn scan_rules(
     rules: &[u8],
     lens: &[u8],
@@ -276,15 +119,15 @@ fn scan_rules(
     requires { ⌜ (120 ≤ length (now left)) × (120 ≤ length (now right)) ⌝ }
     ensures { λ r. ⌜ Walks (Holds (now (table .entry)) (now (rules .entry)) (now (lens .entry)) (now (numbers .entry)) count) (of-rules 0) (now (table .entry)) (now (left .entry)) (now (right .entry)) (now (left .exit)) (now (right .exit)) units r ⌝ }
 {
-    let mut b = 0;
+    let mut at = spots::spot_at(0, 0, 1);
     let mut u = units;
-    while b < count {
-        let w = scan_rule(rules, lens, numbers, count, table, b, left, right, u);
+    while at.outer < count {
+        let w = scan_at(rules, lens, numbers, count, table, at, left, right, u);
         if w.verdict != 3 {
             return w;
         }
         u = w.units;
-        b += 1;
+        at = spots::next(lens, at);
     }
     stopped(3, u)
 }

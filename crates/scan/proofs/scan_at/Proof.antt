@@ -1,7 +1,7 @@
 -- `scan_at`: no overlap there, one that is too large, or a pair to compare: `place-nothing`, `place-large`, `place-pair`. Assumes nothing.
 -- Read first: specs/Walk (Walks, at-place), proofs/Placing.
 use Rattle.normaliser.proofs.Choosing.{layout-below}
-use Rattle.scan.proofs.Placing.{place-nothing, place-large, place-pair, position-fits, found-fits}
+use Rattle.scan.proofs.Placing.{place-nothing, place-large, place-pair, found-fits}
 use borrow.Author.Needs.{needs}
 use Rattle.scan.proofs.scan_at.Statement.{statement}
 use Rattle.scan.proofs.scan_at.Tie as tie
@@ -16,19 +16,19 @@ overlap-requires : tie.Need-overlap-requires
 overlap-requires c κs = ((layout-below _ _ _ _ _ (c .before .before .before .before .before .before .before .before .pre .0 .0) (c .before .before .before .before .before .before .before .before .pre .1 .0 .0), layout-below _ _ _ _ _ (c .before .before .before .before .before .before .before .before .pre .0 .0) (c .before .before .before .before .before .before .before .before .pre .1 .0 .1)), c .before .before .before .before .before .before .before .before .pre .1 .1)
 
 origin-requires : tie.Need-origin-requires
-origin-requires c κs = position-fits (c .before .before .before .before .before .before .before .before .before .before .before .before .before .before .before .before .before .before .pre .0 .0) (c .before .before .before .before .before .before .before .before .before .before .before .before .before .before .before .before .before .before .pre .1 .0 .1) (c .before .before .before .before .before .before .before .before .before .before .before .before .before .before .before .before .before .before .pre .1 .0 .2)
+origin-requires c κs = c .before .before .before .before .before .before .before .before .before .before .before .before .before .before .before .before .before .before .pre .1 .0 .2
 
 scan-pair-requires : tie.Need-scan-pair-requires
 scan-pair-requires c κs = (c .before .before .before .before .before .before .before .before .before .before .before .before .before .before .before .before .before .before .before .before .before .pre .0 .0, found-fits (c .before .before .before .before .before .before .before .before .before .before .before .before .overlap .ensures) (c .before .before .before .before .before .before .m .given .1) (c .before .before .before .before .before .before .before .before .before .before .before .before .before .before .before .before .before .before .before .before .before .pre .1 .1 .0) (c .before .before .before .before .before .before .before .before .before .before .before .before .before .before .before .before .before .before .before .before .before .pre .1 .1 .1))
 
 returns : tie.Need-returns
-returns c = place-nothing _ _ _ _ _ _ _ _ _ _ _ _ _ _ (c .before .before .before .before .before .before .before .overlap .ensures) (c .before .before .before .before .before .before .before .before .before .before .before .before .before .before .before .before .pre .1 .0 .0) (c .before .before .before .before .before .before .before .before .before .before .before .before .before .before .before .before .pre .1 .0 .1) _ (c .before .enum-told .given .1) (c .stopped .ensures)
+returns c = place-nothing _ _ _ _ _ _ _ _ _ _ _ _ (c .before .before .before .before .before .before .before .overlap .ensures) (c .before .before .before .before .before .before .before .before .before .before .before .before .before .before .before .before .pre .1 .0 .0) (c .before .before .before .before .before .before .before .before .before .before .before .before .before .before .before .before .pre .1 .0 .1) _ (c .before .enum-told .given .1) (c .stopped .ensures)
 
 returns-2 : tie.Need-returns-2
-returns-2 c = place-large _ _ _ _ _ _ _ _ _ _ _ _ _ _ (c .before .before .before .before .before .before .before .overlap .ensures) (c .before .before .before .before .before .before .before .before .before .before .before .before .before .before .before .before .pre .1 .0 .0) (c .before .before .before .before .before .before .before .before .before .before .before .before .before .before .before .before .pre .1 .0 .1) _ (c .before .enum-told2 .given .1) (c .stopped2 .ensures)
+returns-2 c = place-large _ _ _ _ _ _ _ _ _ _ _ _ (c .before .before .before .before .before .before .before .overlap .ensures) (c .before .before .before .before .before .before .before .before .before .before .before .before .before .before .before .before .pre .1 .0 .0) (c .before .before .before .before .before .before .before .before .before .before .before .before .before .before .before .before .pre .1 .0 .1) _ (c .before .enum-told2 .given .1) (c .stopped2 .ensures)
 
 returns-3 : tie.Need-returns-3
-returns-3 c = place-pair _ _ _ _ _ _ _ _ _ _ _ _ _ _ (c .before .before .before .before .before .before .before .before .before .before .before .before .before .before .before .before .before .overlap .ensures) (c .before .before .before .before .before .before .before .before .before .before .before .before .before .before .before .before .before .before .before .before .before .before .before .before .before .before .pre .1 .0 .0) (c .before .before .before .before .before .before .before .before .before .before .before .before .before .before .before .before .before .before .before .before .before .before .before .before .before .before .pre .1 .0 .1) _ _ _ _ _ _ (c .before .before .before .before .before .before .before .before .before .before .before .m .given .1) (c .before .before .before .before .before .before .before .origin .ensures) (c .before .before .before .before .scan-pair .ensures)
+returns-3 c = place-pair _ _ _ _ _ _ _ _ _ _ _ _ (c .before .before .before .before .before .before .before .before .before .before .before .before .before .before .before .before .before .overlap .ensures) (c .before .before .before .before .before .before .before .before .before .before .before .before .before .before .before .before .before .before .before .before .before .before .before .before .before .before .pre .1 .0 .0) (c .before .before .before .before .before .before .before .before .before .before .before .before .before .before .before .before .before .before .before .before .before .before .before .before .before .before .pre .1 .0 .1) _ _ _ _ _ _ (c .before .before .before .before .before .before .before .before .before .before .before .m .given .1) (c .before .before .before .before .before .before .before .origin .ensures) (c .before .before .before .before .scan-pair .ensures)
 
 pub scan-at-spec : {M : Type 1} → statement M
 scan-at-spec =

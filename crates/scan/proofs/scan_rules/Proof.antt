@@ -1,41 +1,49 @@
--- `scan_rules`: the invariant is that the rules from b on, with the units left, come to what all come to; count - b falls. Assumes nothing.
--- Read first: specs/Walk (of-rules), proofs/Going (Going), proofs/Places.
+-- `scan_rules`: the invariant is that what is to come from the place reached, with the units left, comes to what all places come to; the rank rises.
+-- Assumes nothing.
+-- Read first: specs/Walk (to-come, rank), proofs/Reaching (Reaching).
+use Rattle.scan.proofs.Reaching.{Reaching, reach-first, reach-end, reach-stop, reach-next, next-asks, falls}
+use Rattle.scan.proofs.Going.{still-fits}
+use Rattle.scan.specs.Walk.{rank}
 use Prim.Native.Nat.{_-_}
-use Rattle.scan.proofs.Places.{rules-more, rules-over}
-use Rattle.scan.proofs.Going.{Going, going-start, going-on, going-stop, going-end, still-fits}
-use Rattle.scan.specs.Walk.{Holds, of-rules}
 use borrow.Author.Needs.{needs}
 use Rattle.scan.proofs.scan_rules.Statement.{statement}
 use Rattle.scan.proofs.scan_rules.Tie as tie
 use Rattle.scan.proofs.scan_rules.Reads as reads
 use Rattle.scan.proofs.scan_rules.Lts as lts
-use Rattle.scan.proofs.scan_rule.Reads as scan-rule-reads
+use Rattle.scan.proofs.scan_at.Reads as scan-at-reads
+use Rattle.scan.proofs.spots.next.Reads as next-reads
+use Rattle.scan.proofs.spots.spot_at.Reads as spot-at-reads
 use Rattle.scan.proofs.stopped.Reads as stopped-reads
 
 abbrev Inv-loop : tie.InvT-loop
-Inv-loop rules lens numbers count table left₀ right₀ units b₀ u₀ left right b u =
-    Going (Holds table rules lens numbers count) (of-rules 0) left₀ right₀ left right units (of-rules b) u
+Inv-loop rules lens numbers count table left₀ right₀ units at₀ u₀ left right at u =
+    Reaching table rules lens numbers count left₀ right₀ left right units at u
 
 abbrev μ-loop : tie.MeasureT-loop
-μ-loop rules lens numbers count table left₀ right₀ units b₀ u₀ left right b u =
-    count - b
+μ-loop rules lens numbers count table left₀ right₀ units at₀ u₀ left right at u =
+    20000000 - rank at
 
 loop-holds : tie.Need-loop-holds Inv-loop μ-loop
-loop-holds c = going-start
+loop-holds c = reach-first (c .spot-at .ensures)
 
-scan-rule-requires : tie.Need-scan-rule-requires Inv-loop μ-loop
-scan-rule-requires c κs =
-    let t = c .before .before .loop-test .taken in
-    (c .before .before .before .before .before .before .before .before .before .before .pre .0, (t, (still-fits (c .before .before .before .loop .inv .left-kept) (c .before .before .before .before .before .before .before .before .before .before .pre .1 .0), still-fits (c .before .before .before .loop .inv .right-kept) (c .before .before .before .before .before .before .before .before .before .before .pre .1 .1))))
+scan-at-requires : tie.Need-scan-at-requires Inv-loop μ-loop
+scan-at-requires c κs =
+    (c .before .before .before .before .before .before .before .before .before .before .before .before .pre .0, ((c .before .before .before .before .loop .inv .within (c .before .before .if1 .taken), c .before .before .if1 .taken, c .before .before .before .before .loop .inv .low), (still-fits (c .before .before .before .before .loop .inv .going .left-kept) (c .before .before .before .before .before .before .before .before .before .before .before .before .pre .1 .0), still-fits (c .before .before .before .before .loop .inv .going .right-kept) (c .before .before .before .before .before .before .before .before .before .before .before .before .pre .1 .1))))
 
 returns : tie.Need-returns Inv-loop μ-loop
-returns c = going-stop (c .before .before .before .before .before .before .before .before .before .before .loop .inv) (rules-more _ _ _ _ _ _ (c .before .before .before .before .before .before .before .before .before .loop-test .taken)) (c .before .before .before .before .before .before .scan-rule .ensures) (c .if1 .taken)
+returns c = reach-stop (c .before .before .before .before .before .before .before .before .before .before .before .loop .inv) (c .before .before .before .before .before .before .before .before .before .before .before .before .before .before .before .before .before .before .before .pre .0 .0) (c .before .before .before .before .before .before .before .before .before .if1 .taken) (c .before .before .before .before .before .before .scan-at .ensures) (c .if2 .taken)
+
+next-requires : tie.Need-next-requires Inv-loop μ-loop
+next-requires c κs = next-asks (c .before .before .before .before .before .before .before .before .before .before .before .loop .inv) (c .before .before .before .before .before .before .before .before .before .before .before .before .before .before .before .before .before .before .before .pre .0 .0) (c .before .before .before .before .before .before .before .before .before .if1 .taken)
+
+loop-less : tie.Need-loop-less Inv-loop μ-loop
+loop-less c = falls (c .before .before .before .before .before .before .before .before .before .before .before .before .loop .inv) (c .before .before .before .before .before .before .before .before .before .before .before .before .before .before .before .before .before .before .before .before .pre .0 .0) (c .before .before .before .before .before .before .before .before .before .before .if1 .taken) _ (c .next .ensures)
 
 loop-again : tie.Need-loop-again Inv-loop μ-loop
-loop-again c = going-on (c .before .before .before .before .before .before .before .before .before .before .loop .inv) (rules-more _ _ _ _ _ _ (c .before .before .before .before .before .before .before .before .before .loop-test .taken)) (c .before .before .before .before .before .before .scan-rule .ensures) (c .if1 .left)
+loop-again c = reach-next (c .before .before .before .before .before .before .before .before .before .before .before .before .loop .inv) (c .before .before .before .before .before .before .before .before .before .before .before .before .before .before .before .before .before .before .before .before .pre .0 .0) (c .before .before .before .before .before .before .before .before .before .before .if1 .taken) (c .before .before .before .before .before .before .before .scan-at .ensures) (c .before .if2 .left) (c .next .ensures)
 
 returns-2 : tie.Need-returns-2 Inv-loop μ-loop
-returns-2 c = going-end (c .before .before .loop .inv) (rules-over _ _ _ _ _ _ (c .before .loop-test .left)) (c .stopped .ensures)
+returns-2 c = reach-end (c .before .before .before .loop .inv) (c .before .if1 .left) (c .stopped .ensures)
 
 pub scan-rules-spec : {M : Type 1} → statement M
 scan-rules-spec =
@@ -43,13 +51,14 @@ scan-rules-spec =
     (tie.spec
     Inv-loop
     μ-loop
+    (λ c κs. search needs)
     loop-holds
-    scan-rule-requires
+    scan-at-requires
     (λ c. search needs)
     (λ c. search needs)
     returns
-    (λ c. search needs)
-    (λ c. search needs)
+    next-requires
+    loop-less
     loop-again
     (λ c κs. search needs)
     (λ c. search needs)

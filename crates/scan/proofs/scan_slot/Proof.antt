@@ -1,6 +1,8 @@
 -- `scan_slot`: the two sides of the slot are read to the front of the buffers and compared as a pair, by `slot-walk`. Assumes nothing.
 -- Read first: specs/Walk (SlotWalk), proofs/Inputs.
-use Rattle.scan.proofs.Inputs.{slot-room, left-short, right-short, slot-fits, slot-walk}
+use Rattle.scan.proofs.Inputs.{slot-fits, slot-walk}
+use native.Mathlib.Omega.{arith}
+use Rattle.store.proofs.Listing.{room-at, short-at}
 use borrow.Author.Needs.{needs}
 use Rattle.scan.proofs.scan_slot.Statement.{statement}
 use Rattle.scan.proofs.scan_slot.Tie as tie
@@ -11,10 +13,10 @@ use Rattle.store.proofs.get_left.Reads as get-left-reads
 use Rattle.store.proofs.get_right.Reads as get-right-reads
 
 get-left-requires : tie.Need-get-left-requires
-get-left-requires c κs = (slot-room (c .before .before .before .before .before .before .before .before .pre .1 .0), (left-short _ (c .before .before .before .before .before .before .before .before .pre .1 .0), c .before .before .before .before .before .before .before .before .pre .1 .1 .0))
+get-left-requires c κs = (room-at _ _ _ _ _ (c .before .before .before .before .before .before .before .before .pre .1 .0) (omega arith), (short-at _ _ _ _ (c .before .before .before .before .before .before .before .before .args .k) (c .before .before .before .before .before .before .before .before .pre .1 .0) (omega arith) .left, c .before .before .before .before .before .before .before .before .pre .1 .1 .0))
 
 get-right-requires : tie.Need-get-right-requires
-get-right-requires c κs = (slot-room (c .before .before .before .before .before .before .before .before .before .before .before .before .pre .1 .0), (right-short _ (c .before .before .before .before .before .before .before .before .before .before .before .before .pre .1 .0), c .before .before .before .before .before .before .before .before .before .before .before .before .pre .1 .1 .1))
+get-right-requires c κs = (room-at _ _ _ _ _ (c .before .before .before .before .before .before .before .before .before .before .before .before .pre .1 .0) (omega arith), (short-at _ _ _ _ (c .before .before .before .before .before .before .before .before .before .before .before .before .args .k) (c .before .before .before .before .before .before .before .before .before .before .before .before .pre .1 .0) (omega arith) .right, c .before .before .before .before .before .before .before .before .before .before .before .before .pre .1 .1 .1))
 
 scan-pair-requires : tie.Need-scan-pair-requires
 scan-pair-requires c κs = (c .before .before .before .before .before .before .before .before .before .before .before .before .before .before .before .before .before .pre .0, slot-fits _ _ _ _ (c .before .before .before .before .before .before .before .before .before .before .before .before .before .before .before .before .before .pre .1 .0) _ _ _ _ _ _ (c .before .before .before .before .before .before .before .before .before .before .before .before .before .before .before .before .before .pre .1 .1 .0) (c .before .before .before .before .before .before .before .before .before .before .before .before .before .before .before .before .before .pre .1 .1 .1) (c .before .before .before .before .before .before .before .before .get-left .ensures .0) (c .before .before .before .before .get-right .ensures .0) (c .before .before .before .before .before .before .before .before .get-left .ensures .1) (c .before .before .before .before .get-right .ensures .1))

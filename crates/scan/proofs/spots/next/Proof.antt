@@ -1,0 +1,47 @@
+-- `next`: a lemma for each return: the next position, back, the next earlier rule, the rule with itself, the next rule. Assumes nothing.
+-- Read first: specs/Walk (Follows, to-come), proofs/Places.
+use Rattle.scan.proofs.Places.{next-position, next-back, next-later, next-itself, next-earlier}
+use borrow.Author.Needs.{needs}
+use Rattle.scan.proofs.spots.next.Statement.{statement}
+use Rattle.scan.proofs.spots.next.Tie as tie
+use Rattle.scan.proofs.spots.next.Reads as reads
+use Rattle.scan.proofs.spots.next.Lts as lts
+use Rattle.scan.proofs.spots.spot_at.Reads as spot-at-reads
+use Rattle.terms.proofs.wide.Reads as wide-reads
+
+returns : tie.Need-returns
+returns c = next-position _ _ _ _ _ _ (c .before .before .before .before .before .before .pre) (c .before .before .wide .ensures) (c .before .if1 .taken) (c .spot-at .ensures)
+
+returns-2 : tie.Need-returns-2
+returns-2 c = next-back _ _ _ _ _ _ (c .before .before .before .before .before .before .before .pre) (c .before .before .before .wide .ensures) (c .before .before .if1 .left) (c .before .if2 .taken) (c .spot-at2 .ensures)
+
+returns-3 : tie.Need-returns-3
+returns-3 c = next-earlier _ _ _ _ _ _ (c .before .before .before .before .before .before .before .before .pre) (c .before .before .before .before .wide .ensures) (c .before .before .before .if1 .left) (c .before .if3 .taken) (c .spot-at3 .ensures)
+
+returns-4 : tie.Need-returns-4
+returns-4 c = next-itself _ _ _ _ _ _ (c .before .before .before .before .before .before .before .before .before .pre) (c .before .before .before .before .before .wide .ensures) (c .before .before .before .before .if1 .left) (c .before .if4 .taken) (c .before .before .if3 .left) (c .spot-at4 .ensures)
+
+returns-5 : tie.Need-returns-5
+returns-5 c = next-later _ _ _ _ _ _ (c .before .before .before .before .before .before .before .before .before .pre) (c .before .before .before .before .before .wide .ensures) (c .before .before .before .before .if1 .left) (c .before .before .before .if2 .left) (c .before .if4 .left) (c .spot-at5 .ensures)
+
+pub next-spec : {M : Type 1} → statement M
+next-spec =
+    tie.close
+    (tie.spec
+    (λ c. search needs)
+    (λ c. search needs)
+    (λ c. search needs)
+    (λ c κs. search needs)
+    (λ c κs. search needs)
+    returns
+    (λ c κs. search needs)
+    returns-2
+    (λ c. search needs)
+    (λ c. search needs)
+    (λ c κs. search needs)
+    returns-3
+    (λ c κs. search needs)
+    returns-4
+    (λ c. search needs)
+    (λ c κs. search needs)
+    returns-5)

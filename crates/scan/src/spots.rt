@@ -1,0 +1,46 @@
+// The places where overlaps are looked for, in document 01's order.
+ghost use mathlib.Core.Path.{_≡_};
+ghost use Prim.Native.Nat.{_*_, _<_};
+ghost use lib.ListN.{length};
+ghost use Rattle.scan.specs.Walk.{Follows};
+
+// Rule `inner` in rule `outer` at a position of its left side, or behind its end, where there is no overlap.
+pub struct Spot {
+    pub inner: usize,
+    pub outer: usize,
+    pub position: usize,
+}
+
+pub fn spot_at(inner: usize, outer: usize, position: usize) -> Spot
+    ensures { λ r. ⌜ r ≡ record { inner = inner; outer = outer; position = position } ⌝ }
+{
+    Spot {
+        inner: inner,
+        outer: outer,
+        position: position,
+    }
+}
+
+// The positions of the outer rule; an earlier rule in a later one, then the later one in it; then the next earlier rule; then the later rule in
+// itself, but not at the root; then the next later rule.
+pub fn next(lens: &[u8], at: Spot) -> Spot
+    requires { ⌜ (at .inner < 33) × (at .outer < 33) × (at .position < 256) × (2 * at .outer < length (now lens)) ⌝ }
+    ensures { λ r. ⌜ Follows (now (lens .entry)) at r ⌝ }
+{
+    let inner = at.inner;
+    let outer = at.outer;
+    let p = at.position + 1;
+    if p < terms::wide(lens[2 * outer]) {
+        return spot_at(inner, outer, p);
+    }
+    if inner < outer {
+        return spot_at(outer, inner, 0);
+    }
+    if outer + 1 < inner {
+        return spot_at(outer + 1, inner, 0);
+    }
+    if outer < inner {
+        return spot_at(inner, inner, 1);
+    }
+    spot_at(0, outer + 1, 0)
+}
