@@ -169,14 +169,12 @@ fn scan_inputs(
     right: &mut [u8],
     units: u32,
 ) -> Walk
-    requires { ⌜ Layout (now table) (now rules) (now lens) count ⌝ }
-    requires { ⌜ Layout (now table) (now inputs) (now sizes) number ⌝ }
+    requires { ⌜ Layout (now table) (now rules) (now lens) count × Layout (now table) (now inputs) (now sizes) number ⌝ }
     requires { ⌜ (120 ≤ length (now left)) × (120 ≤ length (now right)) ⌝ }
     ensures { λ r. ⌜ Walks (Given (now (table .entry)) (now (rules .entry)) (now (lens .entry)) count (now (inputs .entry)) (now (sizes .entry)) number) (of-inputs 0) (now (table .entry)) (now (left .entry)) (now (right .entry)) (now (left .exit)) (now (right .exit)) units r ⌝ }
 {
-    let mut k = 0;
     let mut u = units;
-    while k < number {
+    for k in 0..number {
         let from = origins::origin(3, (k + 1) as u16, 0, 0);
         let w = scan_slot(
             rules,
@@ -195,7 +193,6 @@ fn scan_inputs(
             return w;
         }
         u = w.units;
-        k += 1;
     }
     stopped(3, u)
 }

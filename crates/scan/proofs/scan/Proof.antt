@@ -14,7 +14,7 @@ returns : tie.Need-returns
 returns c = scanned _ _ _ _ _ _ _ _ (going-stop going-start (all-parts _ _ _ _ _ _ _ _) (rules-walk _ _ _ _ _ _ _ _ (c .before .before .before .before .before .before .scan-rules .ensures)) (c .if1 .taken))
 
 scan-inputs-requires : tie.Need-scan-inputs-requires
-scan-inputs-requires c κs = (c .before .before .before .before .before .before .before .before .before .before .before .before .before .before .before .before .before .before .before .pre .0 .0, (c .before .before .before .before .before .before .before .before .before .before .before .before .before .before .before .before .before .before .before .pre .1 .0, (still-fits (c .before .before .before .before .before .before .before .before .scan-rules .ensures .room .left-kept) (c .before .before .before .before .before .before .before .before .before .before .before .before .before .before .before .before .before .before .before .pre .1 .1 .0), still-fits (c .before .before .before .before .before .before .before .before .scan-rules .ensures .room .right-kept) (c .before .before .before .before .before .before .before .before .before .before .before .before .before .before .before .before .before .before .before .pre .1 .1 .1))))
+scan-inputs-requires c κs = ((c .before .before .before .before .before .before .before .before .before .before .before .before .before .before .before .before .before .before .before .pre .0 .0, c .before .before .before .before .before .before .before .before .before .before .before .before .before .before .before .before .before .before .before .pre .1 .0), (still-fits (c .before .before .before .before .before .before .before .before .scan-rules .ensures .room .left-kept) (c .before .before .before .before .before .before .before .before .before .before .before .before .before .before .before .before .before .before .before .pre .1 .1 .0), still-fits (c .before .before .before .before .before .before .before .before .scan-rules .ensures .room .right-kept) (c .before .before .before .before .before .before .before .before .before .before .before .before .before .before .before .before .before .before .before .pre .1 .1 .1)))
 
 returns-2 : tie.Need-returns-2
 returns-2 c = scanned _ _ _ _ _ _ _ _ (going-then (going-on going-start (all-parts _ _ _ _ _ _ _ _) (rules-walk _ _ _ _ _ _ _ _ (c .before .before .before .before .before .before .before .before .before .before .before .before .before .scan-rules .ensures)) (c .before .before .before .before .before .before .before .if1 .left)) (inputs-walk _ _ _ _ _ _ _ _ (c .before .before .before .before .scan-inputs .ensures)))

@@ -15,22 +15,22 @@ use Rattle.scan.proofs.scan_slot.Reads as scan-slot-reads
 use Rattle.scan.proofs.stopped.Reads as stopped-reads
 
 abbrev Inv-loop : tie.InvT-loop
-Inv-loop rules lens count table inputs sizes number left₀ right₀ units k₀ u₀ left right k u =
+Inv-loop rules lens count table inputs sizes number left₀ right₀ units u₀ k₀ left right u k =
     Going (Given table rules lens count inputs sizes number) (of-inputs 0) left₀ right₀ left right units (of-inputs k) u
 
 abbrev μ-loop : tie.MeasureT-loop
-μ-loop rules lens count table inputs sizes number left₀ right₀ units k₀ u₀ left right k u =
+μ-loop rules lens count table inputs sizes number left₀ right₀ units u₀ k₀ left right u k =
     number - k
 
 loop-holds : tie.Need-loop-holds Inv-loop μ-loop
 loop-holds c = going-start
 
 cast-origin : tie.Need-cast-origin Inv-loop μ-loop
-cast-origin c = let f = c .before .before .before .before .before .before .before .before .before .pre .1 .0 .few in let t = c .loop-test .taken in search needs
+cast-origin c = let f = c .before .before .before .before .before .before .before .before .before .pre .0 .1 .few in let t = c .loop-test .taken in search needs
 
 scan-slot-requires : tie.Need-scan-slot-requires Inv-loop μ-loop
 scan-slot-requires c κs =
-    (c .before .before .before .before .before .before .before .before .before .before .before .before .pre .0, (layout-below _ _ _ _ _ (c .before .before .before .before .before .before .before .before .before .before .before .before .pre .1 .0) (c .before .before .before .loop-test .taken), (still-fits (c .before .before .before .before .loop .inv .left-kept) (c .before .before .before .before .before .before .before .before .before .before .before .before .pre .1 .1 .0), still-fits (c .before .before .before .before .loop .inv .right-kept) (c .before .before .before .before .before .before .before .before .before .before .before .before .pre .1 .1 .1))))
+    (c .before .before .before .before .before .before .before .before .before .before .before .before .pre .0 .0, (layout-below _ _ _ _ _ (c .before .before .before .before .before .before .before .before .before .before .before .before .pre .0 .1) (c .before .before .before .loop-test .taken), (still-fits (c .before .before .before .before .loop .inv .left-kept) (c .before .before .before .before .before .before .before .before .before .before .before .before .pre .1 .0), still-fits (c .before .before .before .before .loop .inv .right-kept) (c .before .before .before .before .before .before .before .before .before .before .before .before .pre .1 .1))))
 
 returns : tie.Need-returns Inv-loop μ-loop
 returns c = going-stop (c .before .before .before .before .before .before .before .before .before .before .before .loop .inv) (inputs-more _ _ _ _ _ _ _ _ (c .before .before .before .before .before .before .before .before .before .before .loop-test .taken)) (input-walk _ _ _ _ _ _ _ _ (c .before .before .before .before .before .before .before .before .before .before .loop-test .taken) (c .before .before .before .before .before .before .before .before .before .origin .ensures) (c .before .before .before .before .before .before .scan-slot .ensures)) (c .if1 .taken)
