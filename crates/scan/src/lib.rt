@@ -119,7 +119,7 @@ fn scan_rules(
     requires { ⌜ (120 ≤ length (now left)) × (120 ≤ length (now right)) ⌝ }
     ensures { λ r. ⌜ Walks (Holds (now (table .entry)) (now (rules .entry)) (now (lens .entry)) (now (numbers .entry)) count) (of-rules 0) (now (table .entry)) (now (left .entry)) (now (right .entry)) (now (left .exit)) (now (right .exit)) units r ⌝ }
 {
-    let mut at = spots::spot_at(0, 0, 1);
+    let mut at = spots::spot_at(0, 0, spots::BELOW_ROOT);
     let mut u = units;
     while at.outer < count {
         let w = scan_at(rules, lens, numbers, count, table, at, left, right, u);

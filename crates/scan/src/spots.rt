@@ -11,6 +11,9 @@ pub struct Spot {
     pub position: usize,
 }
 
+// The first position of a rule in itself: the root is left out.
+pub const BELOW_ROOT: usize = 1;
+
 pub fn spot_at(inner: usize, outer: usize, position: usize) -> Spot
     ensures { λ r. ⌜ r ≡ record { inner = inner; outer = outer; position = position } ⌝ }
 {
@@ -40,7 +43,7 @@ pub fn next(lens: &[u8], at: Spot) -> Spot
         return spot_at(outer + 1, inner, 0);
     }
     if outer < inner {
-        return spot_at(inner, inner, 1);
+        return spot_at(inner, inner, BELOW_ROOT);
     }
     spot_at(0, outer + 1, 0)
 }
