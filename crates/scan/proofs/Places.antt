@@ -1,5 +1,5 @@
 -- What is to come from a place on is that place and what is to come from the next, in each of the five cases of `next`. Assumes nothing.
--- Read first: specs/Walk (to-come, Follows), rewriting/specs/Overlap (all-places).
+-- Read first: specs/Order (to-come, Follows), rewriting/specs/Overlap (all-places).
 use mathlib.Core.Path.{_≡_, refl, sym, _∙_, ap, subst}
 use mathlib.Core.Bool.{Bool, true, false}
 use mathlib.Core.List.{List, [], _∷_, _++_}
@@ -18,7 +18,8 @@ use Rattle.rewriting.specs.Overlap.{Rule, overlap, overlap-at, Place, places, p
 use Rattle.rewriting.specs.Rewrite.{Paying}
 use Rattle.completion.specs.Turn.{Candidate, scan, scan-inputs}
 use Rattle.scan.specs.declared.spots.Spot.{Spot}
-use Rattle.scan.specs.Walk.{visit, visits, rule-at, no-rule, at-place, at-positions, with-earlier, of-rules, behind, to-come, rank, Follows}
+use Rattle.scan.specs.Walk.{visit, visits, rule-at, no-rule, at-place, of-rules}
+use Rattle.scan.specs.Order.{at-positions, with-earlier, behind, to-come, rank, Follows}
 use Rattle.scan.proofs.Placing.{visit-none}
 
 visits-append : (rs : List Rule) (ps qs : List Place) (next : Paying Candidate) → visits rs (ps ++ qs) next ≡ visits rs ps (visits rs qs next)

@@ -1,5 +1,5 @@
 -- The loop over the places: what is to come from the place reached, with the units left, comes to what all places come to. Assumes nothing.
--- Read first: specs/Walk (to-come, Follows), proofs/Going (Going), proofs/Places.
+-- Read first: specs/Order (to-come, Follows), proofs/Going (Going), proofs/Places.
 use mathlib.Core.Path.{_≡_, refl, sym, ap, subst}
 use mathlib.Core.List.{List}
 use Prim.Native.Nat.{ℕ, _+_, _-_, _*_, _<_, _≤_}
@@ -9,7 +9,8 @@ use Rattle.rewriting.specs.Overlap.{Rule}
 use Rattle.normaliser.specs.Stored.{Layout}
 use Rattle.scan.specs.declared.Walk.{Walk}
 use Rattle.scan.specs.declared.spots.Spot.{Spot}
-use Rattle.scan.specs.Walk.{Part, Bare, Walks, Holds, at-place, at-positions, of-rules, behind, to-come, rank, Follows}
+use Rattle.scan.specs.Walk.{Part, Bare, Walks, Holds, at-place, of-rules}
+use Rattle.scan.specs.Order.{at-positions, behind, to-come, rank, Follows}
 use Rattle.scan.proofs.Going.{Going, Unrolls, going-on, going-stop, going-end}
 use Rattle.scan.proofs.Placing.{left-size}
 use Rattle.scan.proofs.Places.{from-first, on, come-out}
@@ -18,6 +19,10 @@ pub record Reaching (tab rules lens numbers : List ℕ) (count : ℕ) (L R L′ 
   pub going : Going (Holds tab rules lens numbers count) (of-rules 0) L R L′ R′ units (to-come at) u
   pub low : at .position < 256
   pub within : at .outer < count → at .inner < count
+
+-- a number that falls along the places
+abbrev pub ahead : Spot → ℕ
+ahead at = 20000000 - rank at
 
 module _ {tab rules lens numbers : List ℕ} {count : ℕ} {L R : List ℕ} {units : ℕ} {at : Spot} where
   pub reach-first : at ≡ record { inner = 0; outer = 0; position = 1 } → Reaching tab rules lens numbers count L R L R units at units
@@ -39,7 +44,7 @@ module _ {tab rules lens numbers : List ℕ} {count : ℕ} {L R : List ℕ} {uni
       unfolding rank
       bounded = let a = next-asks in omega arith
 
-      pub falls : (r : Spot) → Follows lens at r → 20000000 - rank r < 20000000 - rank at
+      pub falls : (r : Spot) → Follows lens at r → ahead r < ahead at
       falls r f = let a = bounded in let b = f .rises in omega arith
 
       module _ {L″ R″ : List ℕ} {w : Walk} (k : Walks (Holds tab rules lens numbers count) (at-place at) tab L′ R′ L″ R″ u w) where

@@ -1,14 +1,12 @@
 -- What a walk over places or over input equations comes to, and what the functions of the scan answer. Assumes nothing.
 use mathlib.Core.Path.{_≡_}
 use mathlib.Core.List.{List, [], _∷_, map}
-use Prim.Native.Nat.{ℕ, _+_, _-_, _*_, _<_, _≤_}
-use lib.Dec.{ltb}
+use Prim.Native.Nat.{ℕ, _<_, _≤_}
 use lib.ListN.{length, getD, drop, take}
-use Rattle.terms.specs.Base.{count-from, if_then_else_}
-use Rattle.terms.specs.Term.{var, Pair, term-bytes, size}
+use Rattle.terms.specs.Term.{var, Pair, term-bytes}
 use Rattle.terms.specs.Flat.{Wf}
 use Rattle.problem.specs.Problem.{Equation}
-use Rattle.rewriting.specs.Overlap.{Rule, sides-of, overlap, Place, places, places-with, all-places}
+use Rattle.rewriting.specs.Overlap.{Rule, sides-of, overlap, Place, all-places}
 use Rattle.rewriting.specs.Rewrite.{End, complete, neither-above, spent, too-large, rules-full, log-full, Paid, done, stop, Paying, _>>=_, normalise-pair}
 use Rattle.completion.specs.Turn.{Origin, scanned-input, Candidate, candidates, scan-overlap, if-different, if-different-overlap, scan}
 use Rattle.completion.specs.Calls.{origin-bytes}
@@ -85,40 +83,12 @@ pub record Holds (tab rules lens numbers : List ℕ) (count : ℕ) (rs : List Ru
   pub counted : count ≡ length rs
   pub numbered : (k : ℕ) → k < count → getD numbers k 0 ≡ rule-at rs k .number
 
--- the parts that the functions walk over: one place; the positions from p on; the rules from b on
+-- the parts that the functions walk over: one place; the rules from b on
 unfoldable pub at-place : Spot → List Rule → Part
 at-place at rs = visit rs (record { inner = rule-at rs (at .inner); outer = rule-at rs (at .outer); position = at .position })
 
-unfoldable pub at-positions : ℕ → ℕ → ℕ → List Rule → Part
-at-positions inner outer from rs = visits rs (places (rule-at rs inner) (rule-at rs outer) (count-from from (size (rule-at rs outer .sides .left) - from)))
-
 unfoldable pub of-rules : ℕ → List Rule → Part
 of-rules b rs = visits rs (all-places (take b rs) (drop b rs))
-
--- rule b with the earlier rules from a on, then with itself; then the later rules
-unfoldable pub with-earlier : ℕ → ℕ → List Rule → Part
-with-earlier a b rs next = visits rs (places-with (drop a (take b rs)) (rule-at rs b)) (at-positions b b 1 rs (of-rules (b + 1) rs next))
-
--- what follows the positions of rule i in rule o, and what is to come from a place on
-unfoldable pub behind : ℕ → ℕ → List Rule → Part
-behind i o rs next =
-    if ltb i o then at-positions o i 0 rs (with-earlier (i + 1) o rs next) else
-    if ltb o i then with-earlier (o + 1) i rs next else of-rules (o + 1) rs next
-
-unfoldable pub to-come : Spot → List Rule → Part
-to-come at rs next = if ltb (at .outer) (length rs) then at-positions (at .inner) (at .outer) (at .position) rs (behind (at .inner) (at .outer) rs next) else next
-
--- a number that rises along the places: by the later rule, then the earlier, then which of them is inner, then the position
-unfoldable pub rank : Spot → ℕ
-rank at = at .position + 256 * ((at .inner - at .outer) + 40 * (at .inner - (at .inner - at .outer)) + 2000 * (at .inner + (at .outer - at .inner)))
-
--- `next`
-pub record Follows (lens : List ℕ) (at r : Spot) : Type 0 where
-  pub low : r .position < 256
-  pub within : (count : ℕ) → at .inner < count → at .outer < count → r .outer < count → r .inner < count
-  pub rises : rank at < rank r
-  pub leads : (rs : List Rule) → ((k : ℕ) → k < length rs → getD lens (2 * k) 0 ≡ size (rule-at rs k .sides .left)) → at .inner < length rs → at .outer < length rs →
-      (next : Paying Candidate) → to-come at rs next ≡ at-place at rs (to-come r rs next)
 
 -- `scan_pair`
 pub record PairWalk (tab rules lens : List ℕ) (count : ℕ) (L : List ℕ) (m : ℕ) (R : List ℕ) (n : ℕ) (L′ R′ from : List ℕ) (units : ℕ) (w : Walk) : Type 0 where

@@ -2,10 +2,8 @@
 mod origins;
 mod spots;
 
-ghost use mathlib.Core.Path.{_≡_};
-ghost use mathlib.Core.List.{List, [], _∷_, _++_};
-ghost use Prim.Native.Nat.{ℕ, _+_, _-_, _*_, _<_, _≤_};
-ghost use lib.ListN.{length, getD, take};
+ghost use Prim.Native.Nat.{_+_, _<_, _≤_};
+ghost use lib.ListN.{length};
 ghost use Rattle.normaliser.specs.Stored.{Layout};
 ghost use Rattle.scan.specs.Walk.{Bare, PairWalk, Walks, Holds, at-place, of-rules, SlotWalk, Given, of-inputs, Scanned};
 use overlaps::Met;

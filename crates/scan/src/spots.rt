@@ -2,7 +2,7 @@
 ghost use mathlib.Core.Path.{_≡_};
 ghost use Prim.Native.Nat.{_*_, _<_};
 ghost use lib.ListN.{length};
-ghost use Rattle.scan.specs.Walk.{Follows};
+ghost use Rattle.scan.specs.Order.{Follows};
 
 // Rule `inner` in rule `outer` at a position of its left side, or behind its end, where there is no overlap.
 pub struct Spot {

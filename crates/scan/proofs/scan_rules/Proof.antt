@@ -1,10 +1,8 @@
--- `scan_rules`: the invariant is that what is to come from the place reached, with the units left, comes to what all places come to; the rank rises.
+-- `scan_rules`: the invariant is that what is to come from the place reached, with the units left, comes to what all places come to; `ahead` falls.
 -- Assumes nothing.
--- Read first: specs/Walk (to-come, rank), proofs/Reaching (Reaching).
-use Rattle.scan.proofs.Reaching.{Reaching, reach-first, reach-end, reach-stop, reach-next, next-asks, falls}
+-- Read first: specs/Order (to-come), proofs/Reaching (Reaching, ahead).
+use Rattle.scan.proofs.Reaching.{Reaching, ahead, reach-first, reach-end, reach-stop, reach-next, next-asks, falls}
 use Rattle.scan.proofs.Going.{still-fits}
-use Rattle.scan.specs.Walk.{rank}
-use Prim.Native.Nat.{_-_}
 use borrow.Author.Needs.{needs}
 use Rattle.scan.proofs.scan_rules.Statement.{statement}
 use Rattle.scan.proofs.scan_rules.Tie as tie
@@ -21,7 +19,7 @@ Inv-loop rules lens numbers count table left₀ right₀ units at₀ u₀ left r
 
 abbrev μ-loop : tie.MeasureT-loop
 μ-loop rules lens numbers count table left₀ right₀ units at₀ u₀ left right at u =
-    20000000 - rank at
+    ahead at
 
 loop-holds : tie.Need-loop-holds Inv-loop μ-loop
 loop-holds c = reach-first (c .spot-at .ensures)

@@ -1,5 +1,5 @@
 -- `next`: a lemma for each return: the next position, back, the next earlier rule, the rule with itself, the next rule. Assumes nothing.
--- Read first: specs/Walk (Follows, to-come), proofs/Places.
+-- Read first: specs/Order (Follows, to-come), proofs/Places.
 use Rattle.scan.proofs.Places.{next-position, next-back, next-later, next-itself, next-earlier}
 use borrow.Author.Needs.{needs}
 use Rattle.scan.proofs.spots.next.Statement.{statement}
