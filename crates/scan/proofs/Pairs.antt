@@ -31,18 +31,14 @@ module _ (rs : List Rule) (o : Origin) (e : Pair) (next : Paying Candidate) (u :
   unfolding compared normalise-pair _>>=_ and-then
   right-stops y v x z q r = rw (q, r)
 
-  both-done : (y : Term) (v : ℕ) (y′ : Term) (z : ℕ) → normalise rs (e .left) u ≡ done y v → normalise rs (e .right) v ≡ done y′ z →
-      compared rs o e next u ≡ if-different o (record { left = y; right = y′ }) next z
-  unfolding compared normalise-pair _>>=_ and-then return
-  both-done y v y′ z q r = rw (q, r)
+  forms-agree : (y : Term) (v : ℕ) (y′ : Term) (z : ℕ) → normalise rs (e .left) u ≡ done y v → normalise rs (e .right) v ≡ done y′ z → same y y′ ≡ true → compared rs o e next u ≡ next z
+  unfolding compared normalise-pair _>>=_ and-then return if-different if_then_else_
+  forms-agree y v y′ z q r s = rw (q, r, s)
 
-  same-forms : (f : Pair) (z : ℕ) → same (f .left) (f .right) ≡ true → if-different o f next z ≡ next z
-  unfolding if-different if_then_else_
-  same-forms f z q = rw q
-
-  other-forms : (f : Pair) (z : ℕ) → same (f .left) (f .right) ≡ false → if-different o f next z ≡ done (record { origin = o; sides = f }) z
-  unfolding if-different if_then_else_ return
-  other-forms f z q = rw q
+  forms-differ : (y : Term) (v : ℕ) (y′ : Term) (z : ℕ) → normalise rs (e .left) u ≡ done y v → normalise rs (e .right) v ≡ done y′ z → same y y′ ≡ false →
+      compared rs o e next u ≡ done (record { origin = o; sides = record { left = y; right = y′ } }) z
+  unfolding compared normalise-pair _>>=_ and-then return if-different if_then_else_
+  forms-differ y v y′ z q r s = rw (q, r, s)
 
 pub bare-room : {L R L′ R′ : List ℕ} {v u units : ℕ} {w : Walk} → Bare v u w → length L′ ≡ length L → length R′ ≡ length R → u ≤ units → Room L R L′ R′ units w
 bare-room b p q l =
@@ -111,7 +107,7 @@ module _ (tab rules lens : List ℕ) (count : ℕ) (L : List ℕ) (m : ℕ) (R :
         go : (rs : List Rule) (o : Origin) (e : Pair) → Rest rs o e
         go rs o e y k q z by wy (done y′ k′) q′ h =
             let u : w .units ≡ k′ = b .units ∙ (let s = h .1 in omega arith) in
-            on (b .verdict) (λ next. both-done rs o e next units y k y′ k′ q q′ ∙ same-forms rs o e next units (record { left = y; right = y′ }) k′ (same-dec y y′ .1 (forms y y′ by (h .3) wy (h .4) (uncut cut))) ∙ ap next (sym u))
+            on (b .verdict) (λ next. forms-agree rs o e next units y k y′ k′ q q′ (same-dec y y′ .1 (forms y y′ by (h .3) wy (h .4) (uncut cut))) ∙ ap next (sym u))
         go rs o e y k q z by wy (stop x k′) q′ h = absurd (zero≢code x (sym ok′ ∙ h .0))
 
     pub pair-found : (l .verdict ≡ 0) → (r .verdict ≡ 0) → (t : Bool) → t ≡ false → (take (l .len - 0) L′ ≡ take (r .len - 0) R′ → t ≡ true) →
@@ -127,6 +123,6 @@ module _ (tab rules lens : List ℕ) (count : ℕ) (L : List ℕ) (m : ℕ) (R :
         go rs o e fr y k q z by wy (done y′ k′) q′ h =
             let u : w .units ≡ k′ = wu ∙ (let s = h .1 in omega arith) in
             found (record { origin = o; sides = record { left = y; right = y′ } }) wv
-            (λ next. both-done rs o e next units y k y′ k′ q q′ ∙ other-forms rs o e next units (record { left = y; right = y′ }) k′ (apart y y′ by (h .3) (same y y′) refl) ∙ ap (done (record { origin = o; sides = record { left = y; right = y′ } })) (sym u))
+            (λ next. forms-differ rs o e next units y k y′ k′ q q′ (apart y y′ by (h .3) (same y y′) refl) ∙ ap (done (record { origin = o; sides = record { left = y; right = y′ } })) (sym u))
             (record { sides = record { left-bytes = rw wm by; right-bytes = rw wn (h .3); left-wf = wy; right-wf = h .4 }; from = wo ∙ fr })
         go rs o e fr y k q z by wy (stop x k′) q′ h = absurd (zero≢code x (sym ok′ ∙ h .0))
