@@ -1,5 +1,5 @@
 -- The call complete from the promises of its parts: numbers of ends, the run's result, an accepted problem, and the three answers. Assumes nothing.
--- Read first: specs/Answer, completion/specs/Calls (complete-call, after-complete), run/specs/Turned (Runs, RanIs), proofs/Delivering.
+-- Read first: specs/Answer, completion/specs/Calls (complete-call, after-complete), run/specs/Runs (Runs, RanIs), proofs/Delivering.
 use mathlib.Core.Path.{_≡_, refl, sym, ap, _∙_}
 use mathlib.Core.Bool.{Bool, true, false}
 use mathlib.Core.List.{List}
@@ -21,7 +21,9 @@ use Rattle.completion.proofs.Accepts.{accepts}
 use Rattle.inputs.specs.Inputs.{Filled}
 use Rattle.inputs.proofs.Fields.{parsed-few}
 use Rattle.engine.specs.State.{whole}
-use Rattle.run.specs.Turned.{stop-code, Given, Runs}
+use Rattle.making.specs.Made.{stop-code}
+use Rattle.turn.specs.Turns.{Given}
+use Rattle.run.specs.Runs.{Runs}
 use Rattle.run.specs.declared.Ran.{Ran}
 use Rattle.complete.specs.Answer.{told, counted, Delivery, EndIs, WritesRun, WritesProblem}
 use Rattle.complete.specs.declared.Completed.{Completed}

@@ -11,7 +11,8 @@ use Rattle.completion.specs.Calls.{end-number, result-bytes}
 use Rattle.completion.specs.Promise.{Delivers}
 use Rattle.report.specs.Fields.{Writes}
 use Rattle.engine.specs.State.{whole}
-use Rattle.run.specs.Turned.{stop-code, RanIs}
+use Rattle.making.specs.Made.{stop-code}
+use Rattle.run.specs.Runs.{RanIs}
 use Rattle.run.specs.declared.Ran.{Ran}
 use Rattle.complete.specs.declared.Completed.{Completed}
 use Rattle.complete.specs.declared.Completed.the-variants.{Written, Refused}

@@ -1,9 +1,1 @@
-pub mod Keeping
-pub mod Copying
-pub mod Making
-pub mod Turns
-pub mod ScanEnds
-pub mod Taking
 pub mod Running
-pub mod Parts
-pub mod Whole

@@ -1,5 +1,5 @@
 -- The loop of turns comes to the run: the state at hand stands for one on the way, from which the run ends as from the start. Assumes nothing.
--- Read first: completion/proofs/Turning (Running), specs/Turned (WholeTurn, Runs), proofs/Turns.
+-- Read first: completion/proofs/Turning (Running), turn/specs/Turns (WholeTurn), specs/Runs.
 use mathlib.Core.Path.{_≡_, refl, sym, ap, _∙_, subst, subst₂}
 use mathlib.Core.List.{List, []}
 use Prim.Native.Nat.{ℕ, _+_, _-_, _≤_}
@@ -13,10 +13,12 @@ use Rattle.completion.proofs.Reachable.{turn-less}
 use Rattle.engine.specs.State.{Whole, whole, Fine, Represents}
 use Rattle.engine.specs.declared.State.{State}
 use Rattle.engine.specs.Steps.{Begun}
-use Rattle.run.specs.Turned.{Outcome, outcome, Ends, with-units, Given, Shown, TurnedIs, WholeTurn, RanIs, Runs}
-use Rattle.run.specs.declared.Turned.{Turned}
+use Rattle.making.specs.Made.{Outcome, outcome}
+use Rattle.turn.specs.Turns.{Given, Shown, TurnedIs, WholeTurn}
+use Rattle.run.specs.Runs.{Ends, with-units, RanIs, Runs}
+use Rattle.making.specs.declared.Turned.{Turned}
 use Rattle.run.specs.declared.Ran.{Ran}
-use Rattle.run.proofs.Turns.{stop-positive}
+use Rattle.making.proofs.Verdicts.{stop-positive}
 
 -- other units
 abbrev pub paying : Whole → ℕ → Whole

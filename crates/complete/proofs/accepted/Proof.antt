@@ -1,5 +1,5 @@
 -- `accepted`: `inputs::fill` stores the equations, `run::run` is the definition's run of them, `write` its result: `accepted-run`. Assumes nothing.
--- Read first: specs/Answer (WritesProblem), inputs/specs/Inputs (Filled), run/specs/Turned (Runs), proofs/Completing.
+-- Read first: specs/Answer (WritesProblem), inputs/specs/Inputs (Filled), run/specs/Runs (Runs), proofs/Completing.
 use Rattle.complete.proofs.Completing.{accepted-run}
 use borrow.Author.Needs.{needs}
 use Rattle.complete.proofs.accepted.Statement.{statement}

@@ -1,11 +1,8 @@
 -- `ended`: what a stopped turn leaves, and the units paid, which `paid` answers. Assumes nothing.
--- Read first: specs/Turned (Ends), `ended` in src/lib.rt.
+-- Read first: specs/Runs (Ends), `ended` in src/lib.rt.
 use borrow.Author.Needs.{needs}
 use Rattle.run.proofs.ended.Statement.{statement}
 use Rattle.run.proofs.ended.Tie as tie
 
-returns : tie.Need-returns
-returns c = search needs
-
 pub ended-spec : {M : Type 1} → statement M
-ended-spec = tie.close (tie.spec (λ c κs. search needs) returns)
+ended-spec = tie.close (tie.spec (λ c κs. search needs) (λ c. search needs))

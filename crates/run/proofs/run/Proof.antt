@@ -1,5 +1,5 @@
 -- `run`: the invariant is that the state stands for one on the way of the run; 512 less the log's entries falls, one a turn. Assumes nothing.
--- Read first: specs/Turned (Runs), proofs/Running (Looping).
+-- Read first: specs/Runs (Runs), proofs/Running (Looping).
 use mathlib.Core.Path.{ap}
 use Rattle.engine.specs.declared.State.{State}
 use Rattle.run.proofs.Running.{looping-next}
@@ -18,7 +18,7 @@ use Rattle.run.proofs.run.Lts as lts
 use Rattle.engine.proofs.State.begin.Reads as begin-reads
 use Rattle.run.proofs.ended.Reads as ended-reads
 use Rattle.run.proofs.next.Reads as next-reads
-use Rattle.run.proofs.turn.Reads as turn-reads
+use Rattle.turn.proofs.turn.Reads as turn-reads
 
 abbrev Inv-loop : tie.InvT-loop
 Inv-loop inputs sizes number table budget rules₀ waiting₀ log₀ left₀ right₀ st₀ rules waiting log left right st =
@@ -36,18 +36,9 @@ loop-holds : tie.Need-loop-holds Inv-loop μ-loop
 loop-holds c =
     (looping-begins _ _ _ _ _ _ (c .before .before .begin .ensures .begun _ _ (c .before .before .before .before .before .before .before .before .before .before .pre .1 .0) (c .before .before .before .before .before .before .before .before .before .before .pre .1 .2)), refl, refl)
 
-slice-aggregate-turn : tie.Need-slice-aggregate-turn Inv-loop μ-loop
-slice-aggregate-turn c = search needs
-
-slice-aggregate-turn-2 : tie.Need-slice-aggregate-turn-2 Inv-loop μ-loop
-slice-aggregate-turn-2 c = search needs
-
 turn-requires : tie.Need-turn-requires Inv-loop μ-loop
 turn-requires c κs =
     (c .before .before .before .before .before .loop .inv .0 .fine, (c .before .before .before .before .before .before .before .before .before .before .before .before .before .before .before .before .pre .0, (let p = c .before .before .before .before .before .loop .inv .1 in omega arith, let p = c .before .before .before .before .before .loop .inv .2 in omega arith)))
-
-ended-requires : tie.Need-ended-requires Inv-loop μ-loop
-ended-requires c κs = search needs
 
 same-length : tie.Need-same-length Inv-loop μ-loop
 same-length c =
@@ -67,9 +58,6 @@ returns : tie.Need-returns Inv-loop μ-loop
 returns c =
     run-ended _ _ _ _ _ _ (c .before .before .before .before .before .before .before .before .before .before .before .before .before .before .before .before .before .loop .inv .0) _ _ _ _ _ _ _ _ (c .before .before .before .before .before .before .before .before .before .before .before .turn .ensures) (c .before .if1 .taken) _ (c .ended .ensures)
 
-next-requires : tie.Need-next-requires Inv-loop μ-loop
-next-requires c κs = search needs
-
 loop-less : tie.Need-loop-less Inv-loop μ-loop
 loop-less c =
     let g = loop-grows _ _ _ _ _ _ (c .before .before .before .before .before .before .before .before .before .before .before .before .before .before .before .before .before .loop .inv .0) _ _ _ _ _ (c .before .before .before .before .before .before .before .before .before .before .before .turn .ensures) (c .before .if1 .left) in
@@ -88,14 +76,14 @@ run-spec =
     μ-loop
     begin-requires
     loop-holds
-    slice-aggregate-turn
-    slice-aggregate-turn-2
+    (λ c. search needs)
+    (λ c. search needs)
     turn-requires
-    ended-requires
+    (λ c κs. search needs)
     same-length
     same-length-2
     same-length-3
     returns
-    next-requires
+    (λ c κs. search needs)
     loop-less
     loop-again)

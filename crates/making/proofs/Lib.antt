@@ -1,0 +1,6 @@
+pub mod Verdicts
+pub mod Keeping
+pub mod Copying
+pub mod Making
+pub mod Turns
+pub mod Parts

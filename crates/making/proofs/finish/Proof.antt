@@ -1,0 +1,67 @@
+-- `finish`: a right side came to a stop (`finishes-stop`), or all are normal and the entry is logged (`finishes-done`). Assumes nothing.
+-- Read first: specs/Made (Finishes), compose/specs/Rights (All), proofs/Parts.
+use native.Mathlib.Omega.{arith}
+use mathlib.Core.Path.{refl, _∙_}
+use Rattle.making.proofs.Keeping.{stays}
+use Rattle.making.proofs.Copying.{copied, pasted-room, logged-copy}
+use Rattle.normaliser.proofs.Choosing.{layout-front}
+use Rattle.making.proofs.Parts.{finishes-stop, finishes-done, slots-fine}
+use borrow.Author.Needs.{needs}
+use Rattle.making.proofs.finish.Statement.{statement}
+use Rattle.making.proofs.finish.Tie as tie
+use Rattle.making.proofs.finish.Reads as reads
+use Rattle.making.proofs.finish.Lts as lts
+use Rattle.compose.proofs.compose.Reads as compose-reads
+use Rattle.engine.proofs.State.with_entry.Reads as with-entry-reads
+use Rattle.making.proofs.stopped.Reads as stopped-reads
+use Rattle.store.proofs.paste.Reads as paste-reads
+
+compose-requires : tie.Need-compose-requires
+compose-requires c κs =
+    layout-front _ _ _ _ _ _ (c .before .before .before .before .before .before .before .before .pre .0 .0) (let p = c .before .before .before .before .before .before .before .before .pre .0 .1 in omega arith)
+
+returns : tie.Need-returns
+returns c =
+    record {
+      kept = λ _. (refl, refl);
+      finishes = λ waiting fine. finishes-stop _ _ _ _ _ _ _ _ _ (c .before .before .before .before .before .before .compose .ensures) (let p = c .before .before .before .before .before .before .before .before .before .before .before .before .before .before .before .pre .0 .1 in omega arith) (c .before .if1 .taken) _ (stays (c .stopped .ensures) _ _ _);
+    }
+
+same-length-2 : tie.Need-same-length-2
+same-length-2 c = c .before .before .before .before .before .before .before .before .before .before .before .before .before .before .before .before .before .compose .ensures .kept .same-bytes
+
+returns-2 : tie.Need-returns-2
+returns-2 c =
+    let p = c .before .before .before .before .before .before .before .before .before .before .before .before .before .before .before .before .before .before .before .before .before .before .before .before .before .before .pre .0 .1 in
+    let long = c .before .before .before .before .before .before .before .before .before .before .before .before .before .before .before .before .before .compose .ensures .kept .same-bytes ∙ c .before .before .before .before .before .before .before .before .before .before .before .before .before .before .before .before .before .before .before .before .before .before .before .before .before .before .pre .1 .0 in
+    let room = pasted-room _ _ _ _ long (c .before .before .before .before .before .before .before .before .before .before .before .before .before .before .before .before .before .before .before .before .before .before .before .before .before .before .pre .0 .0 .few) (c .before .before .before .before .before .before .before .paste .ensures) (c .before .before .before .before .before .before .before .before .before .before .before .before .before .before .before .before .before .before .before .before .before .before .before .before .before .before .pre .1 .1) in
+    let C = copied _ _ _ _ long (c .before .before .before .before .before .before .before .before .before .before .before .before .before .before .before .before .before .before .before .before .before .before .before .before .before .before .pre .0 .0 .few) (c .before .before .before .before .before .before .before .paste .ensures) room in
+    record {
+      kept = λ v. absurd (v (c .stopped2 .ensures .verdict-is));
+      finishes = λ waiting fine.
+          finishes-done _ _ _ _ _ _ _ _ _ (c .before .before .before .before .before .before .before .before .before .before .before .before .before .before .before .before .before .compose .ensures) (omega arith) (c .before .before .before .before .before .before .before .before .before .before .before .before .if1 .left) _
+          (logged-copy _ _ _ _ _ C (c .before .before .before .with-entry .ensures .logged _ waiting (slots-fine _ _ _ _ _ _ _ (c .before .before .before .before .before .before .before .before .before .before .before .before .before .before .before .before .before .compose .ensures) (omega arith) fine))) (stays (c .stopped2 .ensures) _ _ _);
+    }
+
+pub finish-spec : {M : Type 1} → statement M
+finish-spec =
+    tie.close
+    (tie.spec
+    (λ c. search needs)
+    (λ c. search needs)
+    compose-requires
+    (λ c κs. search needs)
+    (λ c. search needs)
+    returns
+    (λ c. search needs)
+    (λ c. search needs)
+    (λ c. search needs)
+    (λ c. search needs)
+    (λ c κs. search needs)
+    (λ c. search needs)
+    (λ c κs. search needs)
+    (λ c κs. search needs)
+    same-length-2
+    (λ c. search needs)
+    (λ c. search needs)
+    returns-2)

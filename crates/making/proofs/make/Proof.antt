@@ -1,0 +1,48 @@
+-- `make`: the log is full, `make_rule` stops and the first state stays, or it goes on: a lemma for each return. Assumes nothing.
+-- Read first: specs/Made (MakesTurn), proofs/Parts.
+use native.Mathlib.Omega.{arith}
+use mathlib.Core.Path.{refl}
+use Rattle.making.proofs.Keeping.{stops}
+use Rattle.making.proofs.Parts.{makes-turn-full, makes-turn-stop, makes-turn-done}
+use borrow.Author.Needs.{needs}
+use Rattle.making.proofs.make.Statement.{statement}
+use Rattle.making.proofs.make.Tie as tie
+use Rattle.making.proofs.make.Reads as reads
+use Rattle.making.proofs.make.Lts as lts
+use Rattle.making.proofs.make_rule.Reads as make-rule-reads
+use Rattle.making.proofs.stopped.Reads as stopped-reads
+
+returns : tie.Need-returns
+returns c =
+    record { makes = λ before. makes-turn-full _ _ _ _ _ _ _ _ (c .before .if1 .taken) (stops (c .stopped .ensures) _ _ _ _ _ _ refl refl) }
+
+make-rule-requires : tie.Need-make-rule-requires
+make-rule-requires c κs =
+    ((c .before .before .before .before .before .before .before .before .before .before .before .pre .0 .0, c .before .before .before .before .before .before .before .before .before .before .before .pre .0 .1, (let p = c .before .before .before .if1 .left in let q = c .before .before .before .before .before .before .before .before .before .before .before .pre .0 .2 in omega arith)), c .before .before .before .before .before .before .before .before .before .before .before .pre .1)
+
+returns-2 : tie.Need-returns-2
+returns-2 c =
+    let M = c .before .before .before .before .before .before .before .before .before .make-rule .ensures in
+    let K = M .kept (c .before .if2 .taken) in
+    record { makes = λ before. makes-turn-stop _ _ _ _ _ _ _ (c .before .before .before .before .before .before .before .before .before .before .before .before .before .if1 .left) _ M _ (c .before .if2 .taken) (stops (c .stopped2 .ensures) _ _ _ _ _ _ (K .0) (K .1)) }
+
+returns-3 : tie.Need-returns-3
+returns-3 c =
+    record { makes = λ before. makes-turn-done _ _ _ _ _ _ _ (c .before .before .before .before .before .before .before .before .before .before .before .before .if1 .left) _ (c .before .before .before .before .before .before .before .before .make-rule .ensures) (c .if2 .left) (c .before .before .before .before .before .before .before .before .before .before .before .before .before .before .before .before .before .before .before .before .pre .0 .2) }
+
+pub make-spec : {M : Type 1} → statement M
+make-spec =
+    tie.close
+    (tie.spec
+    (λ c κs. search needs)
+    returns
+    make-rule-requires
+    (λ c κs. search needs)
+    (λ c. search needs)
+    (λ c. search needs)
+    (λ c. search needs)
+    returns-2
+    (λ c. search needs)
+    (λ c. search needs)
+    (λ c. search needs)
+    returns-3)

@@ -1,0 +1,48 @@
+-- `make_rule`: a lemma for each return: neither side above, too many variables, 32 rules live, or what `finish` answers. Assumes nothing.
+-- Read first: specs/Made (Makes), orient/specs/Oriented (Placed), engine/specs/Steps (CollapsedState, OrientedState), proofs/Parts.
+use mathlib.Core.Path.{refl}
+use Rattle.making.proofs.Keeping.{stops}
+use Rattle.making.proofs.Parts.{one-slot, makes-neither, makes-large, makes-with}
+use borrow.Author.Needs.{needs}
+use Rattle.making.proofs.make_rule.Statement.{statement}
+use Rattle.making.proofs.make_rule.Tie as tie
+use Rattle.making.proofs.make_rule.Reads as reads
+use Rattle.making.proofs.make_rule.Lts as lts
+use Rattle.orient.proofs.place.Reads as place-reads
+use Rattle.making.proofs.stopped.Reads as stopped-reads
+use Rattle.making.proofs.with_rule.Reads as with-rule-reads
+
+returns : tie.Need-returns
+returns c =
+    makes-neither _ _ _ _ _ _ _ _ _ _ _ _ (c .before .before .before .before .place .ensures) (c .before .if1 .taken) (c .before .before .before .before .before .before .before .before .before .before .before .before .before .pre .1 .0) (c .before .before .before .before .before .before .before .before .before .before .before .before .before .pre .1 .1) (stops (c .stopped .ensures) _ _ _ _ _ _ refl refl)
+
+returns-2 : tie.Need-returns-2
+returns-2 c =
+    makes-large _ _ _ _ _ _ _ _ _ _ _ _ (c .before .before .before .before .before .place .ensures) (c .before .before .if1 .left) (c .before .if2 .taken) (stops (c .stopped2 .ensures) _ _ _ _ _ _ refl refl)
+
+with-rule-requires : tie.Need-with-rule-requires
+with-rule-requires c κs =
+    (c .before .before .before .before .before .before .before .before .before .before .before .before .before .before .before .before .before .before .pre .0, one-slot _ _ _ (search needs) (search needs) (c .before .before .before .before .before .before .before .before .before .place .ensures .short (c .before .before .before .before .before .if2 .left)))
+
+returns-3 : tie.Need-returns-3
+returns-3 c =
+    makes-with _ _ _ _ _ _ _ _ _ _ _ _ (c .before .before .before .before .before .before .before .before .before .before .before .before .before .before .before .before .place .ensures) (c .before .before .before .before .before .before .before .before .before .before .before .before .if2 .left) (c .before .before .before .before .before .before .with-rule .ensures)
+
+pub make-rule-spec : {M : Type 1} → statement M
+make-rule-spec =
+    tie.close
+    (tie.spec
+    (λ c. search needs)
+    (λ c. search needs)
+    (λ c κs. search needs)
+    (λ c κs. search needs)
+    returns
+    (λ c κs. search needs)
+    returns-2
+    (λ c. search needs)
+    (λ c. search needs)
+    with-rule-requires
+    (λ c. search needs)
+    (λ c. search needs)
+    (λ c. search needs)
+    returns-3)

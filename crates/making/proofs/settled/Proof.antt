@@ -1,0 +1,43 @@
+-- `settled`: the log is full (`settled-full`), or the pair is taken and logged without a rule (`settled-done`). Assumes nothing.
+-- Read first: specs/Made (SettledTurn), proofs/Parts.
+use native.Mathlib.Omega.{arith}
+use mathlib.Core.Path.{refl}
+use Rattle.making.proofs.Keeping.{stays, stops}
+use Rattle.making.proofs.Parts.{settled-full, settled-done, one-behind}
+use borrow.Author.Needs.{needs}
+use Rattle.making.proofs.settled.Statement.{statement}
+use Rattle.making.proofs.settled.Tie as tie
+use Rattle.making.proofs.settled.Reads as reads
+use Rattle.making.proofs.settled.Lts as lts
+use Rattle.engine.proofs.State.take.Reads as take-reads
+use Rattle.engine.proofs.State.with_entry.Reads as with-entry-reads
+use Rattle.making.proofs.stopped.Reads as stopped-reads
+
+returns : tie.Need-returns
+returns c =
+    record { settles = λ rules fine. settled-full _ _ _ _ (c .before .if1 .taken) (stops (c .stopped .ensures) _ _ _ _ _ _ refl refl) }
+
+with-entry-requires : tie.Need-with-entry-requires
+with-entry-requires c κs =
+    (let p = c .before .before .before .before .before .if1 .left in let q = c .before .before .before .take .ensures .entries in omega arith, c .before .before .before .before .before .before .before .before .before .pre .2)
+
+returns-2 : tie.Need-returns-2
+returns-2 c =
+    record {
+      settles = λ rules fine.
+          let K = c .before .before .before .before .before .before .before .take .ensures .taken rules (c .before .before .before .before .before .before .before .before .before .before .before .before .before .args .log .now) fine in
+          settled-done _ _ _ _ (c .before .before .before .before .before .before .before .before .before .if1 .left) _ _ K (c .before .before .before .with-entry .ensures .logged rules _ (one-behind _ (K .fine))) (stays (c .stopped2 .ensures) _ _ _);
+    }
+
+pub settled-spec : {M : Type 1} → statement M
+settled-spec =
+    tie.close
+    (tie.spec
+    (λ c κs. search needs)
+    returns
+    (λ c κs. search needs)
+    with-entry-requires
+    (λ c κs. search needs)
+    (λ c. search needs)
+    (λ c. search needs)
+    returns-2)
