@@ -99,8 +99,9 @@ pub record Looping (tab inputs lens : List ℕ) (count budget : ℕ) (st : Whole
   pub fine : Fine st
   pub going : Going tab inputs lens count budget st
 
-pub looping-begins : (tab inputs lens : List ℕ) (count budget : ℕ) (st : Whole) → Begun inputs lens count budget st → Looping tab inputs lens count budget st
-looping-begins tab inputs lens count budget st B = record { fine = B .fine; going = going-begins tab inputs lens count budget st B }
+-- with the whole budget
+pub looping-begins : (tab inputs lens : List ℕ) (count budget lent : ℕ) (st : Whole) → Begun inputs lens count lent st → lent ≡ budget → Looping tab inputs lens count budget st
+looping-begins tab inputs lens count budget lent st B e = record { fine = B .fine; going = λ P G b. going-begins tab inputs lens count lent st B P G (e ∙ b) }
 
 -- `next`
 pub looping-next : (tab inputs lens : List ℕ) (count budget : ℕ) (r : State) (t : Turned) (rules waiting log : List ℕ) → r ≡ with-units (t .state) (t .units) →

@@ -34,7 +34,7 @@ begin-requires c κs =
 
 loop-holds : tie.Need-loop-holds Inv-loop μ-loop
 loop-holds c =
-    (looping-begins _ _ _ _ _ _ (c .before .before .begin .ensures .begun _ _ (c .before .before .before .before .before .before .before .before .before .before .pre .1 .0) (c .before .before .before .before .before .before .before .before .before .before .pre .1 .2)), refl, refl)
+    (looping-begins _ _ _ _ (c .before .before .before .before .before .before .before .before .before .before .args .budget) _ _ (c .before .before .begin .ensures .begun _ _ (c .before .before .before .before .before .before .before .before .before .before .pre .1 .0) (c .before .before .before .before .before .before .before .before .before .before .pre .1 .2)) refl, refl, refl)
 
 turn-requires : tie.Need-turn-requires Inv-loop μ-loop
 turn-requires c κs =
