@@ -8,11 +8,13 @@ use native.Mathlib.Omega.{arith}
 use lib.Dec.{ltb}
 use lib.ListN.{length, take, drop}
 use borrow.Author.Tests.{lt-ltb, ltb-true}
+use Rattle.terms.specs.Base.{if_then_else_}
 use Rattle.order.specs.Walk.{rank}
+use Rattle.matching.proofs.Replacing.{take-less-zero}
 use Rattle.problem.specs.Problem.{Reading, ok, refused, _>>=_, refuse-if, rank-of, Problem, parse}
 use Rattle.problem.specs.Parser.{symbols-of, Table, ParsedAt}
 use Rattle.problem.proofs.Scanned.{rank-is}
-use Rattle.rewriting.specs.Rewrite.{complete, neither-above, spent, too-large, rules-full, log-full}
+use Rattle.rewriting.specs.Rewrite.{End, complete, neither-above, spent, too-large, rules-full, log-full}
 use Rattle.completion.specs.Turn.{run}
 use Rattle.completion.specs.Calls.{end-number, result-bytes, enough, complete-call, after-complete}
 use Rattle.report.specs.Fields.{Writes}
@@ -25,75 +27,36 @@ use Rattle.making.specs.Made.{stop-code}
 use Rattle.turn.specs.Turns.{Given}
 use Rattle.run.specs.Runs.{Runs}
 use Rattle.run.specs.declared.Ran.{Ran}
-use Rattle.complete.specs.Answer.{told, counted, Delivery, EndIs, WritesRun, WritesProblem}
+use Rattle.complete.specs.Answer.{told, counted, Delivery, end-of, WritesRun, WritesProblem}
 use Rattle.complete.specs.declared.Completed.{Completed}
 use Rattle.complete.specs.declared.Completed.the-variants.{Written, Refused}
 use Rattle.complete.proofs.Delivering.{delivery}
 
 -- `end_number`
-pub end-complete : (v : ℕ) → v ≡ 3 → EndIs v 0
-unfolding stop-code end-number
-end-complete v z complete q = refl
-end-complete v z (neither-above e) q = absurd (omega arith)
-end-complete v z spent q = absurd (omega arith)
-end-complete v z too-large q = absurd (omega arith)
-end-complete v z rules-full q = absurd (omega arith)
-end-complete v z log-full q = absurd (omega arith)
-
-pub end-neither : (v : ℕ) → v ≡ 6 → EndIs v 20
-unfolding stop-code end-number
-end-neither v z complete q = absurd (omega arith)
-end-neither v z (neither-above e) q = refl
-end-neither v z spent q = absurd (omega arith)
-end-neither v z too-large q = absurd (omega arith)
-end-neither v z rules-full q = absurd (omega arith)
-end-neither v z log-full q = absurd (omega arith)
-
-pub end-spent : (v : ℕ) → v ≡ 1 → EndIs v 21
-unfolding stop-code end-number
-end-spent v z complete q = absurd (omega arith)
-end-spent v z (neither-above e) q = absurd (omega arith)
-end-spent v z spent q = refl
-end-spent v z too-large q = absurd (omega arith)
-end-spent v z rules-full q = absurd (omega arith)
-end-spent v z log-full q = absurd (omega arith)
-
-pub end-large : (v : ℕ) → v ≡ 2 → EndIs v 22
-unfolding stop-code end-number
-end-large v z complete q = absurd (omega arith)
-end-large v z (neither-above e) q = absurd (omega arith)
-end-large v z spent q = absurd (omega arith)
-end-large v z too-large q = refl
-end-large v z rules-full q = absurd (omega arith)
-end-large v z log-full q = absurd (omega arith)
-
-pub end-full : (v : ℕ) → (v ≡ 3 → ⊥) → (v ≡ 6 → ⊥) → (v ≡ 1 → ⊥) → (v ≡ 2 → ⊥) → EndIs v 23
-unfolding stop-code end-number
-end-full v a b c d complete q = absurd (a q)
-end-full v a b c d (neither-above e) q = absurd (b q)
-end-full v a b c d spent q = absurd (c q)
-end-full v a b c d too-large q = absurd (d q)
-end-full v a b c d rules-full q = refl
-end-full v a b c d log-full q = refl
-
-minus-zero : (n : ℕ) → n - 0 ≡ n
-minus-zero n = omega arith
+end-law : (e : End) → end-of (stop-code e) ≡ end-number e
+unfolding stop-code end-number if_then_else_
+end-law complete = refl
+end-law (neither-above e) = refl
+end-law spent = refl
+end-law too-large = refl
+end-law rules-full = refl
+end-law log-full = refl
 
 -- `write`
-pub write-run : (o : Ran) (rules log : List ℕ) (end : ℕ) (left right before after : List ℕ) (r : ℕ) → EndIs (o .verdict) end → left ≡ take (o .m - 0) (o .left) → right ≡ take (o .n - 0) (o .right) →
+pub write-run : (o : Ran) (rules log : List ℕ) (end : ℕ) (left right before after : List ℕ) (r : ℕ) → end ≡ end-of (o .verdict) → left ≡ take (o .m - 0) (o .left) → right ≡ take (o .n - 0) (o .right) →
     OfState (o .state) rules log end (o .paid) left right before after r → WritesRun o rules log before after r
 write-run o rules log end left right before after r E ql qr W tab waiting f I =
     W tab waiting f (I .state)
     (record {
-      end-is = E (f .end) (I .end);
+      end-is = E ∙ ap end-of (I .end) ∙ end-law (f .end);
       units-are = I .paid;
       forms = λ e q.
           let S = I .forms e q in
           record {
             left-wf = S .left-wf;
             right-wf = S .right-wf;
-            left-bytes = ql ∙ ap (λ k. take k (o .left)) (minus-zero (o .m)) ∙ S .left-bytes;
-            right-bytes = qr ∙ ap (λ k. take k (o .right)) (minus-zero (o .n)) ∙ S .right-bytes;
+            left-bytes = ql ∙ take-less-zero (o .m) (o .left) ∙ S .left-bytes;
+            right-bytes = qr ∙ take-less-zero (o .n) (o .right) ∙ S .right-bytes;
           };
     })
 

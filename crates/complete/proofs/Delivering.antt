@@ -1,7 +1,7 @@
 -- Demand 3 of the answer and the bytes of `complete`: what is written is the definition's result, and that delivers. Assumes nothing.
 -- Read first: specs/Answer (Delivery), completion/specs/Promise (Delivers), completion/proofs/Promised.
 use mathlib.Core.Path.{_≡_, refl, sym, ap, _∙_, subst}
-use mathlib.Core.List.{List, _++_}
+use mathlib.Core.List.{List}
 use Prim.Native.Nat.{ℕ}
 use lib.ListN.{length, take, drop}
 use lib.Seq.{take-at}

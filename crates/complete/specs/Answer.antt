@@ -1,17 +1,19 @@
 -- Document 01, "The result and settle": what `complete` answers, and demand 3 of the bytes it takes and leaves. Assumes nothing.
 use mathlib.Core.Path.{_≡_}
-use mathlib.Core.List.{List}
+use mathlib.Core.List.{List, []}
 use Prim.Native.Nat.{ℕ}
+use lib.Dec.{eqb}
 use lib.ListN.{length, take}
+use Rattle.terms.specs.Base.{if_then_else_}
+use Rattle.terms.specs.Term.{Pair}
 use Rattle.problem.specs.Problem.{Reading, ok, refused, Problem}
 use Rattle.problem.specs.Parser.{ParsedAt}
-use Rattle.rewriting.specs.Rewrite.{End}
+use Rattle.rewriting.specs.Rewrite.{neither-above}
 use Rattle.completion.specs.Turn.{Finished, run}
 use Rattle.completion.specs.Calls.{end-number, result-bytes}
 use Rattle.completion.specs.Promise.{Delivers}
 use Rattle.report.specs.Fields.{Writes}
 use Rattle.engine.specs.State.{whole}
-use Rattle.making.specs.Made.{stop-code}
 use Rattle.run.specs.Runs.{RanIs}
 use Rattle.run.specs.declared.Ran.{Ran}
 use Rattle.complete.specs.declared.Completed.{Completed}
@@ -31,13 +33,22 @@ unfoldable pub Delivery : List ℕ → List ℕ → Completed → Type 0
 Delivery problem result (Written count) = Delivers problem (take count result)
 Delivery problem result (Refused number place) = Unit {0}
 
--- `end_number`
-abbrev pub EndIs : ℕ → ℕ → Type 0
-EndIs verdict r = (e : End) → verdict ≡ stop-code e → r ≡ end-number e
+-- `end_number`: the end's number, for the verdict of a run
+abbrev pub end-of : ℕ → ℕ
+end-of verdict = if eqb verdict 3 then 0 else if eqb verdict 6 then 20 else if eqb verdict 1 then 21 else if eqb verdict 2 then 22 else 23
 
 -- `write`
 abbrev pub WritesRun : Ran → List ℕ → List ℕ → List ℕ → List ℕ → ℕ → Type 0
 WritesRun ran rules log before after r = (tab waiting : List ℕ) (f : Finished) → RanIs tab f ran (whole (ran .state) rules waiting log) → Writes before (result-bytes f) after r
+
+-- `write_nothing`: the run f leaves no rule and no entry
+abbrev pub WritesNothing : ℕ → ℕ → List ℕ → List ℕ → ℕ → Type 0
+WritesNothing end units before after r =
+    (f : Finished) → f .state .rules ≡ [] → f .state .log ≡ [] → end ≡ end-number (f .end) → units ≡ f .units → ((e : Pair) → f .end ≡ neither-above e → ⊥) → Writes before (result-bytes f) after r
+
+-- `write_empty`
+abbrev pub WritesEmpty : ℕ → List ℕ → List ℕ → ℕ → Type 0
+WritesEmpty b before after r = (P : Problem) → P .equations ≡ [] → P .budget ≡ b → Writes before (result-bytes (run P)) after r
 
 -- `accepted`
 abbrev pub WritesProblem : List ℕ → ℕ → ℕ → ℕ → List ℕ → List ℕ → ℕ → Type 0

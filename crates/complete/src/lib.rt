@@ -6,7 +6,7 @@ ghost use lib.ListN.{length};
 ghost use Rattle.problem.specs.Problem.{Problem};
 ghost use Rattle.completion.specs.Calls.{complete-call, after-complete};
 ghost use Rattle.normaliser.specs.Stored.{Layout};
-ghost use Rattle.complete.specs.Answer.{told, counted, Delivery, EndIs, WritesRun, WritesProblem};
+ghost use Rattle.complete.specs.Answer.{told, counted, Delivery, end-of, WritesRun, WritesNothing, WritesEmpty, WritesProblem};
 
 pub enum Completed {
     // The count of result bytes.
@@ -17,7 +17,7 @@ pub enum Completed {
 
 // The end's number in the result, for the verdict of a run.
 fn end_number(verdict: u8) -> u8
-    ensures { λ r. ⌜ EndIs verdict r ⌝ }
+    ensures { λ r. ⌜ r ≡ end-of verdict ⌝ }
 {
     if verdict == 3 {
         return 0;
@@ -58,6 +58,39 @@ fn write(ran: run::Ran, rules: &[u8], log: &[u8], result: &mut [u8]) -> usize
     )
 }
 
+// The result of a run that leaves no rule and no entry in the log, and does not end with 20.
+fn write_nothing(end: u8, units: u32, result: &mut [u8]) -> usize
+    requires { ⌜ 13726 ≤ length (now result) ⌝ }
+    ensures { λ r. ⌜ WritesNothing end units (now (result .entry)) (now (result .exit)) r ⌝ }
+{
+    let none = [0u8; 1];
+    let numbers = [0u16; 1];
+    report::report(
+        result,
+        end,
+        units,
+        &none,
+        &none,
+        &numbers,
+        0,
+        &none,
+        0,
+        &none,
+        &none,
+    )
+}
+
+// The result of a problem with no equation: its first turn ends 0, or 21 where no unit is lent. No buffer is needed.
+fn write_empty(budget: usize, result: &mut [u8]) -> usize
+    requires { ⌜ 13726 ≤ length (now result) ⌝ }
+    ensures { λ r. ⌜ WritesEmpty budget (now (result .entry)) (now (result .exit)) r ⌝ }
+{
+    if budget == 0 {
+        return write_nothing(21, 0, result);
+    }
+    write_nothing(0, 1, result)
+}
+
 // An accepted problem, whose table ends at `behind`: its run, and the result's bytes. The bytes of the rules, of the waiting equations and of
 // the log stand here.
 fn accepted(problem: &[u8], behind: usize, count: usize, budget: usize, result: &mut [u8]) -> usize
@@ -65,6 +98,9 @@ fn accepted(problem: &[u8], behind: usize, count: usize, budget: usize, result: 
     requires { ⌜ (count ≤ 16) × (budget ≤ 1000000) × (13726 ≤ length (now result)) ⌝ }
     ensures { λ r. ⌜ WritesProblem (now (problem .entry)) behind budget count (now (result .entry)) (now (result .exit)) r ⌝ }
 {
+    if count == 0 {
+        return write_empty(budget, result);
+    }
     let mut slots = [0u8; 3840];
     let mut lens = [0u8; 32];
     inputs::fill(problem, behind, count, &mut slots, &mut lens);

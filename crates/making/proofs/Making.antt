@@ -1,6 +1,6 @@
 -- Steps 4 to 7 of a turn on the state by value: by the outcome of each test, what the definition's `make-rule` comes to. Assumes nothing.
 -- Read first: specs/Made (FinishedIs, MadeIs), completion/specs/Turn (make-rule), engine/specs/State (Represents).
-use mathlib.Core.Path.{_≡_, refl, sym, ap, _∙_, subst}
+use mathlib.Core.Path.{_≡_, sym, ap, _∙_, subst}
 use mathlib.Core.Logic.{_⊎_, inl, inr}
 use mathlib.Core.List.{List, [], _∷_, _++_, map}
 use Prim.Native.Nat.{ℕ, suc, _+_, _<_, _≤_}
@@ -9,7 +9,7 @@ use lib.ListN.{length, length-append}
 use Rattle.terms.specs.Term.{Pair}
 use Rattle.problem.specs.Problem.{Problem}
 use Rattle.rewriting.specs.Overlap.{Rule, sides-of}
-use Rattle.rewriting.specs.Rewrite.{End, complete, neither-above, spent, too-large, rules-full, log-full, Paid, done, stop}
+use Rattle.rewriting.specs.Rewrite.{End, neither-above, too-large, rules-full, Paid, done, stop}
 use Rattle.normaliser.specs.Stored.{Stored, code}
 use Rattle.completion.specs.Turn.{Origin, State as RunState, Taken, kept, removed, normalise-rights, make-rule}
 use Rattle.completion.specs.Calls.{origin-bytes, end-number}

@@ -7,7 +7,7 @@ use Prim.Native.Nat.{ℕ, suc, _<_, _≤_}
 use native.Mathlib.Omega.{arith}
 use Rattle.terms.specs.Term.{Pair, same}
 use Rattle.problem.specs.Problem.{Problem}
-use Rattle.rewriting.specs.Rewrite.{End, complete, neither-above, spent, too-large, rules-full, log-full, Paid, done, stop}
+use Rattle.rewriting.specs.Rewrite.{log-full, Paid, done, stop}
 use Rattle.completion.specs.Turn.{State as RunState, Taken, settled, make-rule, turn}
 use Rattle.completion.proofs.Turning.{turn-log-full, turn-settles, turn-makes}
 use Rattle.engine.specs.State.{Whole, Represents}

@@ -2,15 +2,16 @@
 -- Read first: specs/Turns (WaitingTurn, ScanTurn, WholeTurn), making/specs/Made, proofs/Taking.
 use mathlib.Core.Path.{_≡_, refl, sym, ap, _∙_, subst}
 use mathlib.Core.List.{List, [], _∷_, _++_, map, flatMap}
-use Prim.Native.Nat.{ℕ, zero, suc, _-_, _*_, _<_, _≤_}
+use Prim.Native.Nat.{ℕ, suc, _-_, _*_, _<_, _≤_}
 use native.Mathlib.Omega.{arith}
 use lib.ListN.{length, getD, take, length-take}
-use lib.Seq.{take-at}
+use lib.Seq.{take-at, take-take}
 use Rattle.terms.specs.Term.{Pair}
 use Rattle.problem.specs.Problem.{Problem}
 use Rattle.rewriting.specs.Overlap.{all-places}
 use Rattle.rewriting.specs.Rewrite.{spent, Paid, done, stop}
 use Rattle.normaliser.specs.Stored.{Sides, Stored}
+use Rattle.matching.proofs.Replacing.{take-less-zero}
 use Rattle.store.proofs.Listing.{stored-first}
 use Rattle.completion.specs.Turn.{scanned-input, Candidate, State as RunState, candidates, scan, turn}
 use Rattle.completion.specs.Calls.{origin-bytes}
@@ -44,10 +45,6 @@ six-front (a ∷ b ∷ c ∷ d ∷ []) h = absurd (omega arith)
 six-front (a ∷ b ∷ c ∷ d ∷ e ∷ []) h = absurd (omega arith)
 six-front (a ∷ b ∷ c ∷ d ∷ e ∷ f ∷ l) h = refl
 
--- a part from 0
-cut-zero : (n m : ℕ) (l : List ℕ) → n ≡ m → take n l ≡ take m l
-cut-zero n m l e = ap (λ k. take k l) e
-
 -- something waits
 record Oldest (s : RunState) : Type 0 where
   first : Candidate
@@ -62,16 +59,8 @@ oldest-of s h = go (s .waiting) refl
     go (c ∷ cs) e = record { first = c; later = cs; is = e }
 
 -- its origin stands in front
-take-take : (l a r : List ℕ) (n : ℕ) → length a ≤ n → take n l ≡ a ++ r → take (length a) l ≡ a
-take-take l a r n h e = shorter l (length a) n h ∙ ap (take (length a)) e ∙ take-at a r (length a) refl
-  where
-    shorter : (l : List ℕ) (m n : ℕ) → m ≤ n → take m l ≡ take m (take n l)
-    shorter [] m zero h = refl
-    shorter [] zero (suc n) h = refl
-    shorter [] (suc m) (suc n) h = refl
-    shorter (b ∷ l) zero n h = refl
-    shorter (b ∷ l) (suc m) zero h = absurd (omega arith)
-    shorter (b ∷ l) (suc m) (suc n) h = ap (λ (x : List ℕ). b ∷ x) (shorter l m n (omega arith))
+front-of : (l a r : List ℕ) (n : ℕ) → length a ≤ n → take n l ≡ a ++ r → take (length a) l ≡ a
+front-of l a r n h e = sym (take-take (length a) n l h) ∙ ap (take (length a)) e ∙ take-at a r (length a) refl
 
 oldest-origin : (tab : List ℕ) (st : Whole) (s : RunState) (c : Candidate) (cs : List Candidate) → Represents tab st s → s .waiting ≡ c ∷ cs → take 6 (st .origins) ≡ origin-bytes (c .origin)
 unfolding flatMap
@@ -79,7 +68,7 @@ oldest-origin tab st s c cs R e =
     let n : st .waits ≡ suc (length cs) = R .waits ∙ ap (λ (x : List Candidate). length x) e in
     let h : take (6 * (st .waits)) (st .origins) ≡ origin-bytes (c .origin) ++ origins-bytes cs = R .origins ∙ ap origins-bytes e in
     subst (λ k. take k (st .origins) ≡ origin-bytes (c .origin)) (origin-bytes-length (c .origin))
-    (take-take (st .origins) (origin-bytes (c .origin)) (origins-bytes cs) (6 * (st .waits)) (omega (arith, origin-bytes-length (c .origin))) h)
+    (front-of (st .origins) (origin-bytes (c .origin)) (origins-bytes cs) (6 * (st .waits)) (omega (arith, origin-bytes-length (c .origin))) h)
 
 -- the forms that stand in the buffers, cut out
 module _ (tab L R left right : List ℕ) (m n : ℕ) (lm : left ≡ take m L) (rn : right ≡ take n R) (fm : m ≤ length L) (fn : n ≤ length R) where
@@ -138,8 +127,8 @@ module _ (st : Whole) (tab L R L′ R′ origin : List ℕ) (u : ℕ) (w : Walk)
   pub waiting-made : w .verdict ≡ 0 → (rest : Whole) → TakenState st rest → (left right : List ℕ) → left ≡ take (w .m - 0) L′ → right ≡ take (w .n - 0) R′ → 120 ≤ length L → 120 ≤ length R →
       (o : Outcome) → MakesTurn st rest tab left right origin (w .units) o → WaitingTurn st tab L R L′ R′ u o
   waiting-made v rest K left right lm₀ rn₀ roomL roomR o X =
-      let lm : left ≡ take (w .m) L′ = lm₀ ∙ cut-zero (w .m - 0) (w .m) L′ (omega arith) in
-      let rn : right ≡ take (w .n) R′ = rn₀ ∙ cut-zero (w .n - 0) (w .n) R′ (omega arith) in
+      let lm : left ≡ take (w .m) L′ = lm₀ ∙ take-less-zero (w .m) L′ in
+      let rn : right ≡ take (w .n) R′ = rn₀ ∙ take-less-zero (w .n) R′ in
       record {
         safe = X .safe;
         stays = X .stays;
@@ -155,7 +144,7 @@ module _ (st : Whole) (tab L R L′ R′ origin : List ℕ) (u : ℕ) (w : Walk)
       }
 
 -- `turn_scan`
-nothing : (l : List Candidate) → length l ≡ 0 → l ≡ []
+pub nothing : {A : Type 0} (l : List A) → length l ≡ 0 → l ≡ []
 nothing [] h = refl
 nothing (c ∷ l) h = absurd (omega arith)
 
@@ -185,8 +174,8 @@ module _ (st : Whole) (tab inputs sizes : List ℕ) (number : ℕ) (L R L′ R�
   pub scan-made : w .verdict ≡ 0 → (left right : List ℕ) → left ≡ take (w .m - 0) L′ → right ≡ take (w .n - 0) R′ → 120 ≤ length L → 120 ≤ length R → (o : Outcome) →
       MakesTurn st st tab left right (w .origin) (w .units) o → ScanTurn st tab inputs sizes number L R L′ R′ u o
   scan-made v left right lm₀ rn₀ roomL roomR o X =
-      let lm : left ≡ take (w .m) L′ = lm₀ ∙ cut-zero (w .m - 0) (w .m) L′ (omega arith) in
-      let rn : right ≡ take (w .n) R′ = rn₀ ∙ cut-zero (w .n - 0) (w .n) R′ (omega arith) in
+      let lm : left ≡ take (w .m) L′ = lm₀ ∙ take-less-zero (w .m) L′ in
+      let rn : right ≡ take (w .n) R′ = rn₀ ∙ take-less-zero (w .n) R′ in
       record {
         safe = X .safe;
         stays = X .stays;

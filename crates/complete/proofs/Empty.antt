@@ -1,0 +1,74 @@
+-- A problem with no equation: the run is its first turn, which finds nothing and ends `complete`, or which is not paid. Assumes nothing.
+-- Read first: specs/Answer (WritesNothing, WritesEmpty), completion/specs/Turn, completion/proofs/Turning.
+use mathlib.Core.Path.{_≡_, refl, sym, ap, _∙_, subst}
+use mathlib.Core.List.{List, [], map, flatMap}
+use Prim.Native.Nat.{ℕ, suc, _-_}
+use native.Mathlib.Omega.{arith}
+use lib.ListN.{length}
+use Rattle.terms.specs.Base.{field-bytes}
+use Rattle.problem.specs.Problem.{Problem}
+use Rattle.rewriting.specs.Overlap.{Rule, sides-of, all-places}
+use Rattle.rewriting.specs.Rewrite.{complete, spent, stop, and-then, _>>=_, end-with}
+use Rattle.normaliser.specs.Stored.{Stored}
+use Rattle.completion.specs.Turn.{waiting-input, candidates, initial, scan-inputs, scan, take-pair, turn, run}
+use Rattle.completion.specs.Calls.{end-number, entry-field, result-bytes}
+use Rattle.completion.proofs.Turning.{turn-unpaid, turn-stops, run-begins, run-ends}
+use Rattle.making.specs.Made.{stop-code}
+use Rattle.making.proofs.Verdicts.{not-neither}
+use Rattle.turn.proofs.Whole.{nothing}
+use Rattle.report.specs.Fields.{Writes}
+use Rattle.report.specs.Report.{Reports}
+use Rattle.complete.specs.Answer.{WritesNothing, WritesEmpty, WritesProblem}
+
+-- `write_nothing`
+pub writes-nothing : (rules lens numbers log left right : List ℕ) (end units : ℕ) (before after : List ℕ) (r : ℕ) → Reports end units rules lens numbers 0 log 0 left right before after r →
+    WritesNothing end units before after r
+unfolding Stored flatMap
+writes-nothing rules lens numbers log left right end units before after r W f no-rule no-entry e u n =
+    W [] f
+    (record {
+      stored = subst (λ (x : List Rule). Stored [] rules lens 0 (sides-of x)) (sym no-rule) tt;
+      numbered = ap (map (λ (r : Rule). r .number)) (sym no-rule);
+      counted = ap length (sym no-rule);
+      logged = ap (flatMap (λ e. field-bytes (entry-field e))) (sym no-entry);
+    })
+    (record { end-is = e; units-are = u; forms = λ g q. absurd (n g q) })
+
+-- `write_empty`
+module _ (P : Problem) (none : P .equations ≡ []) where
+  finds-nothing : (units : ℕ) → take-pair P [] (candidates waiting-input 1 (P .equations)) units ≡ stop complete units
+  unfolding take-pair candidates scan scan-inputs all-places end-with _>>=_ and-then
+  finds-nothing units = rw none refl
+
+  -- with no unit
+  pub unpaid : P .budget ≡ 0 → run P ≡ record { end = spent; units = 0; state = initial P }
+  unpaid b =
+      run-ends P (run P) (initial P) (P .budget) (run-begins P) spent 0 (ap (turn P (initial P)) b ∙ turn-unpaid P (initial P)) ∙ ap (λ n. record { end = spent; units = n; state = initial P }) (omega arith)
+
+  -- with a unit or more
+  pub completed : (u : ℕ) → P .budget ≡ suc u → run P ≡ record { end = complete; units = 1; state = initial P }
+  unfolding initial
+  completed u b =
+      run-ends P (run P) (initial P) (P .budget) (run-begins P) complete u (ap (turn P (initial P)) b ∙ turn-stops P (initial P) u complete u (finds-nothing u))
+      ∙ ap (λ n. record { end = complete; units = n; state = initial P }) (omega (arith, b))
+
+module _ (before after : List ℕ) (r : ℕ) where
+  pub empty-unpaid : (b : ℕ) → b ≡ 0 → WritesNothing 21 0 before after r → WritesEmpty b before after r
+  unfolding initial end-number stop-code
+  empty-unpaid b z W P none q =
+      subst (λ f. Writes before (result-bytes f) after r) (sym (unpaid P none (q ∙ z)))
+      (W _ refl refl refl refl (λ e k. not-neither spent (omega arith) e k))
+
+  pub empty-completed : (b : ℕ) → (b ≡ 0 → ⊥) → WritesNothing 0 1 before after r → WritesEmpty b before after r
+  unfolding initial end-number stop-code
+  empty-completed b z W P none q =
+      let u : suc (P .budget - 1) ≡ P .budget = go (P .budget) (λ e. z (sym q ∙ e)) in
+      subst (λ f. Writes before (result-bytes f) after r) (sym (completed P none (P .budget - 1) (sym u)))
+      (W _ refl refl refl refl (λ e k. not-neither complete (omega arith) e k))
+    where
+      go : (n : ℕ) → (n ≡ 0 → ⊥) → suc (n - 1) ≡ n
+      go n h = omega arith
+
+-- `accepted`
+pub accepted-empty : (l : List ℕ) (e b n : ℕ) (before after : List ℕ) (r : ℕ) → n ≡ 0 → WritesEmpty b before after r → WritesProblem l e b n before after r
+accepted-empty l e b n before after r z W P A = W P (nothing (P .equations) (A .number ∙ z)) (A .budget-is)
