@@ -1,6 +1,7 @@
 -- `accepted`: no equation (`accepted-empty`); else `inputs::fill` stores the equations, `run::run` is the definition's run of them, `write` its result
 -- (`accepted-run`). Assumes nothing.
 -- Read first: specs/Answer (WritesProblem), inputs/specs/Inputs (Filled), run/specs/Runs (Runs), proofs/Completing, proofs/Empty.
+use native.Mathlib.Omega.{arith}
 use Rattle.complete.proofs.Completing.{accepted-run}
 use Rattle.complete.proofs.Empty.{accepted-empty}
 use borrow.Author.Needs.{needs}
@@ -14,7 +15,7 @@ use Rattle.inputs.proofs.fill.Reads as fill-reads
 use Rattle.run.proofs.run.Reads as run-reads
 
 returns : tie.Need-returns
-returns c = accepted-empty _ _ _ _ _ _ _ (c .before .before .before .before .if1 .taken) (c .before .before .write-empty .ensures)
+returns c = accepted-empty _ _ _ _ _ _ _ (let p = c .before .before .before .before .if1 .taken in omega arith) (c .before .before .write-empty .ensures)
 
 write-requires : tie.Need-write-requires
 write-requires c κs =
