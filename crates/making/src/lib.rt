@@ -19,6 +19,7 @@ pub struct Turned {
     pub n: usize,
 }
 
+// A turn's answer from its parts.
 pub fn stopped(state: State, verdict: u8, units: u32, m: usize, n: usize) -> Turned
     ensures { λ r. ⌜ Answers state verdict units m n r ⌝ }
 {
