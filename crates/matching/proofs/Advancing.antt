@@ -1,50 +1,97 @@
--- `advance` by its returns: equal or other symbols, a variable out of range, free so far, bound to a longer, the same or another term. Assumes
--- nothing.
--- Read first: specs/Held (Rep, Within, Advanced), rewriting/specs/Rewrite (matching).
-use mathlib.Core.Path.{_≡_, refl, sym, _∙_, ap, subst}
+-- `again` and `advance` by their returns: equal or other symbols, a variable out of range, free so far, bound to a longer, the same or another term.
+-- Assumes nothing.
+-- Read first: specs/Held (Rep, Within, Again, Advanced), proofs/Celled, rewriting/specs/Rewrite (matching).
+use mathlib.Core.Path.{_≡_, refl, sym, _∙_, ap, ap₂, subst}
 use mathlib.Core.Bool.{Bool, true, false, false≢true}
-use mathlib.Core.List.{List, _∷_, _++_}
+use mathlib.Core.List.{List, [], _∷_, _++_}
 use mathlib.Core.Option.{Option, none, some}
-use Prim.Native.Nat.{ℕ, zero, suc, _+_, _-_, _<_, _≤_}
+use Prim.Native.Nat.{ℕ, zero, suc, _+_, _-_, _/_, _%_, _<_, _≤_}
 use native.Mathlib.Omega.{arith}
 use native.Mathlib.Numerals.{add-one}
 use lib.Dec.{eqb}
-use lib.ListN.{length, getD, drop, take, set, length-set, length-append, length-drop, take-append-drop}
-use lib.Seq.{getD-set-same, getD-set-other, take-at}
+use lib.ListN.{length, getD, drop, take, set, length-set, take-append-drop}
+use lib.Seq.{getD-set-same, getD-set-other, take-suc, take-all}
 use Rattle.terms.specs.Base.{if_then_else_}
-use Rattle.terms.specs.Term.{Term, term-bytes, size, same}
-use Rattle.terms.specs.Flat.{Starts}
-use Rattle.terms.specs.Scan.{skip}
-use Rattle.terms.proofs.Bytes.{length-bytes}
-use Rattle.terms.proofs.Flats.{unique}
-use Rattle.terms.proofs.Starts.{ends-term}
+use Rattle.terms.specs.Term.{Term, size, same}
+use Rattle.terms.proofs.Places.{size-pos}
 use Rattle.terms.proofs.Shape.{Says, eqb-says, same-says}
 use Rattle.unify.specs.Unify.{Binding}
 use Rattle.rewriting.specs.Rewrite.{bound, bind-to}
-use Rattle.matching.specs.Held.{Slot, Rep, Spot, Within, BoundTo, Advanced}
+use Rattle.matching.specs.Cells.{cells, Stands}
+use Rattle.matching.specs.Held.{Slot, Rep, Spot, Within, Again, BoundTo, Advanced}
+use Rattle.matching.proofs.Celled.{cells-unique, stands-size, stands-run, stands-length}
 
 abbrev pub Tells : Bool → Type 0 → Type 0
 Tells r P = (r ≡ true → P) × (P → r ≡ true)
 
-pub slot-free : (tab T : List ℕ) (k : ℕ) (o : Option Term) → k ≡ 0 → Slot tab T k o → o ≡ none
-slot-free tab T zero none e s = refl
-slot-free tab T zero (some u) e s = absurd s
-slot-free tab T (suc k) none e s = absurd s
-slot-free tab T (suc k) (some u) e s = absurd (omega arith)
+slot-free : (tab T : List ℕ) (n k : ℕ) (o : Option Term) → k ≡ 0 → Slot tab T n k o → o ≡ none
+slot-free tab T n zero none e s = refl
+slot-free tab T n zero (some u) e s = absurd s
+slot-free tab T n (suc k) none e s = absurd s
+slot-free tab T n (suc k) (some u) e s = absurd (omega arith)
 
-pub slot-bound : (tab T : List ℕ) (k a : ℕ) (o : Option Term) → (k ≡ 0 → ⊥) → a ≡ k - 1 → Slot tab T k o → (u : Term) × (o ≡ some u) × Starts tab (drop a T) u
-slot-bound tab T zero a o n e s = absurd (n refl)
-slot-bound tab T (suc k) a none n e s = absurd s
-slot-bound tab T (suc k) a (some u) n e s = let q : k ≡ a = omega arith in (u, refl, subst (λ z. Starts tab (drop z T) u) q s)
+slot-bound : (tab T : List ℕ) (n k a : ℕ) (o : Option Term) → 0 < k → a ≡ k - 1 → Slot tab T n k o → (u : Term) × (o ≡ some u) × Stands tab T n a u
+slot-bound tab T n zero a o h e s = absurd (omega arith)
+slot-bound tab T n (suc k) a none h e s = absurd s
+slot-bound tab T n (suc k) a (some u) h e s = let q : k ≡ a = omega arith in (u, refl, subst (λ z. Stands tab T n z u) q s)
 
--- the run from a term's place to its end is its bytes
-pub run-term : (tab T : List ℕ) (j e : ℕ) (u : Term) → Starts tab (drop j T) u → e ≡ j + size u → take (e - j) (drop j T) ≡ term-bytes u
-run-term tab T j e u s h =
-    let n : length (term-bytes u) ≡ e - j = omega (arith, length-bytes u) in
-    rw (s .bytes) (take-at (term-bytes u) (s .rest) (e - j) n)
+-- `same_cells`
+pub same-more : (a b : List ℕ) (i : ℕ) → i < length a → length a ≡ length b → take i a ≡ take i b → getD a i 0 ≡ getD b i 0 → take (i + 1) a ≡ take (i + 1) b
+same-more a b i h l e d = rw (add-one i) (take-suc a i 0 h ∙ ap₂ (λ x c. x ++ (c ∷ [])) e d ∙ sym (take-suc b i 0 (omega arith)))
 
-module _ (tab T : List ℕ) (b j : ℕ) (B : List ℕ) (w : Within tab T B) (l : j < length T) where
-  pub adv-same : b < 128 → getD T j 0 ≡ b → Advanced tab T b j B (j + 1) B
+pub same-all : (a b : List ℕ) (i : ℕ) → length a ≤ i → length a ≡ length b → take i a ≡ take i b → a ≡ b
+same-all a b i h l e = sym (take-all i a h) ∙ e ∙ take-all i b (omega arith)
+
+-- `again`: as many cells must be the same
+module _ (T : List ℕ) (a j n e : ℕ) (l : j < length T) (nn : n ≡ getD T a 0 / 256) (ee : e ≡ j + n) where
+  -- equal terms have the size that the cell at a says
+  size-is : (tab : List ℕ) (m : ℕ) (u v : Term) → Stands tab T m a v → v ≡ u → n ≡ size u
+  size-is tab m u v s q = nn ∙ stands-size tab T m a v s ∙ ap size q
+
+  pub again-long : length T < e → Again T a j 0
+  again-long h = record {
+    place = omega arith;
+    equal = λ tab m u v s o q. absurd (let g = size-is tab m u v o q in let k = stands-length tab T m j u s l in omega arith);
+    other = λ tab m u v s o q. refl;
+  }
+
+  module _ (r : Bool) (t : Tells r (take (a + n - a) (drop a T) ≡ take (e - j) (drop j T))) where
+    tells : (tab : List ℕ) (m : ℕ) (u v : Term) → Stands tab T m j u → Stands tab T m a v → v ≡ u → r ≡ true
+    tells tab m u v s o q =
+        let g : n ≡ size v = nn ∙ stands-size tab T m a v o in
+        let k : size v ≡ size u = ap size q in
+        t .1 (stands-run tab T m a v o (a + n - a) (omega arith) ∙ ap cells q ∙ sym (stands-run tab T m j u s (e - j) (omega arith)))
+
+    told : (tab : List ℕ) (m : ℕ) (u v : Term) → Stands tab T m j u → Stands tab T m a v → r ≡ true → v ≡ u
+    told tab m u v s o i =
+        let g : n ≡ size v = nn ∙ stands-size tab T m a v o in
+        let k : take (e - j) (drop j T) ≡ cells v = sym (t .0 i) ∙ stands-run tab T m a v o (a + n - a) (omega arith) in
+        let d : drop j T ≡ cells v ++ drop (e - j) (drop j T) = sym (take-append-drop (e - j) (drop j T)) ∙ ap (λ z. z ++ drop (e - j) (drop j T)) k in
+        cells-unique tab v u (drop (e - j) (drop j T)) (s .rest) (o .wf) (s .wf) (sym d ∙ s .text)
+
+    pub again-same : r ≡ true → e ≤ length T → Again T a j e
+    again-same i h = record {
+      place = h;
+      equal = λ tab m u v s o q. let g = size-is tab m u v o q in omega arith;
+      other = λ tab m u v s o q. absurd (q (told tab m u v s o i));
+    }
+
+    pub again-other : r ≡ false → Again T a j 0
+    again-other i = record {
+      place = omega arith;
+      equal = λ tab m u v s o q. absurd (false≢true (sym i ∙ tells tab m u v s o q));
+      other = λ tab m u v s o q. refl;
+    }
+
+-- a place that is held
+pub held-at : (T B : List ℕ) (x k : ℕ) → Within T B → x < 16 → k ≡ getD B x 0 → 0 < k → (k - 1 < length T) × (k - 1 + getD T (k - 1) 0 / 256 ≤ length T)
+held-at T B x k w h e z =
+    let s : Spot T k = subst (λ n. Spot T n) (sym e) (w x h) in
+    let p = s .place in
+    (omega arith, s .inside (λ n. omega arith))
+
+module _ (T : List ℕ) (b j : ℕ) (B : List ℕ) (w : Within T B) (l : j < length T) where
+  pub adv-same : b < 128 → getD T j 0 % 256 ≡ b → Advanced T b j B (j + 1) B
   adv-same h e = record {
     same = refl;
     within = w;
@@ -54,7 +101,7 @@ module _ (tab T : List ℕ) (b j : ℕ) (B : List ℕ) (w : Within tab T B) (l :
     variable = λ x p. absurd (omega arith);
   }
 
-  pub adv-other : b < 128 → (getD T j 0 ≡ b → ⊥) → Advanced tab T b j B 0 B
+  pub adv-other : b < 128 → (getD T j 0 % 256 ≡ b → ⊥) → Advanced T b j B 0 B
   adv-other h n = record {
     same = refl;
     within = w;
@@ -65,7 +112,7 @@ module _ (tab T : List ℕ) (b j : ℕ) (B : List ℕ) (w : Within tab T B) (l :
   }
 
   module _ (x : ℕ) (p : x ≡ b - 128) (q : 128 ≤ b) where
-    pub adv-high : 16 ≤ x → Advanced tab T b j B 0 B
+    pub adv-high : 16 ≤ x → Advanced T b j B 0 B
     adv-high h = record {
       same = refl;
       within = w;
@@ -75,128 +122,79 @@ module _ (tab T : List ℕ) (b j : ℕ) (B : List ℕ) (w : Within tab T B) (l :
       variable = λ y e m. absurd (omega arith);
     }
 
-    module _ (h : x < 16) (v : 32 ≤ length B) where
-      -- a variable that is free so far: its place and its end are written
-      module _ (e : ℕ) (d : e ≡ j + skip tab (drop j T) 1) (f : e ≤ length T) where
-        abbrev written : List ℕ
-        written = set (set B x (j + 1)) (16 + x) e
+    module _ (h : x < 16) where
+      -- a variable that is bound
+      bound-go : (r : ℕ) (tab : List ℕ) (n a : ℕ) (u v : Term) (bs : List Binding) → Again T a j r → Stands tab T n j u → Stands tab T n a v → Rep tab T n B bs → (c : Bool) → Says (v ≡ u) c →
+          BoundTo tab T n j u r B (if c then some bs else none)
+      unfolding if_then_else_
+      bound-go r tab n a u v bs g s o rep true y = (g .equal tab n u v s o y, rep)
+      bound-go r tab n a u v bs g s o rep false y = g .other tab n u v s o y
 
-        written-length : length written ≡ length B
-        written-length = length-set (set B x (j + 1)) (16 + x) e ∙ length-set B x (j + 1)
+      pub adv-bound : (k a r : ℕ) → k ≡ getD B x 0 → 0 < k → a ≡ k - 1 → Again T a j r → Advanced T b j B r B
+      unfolding bind-to
+      adv-bound k a r kk z aa g = record {
+        same = refl;
+        within = w;
+        place = g .place;
+        differs = λ k. absurd (omega arith);
+        symbol = λ k. absurd (omega arith);
+        variable = λ y c m tab n u s bs o.
+            let e : y ≡ x = omega arith in
+            let (v, i, st) = slot-bound tab T n (getD B x 0) a (bound bs x) (omega arith) (omega arith) (o x h) in
+            subst (λ a. BoundTo tab T n j u r B (bind-to a u bs (bound bs a))) (sym e)
+            (rw i (bound-go r tab n a u v bs g s st o (same v u) (same-says v u)));
+      }
 
-        read-place : (y : ℕ) → y < 16 → getD written y 0 ≡ getD (set B x (j + 1)) y 0
-        read-place y m = getD-set-other (set B x (j + 1)) (16 + x) y e 0 (λ q. omega arith)
+      -- a variable that is free so far, and no sized cell
+      adv-not : ((tab : List ℕ) (n : ℕ) (u : Term) → Stands tab T n j u → ⊥) → Advanced T b j B 0 B
+      adv-not z = record {
+        same = refl;
+        within = w;
+        place = omega arith;
+        differs = λ k. absurd (omega arith);
+        symbol = λ k. absurd (omega arith);
+        variable = λ y c m tab n u s. absurd (z tab n u s);
+      }
 
-        here : Spot tab T (j + 1) e
-        here = let q : j + 1 - 1 ≡ j = omega arith in record { place = omega arith; end = λ n. rw q d; inside = λ n. f }
+      module _ (n : ℕ) (nn : n ≡ getD T j 0 / 256) where
+        pub adv-none : n ≡ 0 → Advanced T b j B 0 B
+        adv-none z = adv-not λ tab m u s. omega (arith, size-pos u, stands-size tab T m j u s)
 
-        written-within : Within tab T written
-        written-within y m = go (eqb y x) (eqb-says y x)
-          where
-            go : (c : Bool) → Says (y ≡ x) c → Spot tab T (getD written y 0) (getD written (16 + y) 0)
-            go true q =
-                let n : length (set B x (j + 1)) ≡ length B = length-set B x (j + 1) in
-                rw (read-place y m, q, getD-set-same B x (j + 1) 0 (omega arith), getD-set-same (set B x (j + 1)) (16 + x) e 0 (omega arith)) here
-            go false n =
-                rw (read-place y m, getD-set-other B x y (j + 1) 0 n, getD-set-other (set B x (j + 1)) (16 + x) (16 + y) e 0 (λ q. n (omega arith)), getD-set-other B x (16 + y) (j + 1) 0 (λ q. omega arith)) (w y m)
+        pub adv-long : length T < j + n → Advanced T b j B 0 B
+        adv-long z = adv-not λ tab m u s. omega (arith, stands-length tab T m j u s l, stands-size tab T m j u s)
 
-        free-go : (u : Term) (bs : List Binding) → Starts tab (drop j T) u → Rep tab T B bs → (y : ℕ) → y < 16 → (c : Bool) → Says (y ≡ x) c → Slot tab T (getD (set B x (j + 1)) y 0) (if c then some u else bound bs y)
-        unfolding if_then_else_
-        free-go u bs s r y m true e = rw (e, getD-set-same B x (j + 1) 0 (omega arith), add-one j) s
-        free-go u bs s r y m false n = rw (getD-set-other B x y (j + 1) 0 n) (r y m)
+        -- its place is written
+        module _ (v : 16 ≤ length B) (nz : n ≡ 0 → ⊥) (f : j + n ≤ length T) where
+          here : Spot T (j + 1)
+          here = let z : j + 1 - 1 ≡ j = omega arith in record { place = omega arith; sized = λ k. rw z (omega arith); inside = λ k. rw z (omega arith) }
 
-        free-rep : (u : Term) (bs : List Binding) → Starts tab (drop j T) u → Rep tab T B bs → Rep tab T written (record { variable = x; term = u } ∷ bs)
-        unfolding bound
-        free-rep u bs s r y m = rw (read-place y m) (free-go u bs s r y m (eqb y x) (eqb-says y x))
+          written-within : Within T (set B x (j + 1))
+          written-within y m = go (eqb y x) (eqb-says y x)
+            where
+              go : (c : Bool) → Says (y ≡ x) c → Spot T (getD (set B x (j + 1)) y 0)
+              go true e = rw (e, getD-set-same B x (j + 1) 0 (omega arith)) here
+              go false e = rw (getD-set-other B x y (j + 1) 0 e) (w y m)
 
-        free-bound : (u : Term) (bs : List Binding) → Starts tab (drop j T) u → Rep tab T B bs → (o : Option Term) → o ≡ none → BoundTo tab T j u e written (bind-to x u bs o)
-        unfolding bind-to
-        free-bound u bs s r none z = (ends-term tab T j e d u s, free-rep u bs s r)
-        free-bound u bs s r (some a) z = absurd (let i : _≡_ {A = ℕ} 0 1 = cc in omega arith)
-
-        pub adv-free : getD B x 0 ≡ 0 → Advanced tab T b j B e (set (set B x (j + 1)) (16 + x) e)
-        adv-free z = record {
-          same = written-length;
-          within = written-within;
-          place = f;
-          differs = λ k. absurd (omega arith);
-          symbol = λ k. absurd (omega arith);
-          variable = λ y i m u s bs r.
-              let g : y ≡ x = omega arith in
-              subst (λ a. BoundTo tab T j u e written (bind-to a u bs (bound bs a))) (sym g)
-              (free-bound u bs s r (bound bs x) (slot-free tab T (getD B x 0) (bound bs x) z (r x h)));
-        }
-
-      -- a variable that is bound: as many bytes must be the same
-      module _ (k f a e : ℕ) (kk : k ≡ getD B x 0) (ff : f ≡ getD B (16 + x) 0) (z : k ≡ 0 → ⊥) (aa : a ≡ k - 1) (ee : e ≡ j + (f - a)) where
-        ends : (v : Term) → Starts tab (drop a T) v → f ≡ a + size v
-        ends v s =
-            let q : f ≡ a + skip tab (drop a T) 1 = ff ∙ w x h .end (λ i. z (kk ∙ i)) ∙ ap (λ n. n + skip tab (drop n T) 1) (sym (aa ∙ ap (λ n. n - 1) kk)) in
-            ends-term tab T a f q v s
-
-        found : (bs : List Binding) → Rep tab T B bs → (v : Term) × (bound bs x ≡ some v) × Starts tab (drop a T) v
-        found bs o = slot-bound tab T (getD B x 0) a (bound bs x) (λ i. z (kk ∙ i)) (omega arith) (o x h)
-
-        bound-false : (u v : Term) (bs : List Binding) → (v ≡ u → ⊥) → (c : Bool) → Says (v ≡ u) c → BoundTo tab T j u 0 B (if c then some bs else none)
-        unfolding if_then_else_
-        bound-false u v bs q true y = absurd (q y)
-        bound-false u v bs q false n = refl
-
-        -- the terms differ
-        adv-not : ((u v : Term) → Starts tab (drop j T) u → Starts tab (drop a T) v → v ≡ u → ⊥) → Advanced tab T b j B 0 B
-        unfolding bind-to
-        adv-not other = record {
-          same = refl;
-          within = w;
-          place = omega arith;
-          differs = λ k. absurd (omega arith);
-          symbol = λ k. absurd (omega arith);
-          variable = λ y c m u s bs o.
-              let g : y ≡ x = omega arith in
-              let (v, i, st) = found bs o in
-              subst (λ a. BoundTo tab T j u 0 B (bind-to a u bs (bound bs a))) (sym g)
-              (rw i (bound-false u v bs (other u v s st) (same v u) (same-says v u)));
-        }
-
-        pub adv-long : length T < e → Advanced tab T b j B 0 B
-        adv-long i = adv-not λ u v s o q.
-            let n : f ≡ a + size v = ends v o in
-            let m : size v ≡ size u = ap size q in
-            let g : length T - j ≡ size u + length (s .rest) = sym (length-drop j T) ∙ ap length (s .bytes) ∙ length-append (term-bytes u) (s .rest) ∙ ap (λ n. n + length (s .rest)) (length-bytes u) in
-            omega arith
-
-        module _ (r : Bool) (t : Tells r (take (f - a) (drop a T) ≡ take (e - j) (drop j T))) where
-          told : (u v : Term) → Starts tab (drop j T) u → Starts tab (drop a T) v → r ≡ true → v ≡ u
-          told u v s o i =
-              let n : take (e - j) (drop j T) ≡ term-bytes v = sym (t .0 i) ∙ run-term tab T a f v o (ends v o) in
-              let q : drop j T ≡ term-bytes v ++ drop (e - j) (drop j T) = sym (take-append-drop (e - j) (drop j T)) ∙ ap (λ l. l ++ drop (e - j) (drop j T)) n in
-              unique 32 tab v u (drop (e - j) (drop j T)) (s .rest) (o .wf) (s .wf) (sym q ∙ s .bytes) .0
-
-          tells : (u v : Term) → Starts tab (drop j T) u → Starts tab (drop a T) v → v ≡ u → r ≡ true
-          tells u v s o q =
-              let n : f ≡ a + size v = ends v o in
-              let m : size v ≡ size u = ap size q in
-              t .1 (run-term tab T a f v o n ∙ ap term-bytes q ∙ sym (run-term tab T j e u s (omega arith)))
-
-          bound-true : r ≡ true → (u v : Term) (bs : List Binding) → Starts tab (drop j T) u → Starts tab (drop a T) v → Rep tab T B bs → (c : Bool) → Says (v ≡ u) c → BoundTo tab T j u e B (if c then some bs else none)
+          free-go : (tab : List ℕ) (m : ℕ) (u : Term) (bs : List Binding) → Stands tab T m j u → Rep tab T m B bs → (y : ℕ) → y < 16 → (c : Bool) → Says (y ≡ x) c →
+              Slot tab T m (getD (set B x (j + 1)) y 0) (if c then some u else bound bs y)
           unfolding if_then_else_
-          bound-true i u v bs s st o true y = (let n : f ≡ a + size v = ends v st in let m : size v ≡ size u = ap size y in omega arith, o)
-          bound-true i u v bs s st o false n = absurd (n (told u v s st i))
+          free-go tab m u bs s r y g true e = rw (e, getD-set-same B x (j + 1) 0 (omega arith), add-one j) s
+          free-go tab m u bs s r y g false e = rw (getD-set-other B x y (j + 1) 0 e) (r y g)
 
-          pub adv-again : r ≡ true → e ≤ length T → Advanced tab T b j B e B
-          unfolding bind-to
-          adv-again i n = record {
-            same = refl;
-            within = w;
-            place = n;
+          free-bound : (tab : List ℕ) (m : ℕ) (u : Term) (bs : List Binding) → Stands tab T m j u → Rep tab T m B bs → (o : Option Term) → o ≡ none → BoundTo tab T m j u (j + n) (set B x (j + 1)) (bind-to x u bs o)
+          unfolding bind-to bound
+          free-bound tab m u bs s r none z = (ap (λ k. j + k) (nn ∙ stands-size tab T m j u s), λ y g. free-go tab m u bs s r y g (eqb y x) (eqb-says y x))
+          free-bound tab m u bs s r (some a) z = absurd (let i : _≡_ {A = ℕ} 0 1 = cc in omega arith)
+
+          pub adv-free : getD B x 0 ≡ 0 → Advanced T b j B (j + n) (set B x (j + 1))
+          adv-free z = record {
+            same = length-set B x (j + 1);
+            within = written-within;
+            place = f;
             differs = λ k. absurd (omega arith);
             symbol = λ k. absurd (omega arith);
-            variable = λ y c m u s bs o.
+            variable = λ y i m tab k u s bs r.
                 let g : y ≡ x = omega arith in
-                let (v, q, st) = found bs o in
-                subst (λ a. BoundTo tab T j u e B (bind-to a u bs (bound bs a))) (sym g)
-                (rw q (bound-true i u v bs s st o (same v u) (same-says v u)));
+                subst (λ a. BoundTo tab T k j u (j + n) (set B x (j + 1)) (bind-to a u bs (bound bs a))) (sym g)
+                (free-bound tab k u bs s r (bound bs x) (slot-free tab T k (getD B x 0) (bound bs x) z (r x h)));
           }
-
-          pub adv-clash : r ≡ false → Advanced tab T b j B 0 B
-          adv-clash i = adv-not λ u v s o q. false≢true (sym i ∙ tells u v s o q)

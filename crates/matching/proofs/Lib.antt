@@ -1,3 +1,4 @@
+pub mod Celled
 pub mod Advancing
 pub mod Walking
 pub mod Clearing

@@ -1,15 +1,54 @@
-// Whether a term is an instance of a left side, and the instance of a right side, put into a buffer. Of the 32 entries of `binds` entry x holds
-// the place plus one of the term for the variable x, or 0, and entry 16 + x where that term ends.
+// Whether a term in cells is an instance of a left side, and the instance of a right side, put into a buffer. A cell is a node's byte, and 256 times the
+// size of its subterm where that is known to be normal. Entry x of `binds` is the place plus one of the term for the variable x, or 0.
 ghost use mathlib.Core.Path.{_≡_};
+ghost use mathlib.Core.Bool.{true};
 ghost use mathlib.Core.List.{[], _∷_, _++_};
-ghost use Prim.Native.Nat.{ℕ, _-_, _<_, _≤_};
-ghost use lib.ListN.{length, drop, take};
-ghost use Rattle.matching.specs.Held.{Within, Cleared, Advanced, Matched};
-ghost use Rattle.matching.specs.Pieces.{Put, slot-of, mark-byte, mark-for, piece, pieces, replaced};
+ghost use Prim.Native.Nat.{ℕ, _+_, _*_, _/_, _%_, _<_, _≤_};
+ghost use lib.ListN.{length, getD, drop, take};
+ghost use Rattle.matching.specs.Held.{Within, Cleared, Again, Advanced, Matched};
+ghost use Rattle.matching.specs.Pieces.{Put, slot-of, first-cell, piece, pieces, replaced};
+
+// The node's byte.
+pub fn byte_of(c: u16) -> u8
+    ensures { λ r. ⌜ r ≡ c % 256 ⌝ }
+{
+    (c % 256) as u8
+}
+
+// The size of the subterm, or 0 where it is not known.
+pub fn size_of(c: u16) -> usize
+    ensures { λ r. ⌜ (r ≡ c / 256) × (r < 256) ⌝ }
+{
+    (c / 256) as usize
+}
+
+// The cell with the size n.
+pub fn sized(c: u16, n: usize) -> u16
+    requires { ⌜ n < 256 ⌝ }
+    ensures { λ r. ⌜ r ≡ c % 256 + 256 * n ⌝ }
+{
+    c % 256 + 256 * (n as u16)
+}
+
+fn same_cells(a: &[u16], b: &[u16]) -> bool
+    ensures { λ r. ⌜ (r ≡ true → now (a .entry) ≡ now (b .entry)) × (now (a .entry) ≡ now (b .entry) → r ≡ true) ⌝ }
+{
+    if a.len() != b.len() {
+        return false;
+    }
+    let mut i = 0;
+    while i < a.len() {
+        if a[i] != b[i] {
+            return false;
+        }
+        i += 1;
+    }
+    true
+}
 
 // No variable has a place.
-fn clear(binds: &mut [usize])
-    requires { ⌜ 32 ≤ length (now binds) ⌝ }
+fn clear(binds: &mut [u8])
+    requires { ⌜ 16 ≤ length (now binds) ⌝ }
     ensures { λ _. ⌜ (length (now (binds .exit)) ≡ length (now (binds .entry))) × Cleared (now (binds .exit)) ⌝ }
 {
     let mut i = 0;
@@ -19,14 +58,31 @@ fn clear(binds: &mut [usize])
     }
 }
 
+// The end of the term at j where its cells are those of the term at a; 0 where they differ.
+fn again(t: &[u16], a: usize, j: usize) -> usize
+    requires { ⌜ (j < length (now t)) × (length (now t) ≤ 120) ⌝ }
+    requires { ⌜ (a < length (now t)) × (a + getD (now t) a 0 / 256 ≤ length (now t)) ⌝ }
+    ensures { λ r. ⌜ Again (now (t .entry)) a j r ⌝ }
+{
+    let n = size_of(t[a]);
+    let e = j + n;
+    if e > t.len() {
+        return 0;
+    }
+    if same_cells(&t[a..a + n], &t[j..e]) {
+        return e;
+    }
+    0
+}
+
 // One byte b of a left side against the node at j: the next place, or 0 where they differ.
-fn advance(b: u8, t: &[u8], table: &[u8], j: usize, binds: &mut [usize]) -> usize
-    requires { ⌜ (j < length (now t)) × (length (now t) ≤ 65536) ⌝ }
-    requires { ⌜ (32 ≤ length (now binds)) × Within (now table) (now t) (now binds) ⌝ }
-    ensures { λ r. ⌜ Advanced (now (table .entry)) (now (t .entry)) b j (now (binds .entry)) r (now (binds .exit)) ⌝ }
+fn advance(b: u8, t: &[u16], j: usize, binds: &mut [u8]) -> usize
+    requires { ⌜ (j < length (now t)) × (length (now t) ≤ 120) ⌝ }
+    requires { ⌜ (16 ≤ length (now binds)) × Within (now t) (now binds) ⌝ }
+    ensures { λ r. ⌜ Advanced (now (t .entry)) b j (now (binds .entry)) r (now (binds .exit)) ⌝ }
 {
     if b < 128 {
-        if t[j] == b {
+        if byte_of(t[j]) == b {
             return j + 1;
         }
         return 0;
@@ -35,29 +91,26 @@ fn advance(b: u8, t: &[u8], table: &[u8], j: usize, binds: &mut [usize]) -> usiz
     if x >= 16 {
         return 0;
     }
-    let k = binds[x];
-    if k == 0 {
-        let e = terms::term_end(t, table, j);
-        binds[x] = j + 1;
-        binds[16 + x] = e;
-        return e;
+    let k = terms::wide(binds[x]);
+    if k > 0 {
+        return again(t, k - 1, j);
     }
-    let a = k - 1;
-    let f = binds[16 + x];
-    let e = j + (f - a);
+    let n = size_of(t[j]);
+    if n == 0 {
+        return 0;
+    }
+    let e = j + n;
     if e > t.len() {
         return 0;
     }
-    if check::same(&t[a..f], &t[j..e]) {
-        return e;
-    }
-    0
+    binds[x] = (j + 1) as u8;
+    e
 }
 
 // Whether the term at the start of t is an instance of left, and where its variables stand.
-pub fn matches(left: &[u8], t: &[u8], table: &[u8], binds: &mut [usize]) -> bool
-    requires { ⌜ (length (now t) ≤ 65536) × (32 ≤ length (now binds)) ⌝ }
-    ensures { λ r. ⌜ Matched (now (table .entry)) (now (left .entry)) (now (t .entry)) (now (binds .entry)) r (now (binds .exit)) ⌝ }
+pub fn matches(left: &[u8], t: &[u16], binds: &mut [u8]) -> bool
+    requires { ⌜ (length (now t) ≤ 120) × (16 ≤ length (now binds)) ⌝ }
+    ensures { λ r. ⌜ Matched (now (left .entry)) (now (t .entry)) (now (binds .entry)) r (now (binds .exit)) ⌝ }
 {
     clear(binds);
     let mut i = 0;
@@ -66,7 +119,7 @@ pub fn matches(left: &[u8], t: &[u8], table: &[u8], binds: &mut [usize]) -> bool
         if j >= t.len() {
             return false;
         }
-        j = advance(left[i], t, table, j, binds);
+        j = advance(left[i], t, j, binds);
         if j == 0 {
             return false;
         }
@@ -75,34 +128,37 @@ pub fn matches(left: &[u8], t: &[u8], table: &[u8], binds: &mut [usize]) -> bool
     true
 }
 
-// Bytes a to e of t into out at w, where at most `most` may stand: the next place, or most + 1.
-fn put_run(out: &mut [u8], w: usize, most: usize, t: &[u8], a: usize, e: usize) -> usize
+// The cells of run into out at w, where at most `most` may stand: the next place, or most + 1.
+fn put_run(out: &mut [u16], w: usize, most: usize, run: &[u16]) -> usize
     requires { ⌜ (w ≤ most) × (most ≤ length (now out)) × (most ≤ 65536) ⌝ }
-    requires { ⌜ (a ≤ e) × (e ≤ length (now t)) ⌝ }
-    ensures { λ r. ⌜ Put (now (out .entry)) (now (out .exit)) w most r (take (e - a) (drop a (now (t .entry)))) ⌝ }
+    ensures { λ r. ⌜ Put (now (out .entry)) (now (out .exit)) w most r (now (run .entry)) ⌝ }
 {
-    let n = e - a;
+    let n = run.len();
     if most - w < n {
         return most + 1;
     }
-    bytes::copy(&t[a..e], &mut out[w..]);
+    let mut i = 0;
+    while i < n {
+        out[w + i] = run[i];
+        i += 1;
+    }
     w + n
 }
 
-fn put_byte(out: &mut [u8], w: usize, most: usize, b: u8) -> usize
+fn put_cell(out: &mut [u16], w: usize, most: usize, c: u16) -> usize
     requires { ⌜ (w ≤ most) × (most ≤ length (now out)) × (most ≤ 65536) ⌝ }
-    ensures { λ r. ⌜ Put (now (out .entry)) (now (out .exit)) w most r (b ∷ []) ⌝ }
+    ensures { λ r. ⌜ Put (now (out .entry)) (now (out .exit)) w most r (c ∷ []) ⌝ }
 {
     if w >= most {
         return most + 1;
     }
-    out[w] = b;
+    out[w] = c;
     w + 1
 }
 
 // The place of a variable's term plus one; 0 for a symbol and a free variable.
-fn slot(b: u8, binds: &[usize]) -> usize
-    requires { ⌜ 32 ≤ length (now binds) ⌝ }
+fn slot(b: u8, binds: &[u8]) -> usize
+    requires { ⌜ 16 ≤ length (now binds) ⌝ }
     ensures { λ r. ⌜ r ≡ slot-of (now (binds .entry)) b ⌝ }
 {
     if b < 128 {
@@ -112,106 +168,79 @@ fn slot(b: u8, binds: &[usize]) -> usize
     if x >= 16 {
         return 0;
     }
-    binds[x]
+    terms::wide(binds[x])
 }
 
-// A symbol's byte with the mark.
-fn marked(b: u8, mark: u8) -> u8
-    requires { ⌜ mark ≤ 192 ⌝ }
-    ensures { λ r. ⌜ r ≡ mark-byte mark b ⌝ }
+// The first cell of the term at a: at 0 stands the redex, which is not normal.
+fn first(c: u16, a: usize) -> u16
+    ensures { λ r. ⌜ r ≡ first-cell a c ⌝ }
 {
-    if b < 16 {
-        return b + mark;
+    if a == 0 {
+        return c % 256;
     }
-    b
+    c
 }
 
-// The mark for the terms bound by a left side that begins with b.
-fn mark_of(b: u8) -> u8
-    ensures { λ r. ⌜ (r ≡ mark-for b) × (r ≤ 192) ⌝ }
-{
-    if b < 128 {
-        return 192;
-    }
-    0
-}
-
-// What stands for one byte b of a right side: a bound term has the mark at its root.
-fn put_piece(
-    out: &mut [u8],
-    w: usize,
-    most: usize,
-    b: u8,
-    t: &[u8],
-    table: &[u8],
-    binds: &[usize],
-    mark: u8,
-) -> usize
-    requires { ⌜ (w ≤ most) × (most ≤ length (now out)) × (most ≤ 65536) × (mark ≤ 192) ⌝ }
-    requires { ⌜ (length (now t) ≤ 65536) × (32 ≤ length (now binds)) × Within (now table) (now t) (now binds) ⌝ }
-    ensures { λ r. ⌜ Put (now (out .entry)) (now (out .exit)) w most r (piece (now (table .entry)) (now (t .entry)) (now (binds .entry)) mark b) ⌝ }
+// What stands for one byte b of a right side.
+fn put_piece(out: &mut [u16], w: usize, most: usize, b: u8, t: &[u16], binds: &[u8]) -> usize
+    requires { ⌜ (w ≤ most) × (most ≤ length (now out)) × (most ≤ 65536) ⌝ }
+    requires { ⌜ (length (now t) ≤ 120) × (16 ≤ length (now binds)) × Within (now t) (now binds) ⌝ }
+    ensures { λ r. ⌜ Put (now (out .entry)) (now (out .exit)) w most r (piece (now (t .entry)) (now (binds .entry)) b) ⌝ }
 {
     let k = slot(b, binds);
     if k == 0 {
-        return put_byte(out, w, most, b);
+        return put_cell(out, w, most, b as u16);
     }
-    let a = k - 1;
-    let e = binds[terms::wide(b) - 112];
-    let v = put_byte(out, w, most, marked(t[a], mark));
+    let c = t[k - 1];
+    let v = put_cell(out, w, most, first(c, k - 1));
     if v > most {
         return v;
     }
-    put_run(out, v, most, t, a + 1, e)
+    put_run(out, v, most, &t[k..k + (size_of(c) - 1)])
 }
 
 // The right side's instance, and then what follows the redex, which ends at `end`, into out: the length, or most + 1.
 fn contract(
-    out: &mut [u8],
+    out: &mut [u16],
     most: usize,
     right: &[u8],
-    t: &[u8],
+    t: &[u16],
     end: usize,
-    table: &[u8],
-    binds: &[usize],
-    mark: u8,
+    binds: &[u8],
 ) -> usize
-    requires { ⌜ (most ≤ length (now out)) × (most ≤ 65536) × (end ≤ length (now t)) × (mark ≤ 192) ⌝ }
-    requires { ⌜ (length (now t) ≤ 65536) × (32 ≤ length (now binds)) × Within (now table) (now t) (now binds) ⌝ }
-    ensures { λ r. ⌜ Put (now (out .entry)) (now (out .exit)) 0 most r (pieces (now (table .entry)) (now (t .entry)) (now (binds .entry)) mark (now (right .entry)) ++ drop end (now (t .entry))) ⌝ }
+    requires { ⌜ (most ≤ length (now out)) × (most ≤ 65536) × (end ≤ length (now t)) ⌝ }
+    requires { ⌜ (length (now t) ≤ 120) × (16 ≤ length (now binds)) × Within (now t) (now binds) ⌝ }
+    ensures { λ r. ⌜ Put (now (out .entry)) (now (out .exit)) 0 most r (pieces (now (t .entry)) (now (binds .entry)) (now (right .entry)) ++ drop end (now (t .entry))) ⌝ }
 {
     let mut i = 0;
     let mut w = 0;
     while i < right.len() {
-        w = put_piece(out, w, most, right[i], t, table, binds, mark);
+        w = put_piece(out, w, most, right[i], t, binds);
         if w > most {
             return w;
         }
         i += 1;
     }
-    put_run(out, w, most, t, end, t.len())
+    put_run(out, w, most, &t[end..])
 }
 
-// The redex at the start of t, which ends at `end`, is replaced by the instance of the right side; `first` begins the left side: the length, or most + 1.
+// The redex at the start of t, which ends at `end`, is replaced by the instance of the right side: the length, or most + 1.
 pub fn replace(
-    t: &mut [u8],
+    t: &mut [u16],
     len: usize,
     end: usize,
     most: usize,
-    table: &[u8],
     right: &[u8],
-    first: u8,
-    binds: &[usize],
+    binds: &[u8],
 ) -> usize
     requires { ⌜ (end ≤ len) × (len ≤ most) × (most ≤ length (now t)) × (most ≤ 120) ⌝ }
-    requires { ⌜ (32 ≤ length (now binds)) × Within (now table) (take len (now t)) (now binds) ⌝ }
-    ensures { λ r. ⌜ Put (now (t .entry)) (now (t .exit)) 0 most r (replaced (now (table .entry)) (take len (now (t .entry))) (now (binds .entry)) first (now (right .entry)) end) ⌝ }
+    requires { ⌜ (16 ≤ length (now binds)) × Within (take len (now t)) (now binds) ⌝ }
+    ensures { λ r. ⌜ Put (now (t .entry)) (now (t .exit)) 0 most r (replaced (take len (now (t .entry))) (now (binds .entry)) (now (right .entry)) end) ⌝ }
 {
-    let mut out = [0u8; 120];
-    let mark = mark_of(first);
-    let w = contract(&mut out, most, right, &t[0..len], end, table, binds, mark);
+    let mut out = [0u16; 120];
+    let w = contract(&mut out, most, right, &t[0..len], end, binds);
     if w > most {
         return w;
     }
-    bytes::copy(&out[0..w], t);
-    w
+    put_run(t, 0, most, &out[0..w])
 }

@@ -18,43 +18,13 @@ abbrev μ-loop : tie.MeasureT-loop
 μ-loop binds₀ i₀ binds i =
     16 - i
 
-loop-holds : tie.Need-loop-holds Inv-loop μ-loop
-loop-holds c = search needs
-
-mul-binds : tie.Need-mul-binds Inv-loop μ-loop
-mul-binds c = search needs
-
-slice-write-binds : tie.Need-slice-write-binds Inv-loop μ-loop
-slice-write-binds c = search needs
-
-add-i : tie.Need-add-i Inv-loop μ-loop
-add-i c = search needs
-
-loop-less : tie.Need-loop-less Inv-loop μ-loop
-loop-less c = search needs
-
 loop-again : tie.Need-loop-again Inv-loop μ-loop
 loop-again c =
     (search needs, simp length-set (c .before .loop .inv .1), clear-more (c .before .loop .binds) _ (c .before .loop .inv .2) (search needs))
-
-same-length : tie.Need-same-length Inv-loop μ-loop
-same-length c = search needs
 
 returns : tie.Need-returns Inv-loop μ-loop
 returns c =
     (c .before .loop .inv .1, clear-all (c .before .loop .binds) _ (search needs) (c .before .loop .inv .2))
 
 pub clear-spec : {M : Type 1} → statement M
-clear-spec =
-    tie.close
-    (tie.spec
-    Inv-loop
-    μ-loop
-    loop-holds
-    mul-binds
-    slice-write-binds
-    add-i
-    loop-less
-    loop-again
-    same-length
-    returns)
+clear-spec = tie.close (tie.spec Inv-loop μ-loop (λ c. search needs) (λ c. search needs) (λ c. search needs) (λ c. search needs) loop-again (λ c. search needs) returns)

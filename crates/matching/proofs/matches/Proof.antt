@@ -1,6 +1,10 @@
 -- `matches`: the invariant is that what is left of both, with the bindings so far, matches as the whole does; the pattern's rest falls. Assumes
 -- nothing.
 -- Read first: specs/Held (Matched), proofs/Walking (Here, Going).
+use Rattle.matching.proofs.Walking.{Here, here-start, here-on, goes-done, goes-over, goes-wrong}
+use lib.ListN.{length}
+use mathlib.Core.Path.{_∙_, refl}
+use Prim.Native.Nat.{_-_}
 use borrow.Author.Needs.{needs}
 use Rattle.matching.proofs.matches.Statement.{statement}
 use Rattle.matching.proofs.matches.Tie as tie
@@ -8,65 +12,30 @@ use Rattle.matching.proofs.matches.Reads as reads
 use Rattle.matching.proofs.matches.Lts as lts
 use Rattle.matching.proofs.advance.Reads as advance-reads
 use Rattle.matching.proofs.clear.Reads as clear-reads
-use Prim.Native.Nat.{_-_}
-use mathlib.Core.Path.{_∙_, refl}
-use lib.ListN.{length}
-use Rattle.matching.proofs.Walking.{Here, here-start, here-on, goes-done, goes-over, goes-wrong}
 
 abbrev Inv-loop : tie.InvT-loop
-Inv-loop left t table binds₀ i₀ j₀ binds i j =
-    Here table left t binds₀ binds i j
+Inv-loop left t binds₀ i₀ j₀ binds i j = Here left t binds₀ binds i j
 
 abbrev μ-loop : tie.MeasureT-loop
-μ-loop left t table binds₀ i₀ j₀ binds i j =
-    length left - i
-
-clear-requires : tie.Need-clear-requires Inv-loop μ-loop
-clear-requires c κs = search needs
+μ-loop left t binds₀ i₀ j₀ binds i j = length left - i
 
 loop-holds : tie.Need-loop-holds Inv-loop μ-loop
-loop-holds c =
-    here-start _ _ _ _ _ refl (c .before .before .clear .ensures .1)
-
-same-length : tie.Need-same-length Inv-loop μ-loop
-same-length c = search needs
+loop-holds c = here-start _ _ _ _ refl (c .before .before .clear .ensures .1)
 
 returns : tie.Need-returns Inv-loop μ-loop
-returns c =
-    let h = c .before .before .loop .inv in goes-over _ _ _ _ _ _ _ (c .before .loop-test .taken) (c .if1 .taken) (h .same ∙ c .before .before .before .before .before .clear .ensures .0) (h .within) (h .goes)
-
-shared-slice-read-advance : tie.Need-shared-slice-read-advance Inv-loop μ-loop
-shared-slice-read-advance c = search needs
+returns c = let h = c .before .before .loop .inv in goes-over _ _ _ _ _ _ (c .before .loop-test .taken) (c .if1 .taken) (h .same ∙ c .before .before .before .before .before .clear .ensures .0) (h .within) (h .goes)
 
 advance-requires : tie.Need-advance-requires Inv-loop μ-loop
-advance-requires c κs =
-    let h = c .before .before .before .before .loop .inv in
-    let d = c .before .before .before .before .before .before .before .clear .ensures .0 in
-    (search needs, (search needs, h .within))
-
-same-length-2 : tie.Need-same-length-2 Inv-loop μ-loop
-same-length-2 c = search needs
+advance-requires c κs = let h = c .before .before .before .before .loop .inv in let d = c .before .before .before .before .before .before .before .clear .ensures .0 in (search needs, (search needs, h .within))
 
 returns-2 : tie.Need-returns-2 Inv-loop μ-loop
-returns-2 c =
-    let h = c .before .before .before .before .before .before .before .before .loop .inv in goes-wrong _ _ _ _ _ _ _ _ (c .before .before .before .before .before .before .before .loop-test .taken) (c .before .before .before .before .before .before .if1 .left) (c .before .before .before .advance .ensures) (h .goes) (c .if2 .taken) _ (c .before .before .before .advance .ensures .same ∙ h .same ∙ c .before .before .before .before .before .before .before .before .before .before .before .clear .ensures .0)
-
-add-i : tie.Need-add-i Inv-loop μ-loop
-add-i c = search needs
-
-loop-less : tie.Need-loop-less Inv-loop μ-loop
-loop-less c = search needs
+returns-2 c = let h = c .before .before .before .before .before .before .before .before .loop .inv in goes-wrong _ _ _ _ _ _ _ (c .before .before .before .before .before .before .before .loop-test .taken) (c .before .before .before .before .before .before .if1 .left) (c .before .before .before .advance .ensures) (h .goes) (c .if2 .taken) _ (c .before .before .before .advance .ensures .same ∙ h .same ∙ c .before .before .before .before .before .before .before .before .before .before .before .clear .ensures .0)
 
 loop-again : tie.Need-loop-again Inv-loop μ-loop
-loop-again c =
-    here-on _ _ _ _ _ _ _ _ _ (c .before .before .before .before .before .before .before .loop-test .taken) (c .before .before .before .before .before .before .if1 .left) (c .before .before .before .before .before .before .before .before .loop .inv) (c .before .before .before .advance .ensures) (c .if2 .left)
-
-same-length-3 : tie.Need-same-length-3 Inv-loop μ-loop
-same-length-3 c = search needs
+loop-again c = here-on _ _ _ _ _ _ _ _ (c .before .before .before .before .before .before .before .loop-test .taken) (c .before .before .before .before .before .before .if1 .left) (c .before .before .before .before .before .before .before .before .loop .inv) (c .before .before .before .advance .ensures) (c .if2 .left)
 
 returns-3 : tie.Need-returns-3 Inv-loop μ-loop
-returns-3 c =
-    let h = c .before .loop .inv in goes-done _ _ _ _ _ _ _ (c .loop-test .left) (h .same ∙ c .before .before .before .before .clear .ensures .0) (h .within) (h .goes)
+returns-3 c = let h = c .before .loop .inv in goes-done _ _ _ _ _ _ (c .loop-test .left) (h .same ∙ c .before .before .before .before .clear .ensures .0) (h .within) (h .goes)
 
 pub matches-spec : {M : Type 1} → statement M
 matches-spec =
@@ -74,16 +43,16 @@ matches-spec =
     (tie.spec
     Inv-loop
     μ-loop
-    clear-requires
+    (λ c κs. search needs)
     loop-holds
-    same-length
+    (λ c. search needs)
     returns
-    shared-slice-read-advance
+    (λ c. search needs)
     advance-requires
-    same-length-2
+    (λ c. search needs)
     returns-2
-    add-i
-    loop-less
+    (λ c. search needs)
+    (λ c. search needs)
     loop-again
-    same-length-3
+    (λ c. search needs)
     returns-3)

@@ -1,74 +1,59 @@
--- `put_run`: a run that would go beyond `most` (`put-over`), or bytes copied behind the first w (`put-back`). Assumes nothing.
--- Read first: specs/Pieces (Put), proofs/Filling.
+-- `put_run`: a run that would go beyond `most` (`put-over`), or i of its cells behind the first w, in a loop; the rest of the run falls. Assumes nothing.
+-- Read first: specs/Pieces (Put), proofs/Filling (Pasted).
 use borrow.Author.Needs.{needs}
 use Rattle.matching.proofs.put_run.Statement.{statement}
 use Rattle.matching.proofs.put_run.Tie as tie
 use Rattle.matching.proofs.put_run.Reads as reads
 use Rattle.matching.proofs.put_run.Lts as lts
-use Rattle.bytes.proofs.copy.Reads as copy-reads
-use native.Mathlib.Omega.{arith}
-use lib.ListN.{length-take, length-drop}
-use Rattle.matching.proofs.Filling.{put-over, put-back}
+use Prim.Native.Nat.{_-_}
+use lib.ListN.{length}
+use mathlib.Core.Path.{refl}
+use Rattle.matching.proofs.Filling.{put-over, Pasted, paste-start, pasted-length, paste-more, paste-done}
 
-sub-n : tie.Need-sub-n
-sub-n c = search needs
+abbrev Inv-loop : tie.InvT-loop
+Inv-loop out₀ w most run n i₀ out i =
+    Pasted out₀ w run out i
 
-sub-if1 : tie.Need-sub-if1
-sub-if1 c = search needs
+abbrev μ-loop : tie.MeasureT-loop
+μ-loop out₀ w most run n i₀ out i =
+    length run - i
 
-add-result : tie.Need-add-result
-add-result c = search needs
+returns : tie.Need-returns Inv-loop μ-loop
+returns c = put-over _ _ _ _ (search needs) (search needs)
 
-returns : tie.Need-returns
-returns c =
-    put-over _ _ _ _ (simp (length-take, length-drop) (omega arith)) (search needs)
+loop-holds : tie.Need-loop-holds Inv-loop μ-loop
+loop-holds c = paste-start _ _ _ (search needs)
 
-sub-copy : tie.Need-sub-copy
-sub-copy c = search needs
+slice-write-out : tie.Need-slice-write-out Inv-loop μ-loop
+slice-write-out c = let l = pasted-length _ _ _ _ _ (c .before .before .loop .inv) in search needs
 
-part-copy-start : tie.Need-part-copy-start
-part-copy-start c = search needs
+loop-again : tie.Need-loop-again Inv-loop μ-loop
+loop-again c = paste-more _ _ _ _ _ (c .before .before .loop .inv) (c .before .loop-test .taken)
 
-part-copy-end : tie.Need-part-copy-end
-part-copy-end c = search needs
+same-length : tie.Need-same-length Inv-loop μ-loop
+same-length c = pasted-length _ _ _ _ _ (c .before .loop .inv)
 
-sub-copy-2 : tie.Need-sub-copy-2
-sub-copy-2 c = search needs
-
-part-copy-start-2 : tie.Need-part-copy-start-2
-part-copy-start-2 c = search needs
-
-part-copy-end-2 : tie.Need-part-copy-end-2
-part-copy-end-2 c = search needs
-
-copy-requires : tie.Need-copy-requires
-copy-requires c κs = search needs
-
-add-result-2 : tie.Need-add-result-2
-add-result-2 c = search needs
-
-same-length : tie.Need-same-length
-same-length c = search needs
-
-returns-2 : tie.Need-returns-2
-returns-2 c =
-    put-back _ _ _ _ _ _ (simp (length-take, length-drop) (omega arith)) (search needs) (search needs) (c .before .before .copy .ensures .1)
+returns-2 : tie.Need-returns-2 Inv-loop μ-loop
+returns-2 c = paste-done _ _ _ _ _ (c .before .loop .inv) _ _ refl (c .loop-test .left) (search needs)
 
 pub put-run-spec : {M : Type 1} → statement M
 put-run-spec =
     tie.close
     (tie.spec
-    sub-n
-    sub-if1
-    add-result
+    Inv-loop
+    μ-loop
+    (λ c. search needs)
+    (λ c. search needs)
     returns
-    sub-copy
-    part-copy-start
-    part-copy-end
-    sub-copy-2
-    part-copy-start-2
-    part-copy-end-2
-    copy-requires
-    add-result-2
+    loop-holds
+    (λ c. search needs)
+    (λ c. search needs)
+    (λ c. search needs)
+    (λ c. search needs)
+    slice-write-out
+    (λ c. search needs)
+    (λ c. search needs)
+    loop-again
+    (λ c. search needs)
     same-length
     returns-2)

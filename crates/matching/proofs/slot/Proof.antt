@@ -6,34 +6,20 @@ use Rattle.matching.proofs.slot.Tie as tie
 use Rattle.matching.proofs.slot.Reads as reads
 use Rattle.matching.proofs.slot.Lts as lts
 use Rattle.terms.proofs.wide.Reads as wide-reads
-use mathlib.Core.Path.{sym}
+use mathlib.Core.Path.{sym, _∙_}
 use Rattle.matching.proofs.Filling.{slot-symbol, slot-high, slot-variable}
 
 returns : tie.Need-returns
-returns c =
-    sym (slot-symbol _ _ (c .if1 .taken))
-
-wide-requires : tie.Need-wide-requires
-wide-requires c κs = search needs
-
-sub-x : tie.Need-sub-x
-sub-x c = search needs
+returns c = sym (slot-symbol _ _ (c .if1 .taken))
 
 returns-2 : tie.Need-returns-2
-returns-2 c =
-    sym (slot-high _ _ _ (c .before .before .if1 .left) (search needs) (c .if2 .taken))
-
-mul-result : tie.Need-mul-result
-mul-result c = search needs
-
-shared-slice-read-result : tie.Need-shared-slice-read-result
-shared-slice-read-result c = search needs
+returns-2 c = sym (slot-high _ _ _ (c .before .before .if1 .left) (search needs) (c .if2 .taken))
 
 returns-3 : tie.Need-returns-3
 returns-3 c =
-    sym (slot-variable _ _ _ (c .before .before .before .if1 .left) (search needs) (c .before .if2 .left))
+    c .wide2 .ensures .0 ∙ sym (slot-variable _ _ _ (c .before .before .before .before .if1 .left) (search needs) (c .before .before .if2 .left))
 
 pub slot-spec : {M : Type 1} → statement M
 slot-spec =
     tie.close
-    (tie.spec returns wide-requires sub-x returns-2 mul-result shared-slice-read-result returns-3)
+    (tie.spec returns (λ c κs. search needs) (λ c. search needs) returns-2 (λ c. search needs) (λ c κs. search needs) returns-3)

@@ -1,0 +1,42 @@
+-- `again`: a lemma for each return: beyond the cells (`again-long`), the same cells (`again-same`), others (`again-other`). Assumes nothing.
+-- Read first: specs/Held (Again), proofs/Advancing.
+use Rattle.matching.proofs.Advancing.{again-long, again-same, again-other}
+use mathlib.Core.Path.{refl}
+use borrow.Author.Needs.{needs}
+use Rattle.matching.proofs.again.Statement.{statement}
+use Rattle.matching.proofs.again.Tie as tie
+use Rattle.matching.proofs.again.Reads as reads
+use Rattle.matching.proofs.again.Lts as lts
+use Rattle.matching.proofs.same_cells.Reads as same-cells-reads
+use Rattle.matching.proofs.size_of.Reads as size-of-reads
+
+returns : tie.Need-returns
+returns c = again-long _ _ _ _ _ (search needs) (c .before .size-of .ensures .0) refl (c .if1 .taken)
+
+returns-2 : tie.Need-returns-2
+returns-2 c = again-same _ _ _ _ _ (search needs) (c .before .before .before .before .before .size-of .ensures .0) refl _ (c .before .same-cells .ensures) (c .if2 .taken) (c .before .before .before .before .if1 .left)
+
+returns-3 : tie.Need-returns-3
+returns-3 c = again-other _ _ _ _ _ (search needs) (c .before .before .before .before .before .size-of .ensures .0) refl _ (c .before .same-cells .ensures) (c .if2 .left)
+
+pub again-spec : {M : Type 1} → statement M
+again-spec =
+    tie.close
+    (tie.spec
+    (λ c. search needs)
+    (λ c. search needs)
+    (λ c κs. search needs)
+    (λ c. search needs)
+    returns
+    (λ c. search needs)
+    (λ c. search needs)
+    (λ c. search needs)
+    (λ c. search needs)
+    (λ c. search needs)
+    (λ c. search needs)
+    (λ c. search needs)
+    (λ c. search needs)
+    (λ c. search needs)
+    (λ c κs. search needs)
+    returns-2
+    returns-3)
