@@ -2,22 +2,23 @@
 -- Read first: specs/Stored (Fitted, Found), matching/specs/Held (Matched), rewriting/specs/Rewrite (root-step).
 use mathlib.Core.Path.{_≡_, refl, sym, _∙_, ap, subst}
 use mathlib.Core.Bool.{Bool, true, false, true≢false, false≢true}
-use mathlib.Core.List.{List, [], _∷_, _++_}
+use mathlib.Core.List.{List, [], _∷_}
 use mathlib.Core.Option.{Option, none, some}
-use Prim.Native.Nat.{ℕ, zero, suc, _+_, _-_, _*_, _<_, _≤_}
+use Prim.Native.Nat.{ℕ, zero, suc, _+_, _-_, _*_, _%_, _<_, _≤_}
 use native.Mathlib.Omega.{arith}
 use native.Mathlib.Numerals.{add-one}
 use lib.Dec.{eqb}
 use lib.ListN.{length, getD, drop, take}
 use lib.Seq.{getD-take, getD-drop}
 use Rattle.terms.specs.Base.{if_then_else_, mapped, or-else}
-use Rattle.terms.specs.Term.{Term, var, node, term-bytes, terms-bytes}
-use Rattle.terms.specs.Flat.{Wf, Starts}
+use Rattle.terms.specs.Term.{Term, var, node, term-bytes, terms-bytes, size}
 use Rattle.terms.proofs.Shape.{Says, eqb-says}
 use Rattle.unify.specs.Unify.{Binding}
 use Rattle.rewriting.specs.Overlap.{Rule, sides-of}
 use Rattle.rewriting.specs.Rewrite.{matching, root-step}
+use Rattle.matching.specs.Cells.{root-byte, Stands}
 use Rattle.matching.specs.Held.{Answers, Matched}
+use Rattle.matching.proofs.Celled.{stands-byte}
 use Rattle.normaliser.specs.Stored.{Layout, Stored, Fitted, Choice, Found}
 
 -- the root's byte stands first
@@ -29,30 +30,30 @@ head-of rules (suc n) a b l e =
     let i : a + 0 ≡ a = omega arith in
     sym (getD-take (suc n) (drop a rules) 0 0 h ∙ getD-drop a rules 0 0 ∙ ap (λ z. getD rules z 0) i) ∙ q
 
-module _ (tab rules lens T : List ℕ) (k : ℕ) (B : List ℕ) where
-  pub fits-by : (left : List ℕ) (r : Bool) (B′ : List ℕ) → take (getD lens (2 * k) 0) (drop (240 * k) rules) ≡ left → Matched tab left T B r B′ → Fitted tab rules lens T k B r B′
+module _ (rules lens T : List ℕ) (k : ℕ) (B : List ℕ) where
+  pub fits-by : (left : List ℕ) (r : Bool) (B′ : List ℕ) → take (getD lens (2 * k) 0) (drop (240 * k) rules) ≡ left → Matched left T B r B′ → Fitted rules lens T k B r B′
   fits-by left r B′ e m = record {
     same = m .same;
     within = λ q. m .within;
-    answer = λ p a x s. m .answer (p .left) x (a .left-wf) (sym e ∙ a .left-bytes) s;
+    answer = λ tab p a x s. m .answer tab (p .left) x (a .left-wf) (sym e ∙ a .left-bytes) s;
   }
 
-  root-none : (l x : Term) (rest : List ℕ) (n : ℕ) → take n (drop (240 * k) rules) ≡ term-bytes l → T ≡ term-bytes x ++ rest → Wf 32 tab x → getD rules (240 * k) 0 < 128 →
-      (getD T 0 0 ≡ getD rules (240 * k) 0 → ⊥) → matching l x [] ≡ none
-  unfolding term-bytes matching if_then_else_
-  root-none (var y) x rest n e d w h z = absurd (let q = head-of rules n (240 * k) (128 + y) [] e in omega arith)
-  root-none (node f ps) (var y) rest n e d w h z = refl
-  root-none (node f ps) (node g ys) rest n e d w h z = go (eqb f g) (eqb-says f g)
+  root-none : (l x : Term) (n : ℕ) → take n (drop (240 * k) rules) ≡ term-bytes l → getD rules (240 * k) 0 < 128 → (root-byte x ≡ getD rules (240 * k) 0 → ⊥) → matching l x [] ≡ none
+  unfolding term-bytes matching if_then_else_ root-byte
+  root-none (var y) x n e h z = absurd (let q = head-of rules n (240 * k) (128 + y) [] e in omega arith)
+  root-none (node f ps) (var y) n e h z = refl
+  root-none (node f ps) (node g ys) n e h z = go (eqb f g) (eqb-says f g)
     where
       go : (b : Bool) → Says (f ≡ g) b → (if b then Rattle.rewriting.specs.Rewrite.matching-all ps ys [] else none) ≡ none
-      go true q = absurd (z (ap (λ l. getD l 0 0) d ∙ sym q ∙ sym (head-of rules n (240 * k) f (terms-bytes ps) e)))
+      go true q = absurd (z (sym q ∙ sym (head-of rules n (240 * k) f (terms-bytes ps) e)))
       go false q = refl
 
-  pub fits-not : getD rules (240 * k) 0 < 128 → (getD T 0 0 ≡ getD rules (240 * k) 0 → ⊥) → Fitted tab rules lens T k B false B
+  pub fits-not : getD rules (240 * k) 0 < 128 → (getD T 0 0 % 256 ≡ getD rules (240 * k) 0 → ⊥) → Fitted rules lens T k B false B
   fits-not h z = record {
     same = refl;
     within = λ q. absurd (false≢true q);
-    answer = λ p a x s. subst (λ o. Answers tab T false B o) (sym (root-none (p .left) x (s .rest) (getD lens (2 * k) 0) (a .left-bytes) (s .bytes) (s .wf) h z)) refl;
+    answer = λ tab p a x s.
+        subst (λ o. Answers tab T (size x) false B o) (sym (root-none (p .left) x (getD lens (2 * k) 0) (a .left-bytes) h (λ e. z (stands-byte tab T (size x) 0 x s ∙ e)))) refl;
   }
 
 -- the search
@@ -62,65 +63,65 @@ pub record Remaining (tab rules lens : List ℕ) (number k : ℕ) (rs : List Rul
   pub counts : number ≡ k + length rest
   pub same-step : root-step rest x ≡ root-step rs x
 
-pub record Searching (tab rules lens T : List ℕ) (number k : ℕ) (B₀ B : List ℕ) : Type 0 where
+pub record Searching (rules lens T : List ℕ) (number k : ℕ) (B₀ B : List ℕ) : Type 0 where
   pub bounded : k ≤ number
   pub same : length B ≡ length B₀
-  pub remaining : (rs : List Rule) → Stored tab rules lens 0 (sides-of rs) → number ≡ length rs → (x : Term) → Starts tab T x → Remaining tab rules lens number k rs x
+  pub remaining : (tab : List ℕ) (rs : List Rule) → Stored tab rules lens 0 (sides-of rs) → number ≡ length rs → (x : Term) → Stands tab T (size x) 0 x → Remaining tab rules lens number k rs x
 
-pub search-start : (tab rules lens T : List ℕ) (number : ℕ) (B : List ℕ) → Searching tab rules lens T number 0 B B
-search-start tab rules lens T number B = record {
+pub search-start : (rules lens T : List ℕ) (number : ℕ) (B : List ℕ) → Searching rules lens T number 0 B B
+search-start rules lens T number B = record {
   bounded = omega arith;
   same = refl;
-  remaining = λ rs s n x w. record { rest = rs; stored = s; counts = omega arith; same-step = refl };
+  remaining = λ tab rs s n x w. record { rest = rs; stored = s; counts = omega arith; same-step = refl };
 }
 
-module _ (tab rules lens T : List ℕ) (number k : ℕ) (B₀ B : List ℕ) (s : Searching tab rules lens T number k B₀ B) where
-  pub search-end : number ≤ k → Found tab rules lens T number k B₀ B
+module _ (rules lens T : List ℕ) (number k : ℕ) (B₀ B : List ℕ) (s : Searching rules lens T number k B₀ B) where
+  pub search-end : number ≤ k → Found rules lens T number k B₀ B
   unfolding root-step
   search-end h = record {
     same = s .same;
     bounded = s .bounded;
     within = λ l. absurd (omega arith);
     lowest = λ l. absurd (omega arith);
-    missing = λ e rs st n x w. let m = s .remaining rs st n x w in sym (m .same-step) ∙ go (m .rest) (m .counts) x;
+    missing = λ e tab rs st n x w. let m = s .remaining tab rs st n x w in sym (m .same-step) ∙ go (m .rest) (m .counts) x;
   }
     where
       go : (rest : List Rule) → number ≡ k + length rest → (x : Term) → root-step rest x ≡ none
       go [] e x = refl
       go (r ∷ rest) e x = absurd (omega arith)
 
-  module _ (l : k < number) (r : Bool) (B′ : List ℕ) (f : Fitted tab rules lens T k B r B′) where
-    miss-go : (rs : List Rule) (x : Term) → r ≡ false → Starts tab T x → (rest : List Rule) → Stored tab rules lens k (sides-of rest) → number ≡ k + length rest → root-step rest x ≡ root-step rs x → Remaining tab rules lens number (k + 1) rs x
+  module _ (l : k < number) (r : Bool) (B′ : List ℕ) (f : Fitted rules lens T k B r B′) where
+    miss-go : (tab : List ℕ) (rs : List Rule) (x : Term) → r ≡ false → Stands tab T (size x) 0 x → (rest : List Rule) → Stored tab rules lens k (sides-of rest) → number ≡ k + length rest → root-step rest x ≡ root-step rs x → Remaining tab rules lens number (k + 1) rs x
     unfolding Stored root-step mapped or-else
-    miss-go rs x e w [] st n q = absurd (omega arith)
-    miss-go rs x e w (a ∷ rest) st n q = go (matching (a .sides .left) x []) refl (f .answer (a .sides) (st .0) x w)
+    miss-go tab rs x e w [] st n q = absurd (omega arith)
+    miss-go tab rs x e w (a ∷ rest) st n q = go (matching (a .sides .left) x []) refl (f .answer tab (a .sides) (st .0) x w)
       where
-        go : (o : Option (List Binding)) → matching (a .sides .left) x [] ≡ o → Answers tab T r B′ o → Remaining tab rules lens number (k + 1) rs x
+        go : (o : Option (List Binding)) → matching (a .sides .left) x [] ≡ o → Answers tab T (size x) r B′ o → Remaining tab rules lens number (k + 1) rs x
         go none m v = record { rest = rest; stored = rw (add-one k) (st .1); counts = omega arith; same-step = sym (rw m refl) ∙ q }
         go (some bs) m v = absurd (true≢false (sym (v .0) ∙ e))
 
-    pub search-on : r ≡ false → Searching tab rules lens T number (k + 1) B₀ B′
+    pub search-on : r ≡ false → Searching rules lens T number (k + 1) B₀ B′
     search-on e = record {
       bounded = omega arith;
       same = f .same ∙ s .same;
-      remaining = λ rs st n x w. let m = s .remaining rs st n x w in miss-go rs x e w (m .rest) (m .stored) (m .counts) (m .same-step);
+      remaining = λ tab rs st n x w. let m = s .remaining tab rs st n x w in miss-go tab rs x e w (m .rest) (m .stored) (m .counts) (m .same-step);
     }
 
-    hit-go : (rs : List Rule) (x : Term) → r ≡ true → Starts tab T x → (rest : List Rule) → Stored tab rules lens k (sides-of rest) → number ≡ k + length rest → root-step rest x ≡ root-step rs x → Choice tab rules lens T B′ k x (root-step rs x)
+    hit-go : (tab : List ℕ) (rs : List Rule) (x : Term) → r ≡ true → Stands tab T (size x) 0 x → (rest : List Rule) → Stored tab rules lens k (sides-of rest) → number ≡ k + length rest → root-step rest x ≡ root-step rs x → Choice tab rules lens T B′ k x (root-step rs x)
     unfolding Stored root-step mapped or-else
-    hit-go rs x e w [] st n q = absurd (omega arith)
-    hit-go rs x e w (a ∷ rest) st n q = go (matching (a .sides .left) x []) refl (f .answer (a .sides) (st .0) x w)
+    hit-go tab rs x e w [] st n q = absurd (omega arith)
+    hit-go tab rs x e w (a ∷ rest) st n q = go (matching (a .sides .left) x []) refl (f .answer tab (a .sides) (st .0) x w)
       where
-        go : (o : Option (List Binding)) → matching (a .sides .left) x [] ≡ o → Answers tab T r B′ o → Choice tab rules lens T B′ k x (root-step rs x)
+        go : (o : Option (List Binding)) → matching (a .sides .left) x [] ≡ o → Answers tab T (size x) r B′ o → Choice tab rules lens T B′ k x (root-step rs x)
         go none m v = absurd (true≢false (sym e ∙ v))
         go (some bs) m v = record { rule = a .sides; bindings = bs; matched = m; place = st .0; held = v .1; result = sym q ∙ rw m refl }
 
-    pub search-hit : r ≡ true → Found tab rules lens T number k B₀ B′
+    pub search-hit : r ≡ true → Found rules lens T number k B₀ B′
     search-hit e = record {
       same = f .same ∙ s .same;
       bounded = omega arith;
       within = λ q. f .within e;
-      lowest = λ q rs st n x w. let m = s .remaining rs st n x w in hit-go rs x e w (m .rest) (m .stored) (m .counts) (m .same-step);
+      lowest = λ q tab rs st n x w. let m = s .remaining tab rs st n x w in hit-go tab rs x e w (m .rest) (m .stored) (m .counts) (m .same-step);
       missing = λ q. absurd (omega arith);
     }
 

@@ -5,6 +5,6 @@ pub mod OneStep
 pub mod Parts
 pub mod Settling
 pub mod Together
+pub mod Loading
 pub mod Whole
-pub mod Reducing
 pub mod Slots

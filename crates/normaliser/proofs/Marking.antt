@@ -1,31 +1,44 @@
--- Marked bytes: a term's own bytes are such, and so is the instance of a right side whose bound terms are normal. Assumes nothing. What is bound
--- below a symbol of the left side is normal, since the arguments are.
--- Read first: specs/Marks (Marked), matching/specs/Pieces, matching/proofs/Filling.
+-- Cells with and without sizes: a term's own bytes are such, and so is the instance of a right side. Assumes nothing. The redex loses its size; what
+-- stands below its root is normal, since the arguments are.
+-- Read first: specs/Marks (Marked), matching/specs/Cells, matching/specs/Pieces, matching/proofs/Celled.
 use mathlib.Core.Path.{_≡_, refl, sym, _∙_, ap, ap₂, subst}
 use mathlib.Core.Bool.{Bool, true, false}
 use mathlib.Core.List.{List, [], _∷_, _++_, append-assoc, append-nil}
-use mathlib.Core.Logic.{_⊎_, inl, inr}
 use mathlib.Core.Option.{Option, none, some}
-use Prim.Native.Nat.{ℕ, zero, suc, _+_, _-_, _<_, _≤_}
+use Prim.Native.Nat.{ℕ, zero, suc, _+_, _-_, _/_, _<_, _≤_}
 use native.Mathlib.Omega.{arith}
-use lib.Dec.{eqb}
-use lib.ListN.{length, getD, drop, take, set, length-set, length-append}
-use lib.Seq.{take-at, length-take-le}
-use Rattle.terms.specs.Base.{if_then_else_, mapped, or-else}
-use Rattle.terms.specs.Term.{Term, Terms, var, node, nil, cons, term-bytes, terms-bytes, size, sizes, same, subst-term, subst-terms}
+use lib.Dec.{ltb}
+use borrow.Author.Tests.{ltb-true, ltb-false}
+use lib.ListN.{length, getD, drop, take, length-append}
+use lib.Seq.{take-at, drop-append-add}
+use Rattle.terms.specs.Base.{mapped, or-else}
+use Rattle.terms.specs.Term.{Term, Terms, var, node, nil, cons, term-bytes, terms-bytes, size, sizes, subst-term, subst-terms}
 use Rattle.terms.specs.Flat.{Wf, Wfs}
-use Rattle.terms.specs.Scan.{skip}
-use Rattle.terms.proofs.Bytes.{length-bytes, length-bytes-all}
-use Rattle.terms.proofs.Flats.{skip-term}
+use Rattle.terms.proofs.Places.{size-pos}
 use Rattle.unify.specs.Unify.{Binding}
 use Rattle.rewriting.specs.Overlap.{Rule}
-use Rattle.rewriting.specs.Rewrite.{bound, bind-to, matching, matching-all, bound-or-variable, instantiate, root-step, step, step-in}
+use Rattle.rewriting.specs.Rewrite.{bound, bound-or-variable, instantiate, root-step, step, step-in}
+use Rattle.matching.specs.Cells.{cells, cells-all, root-byte, cells-below, Stands}
 use Rattle.matching.specs.Held.{Slot, Rep}
-use Rattle.normaliser.specs.Marks.{Marked, MarkedAll, leaf, visit, leave, no-more, more, ArgumentsNormal}
-use Rattle.normaliser.specs.Stored.{Unmarked}
-use Rattle.matching.specs.Pieces.{slot-of, mark-first, mark-for, piece-at, piece, pieces}
-use Rattle.normaliser.proofs.Choosing.{head-of}
-use Rattle.matching.proofs.Filling.{run-some, slot-variable, slot-symbol, piece-byte, byte-other, byte-symbol, for-symbol, for-variable}
+use Rattle.matching.specs.Pieces.{slot-of, first-cell, piece-at, piece, pieces}
+use Rattle.matching.proofs.Celled.{length-cells, cells-root, length-below, cells-unique, stands-cell, stands-byte, stands-size, stands-below}
+use Rattle.matching.proofs.Filling.{slot-variable, slot-symbol, piece-byte}
+use Rattle.normaliser.specs.Marks.{Marked, MarkedAll, leaf, visit, leave, no-more, more, ArgumentsNormal, open-cells}
+
+-- what is put for a term, at the root of the cells and below it
+module _ (tab T : List ℕ) (n k : ℕ) (u : Term) (s : Stands tab T n k u) where
+  piece-below : take (getD T k 0 / 256 - 1) (drop (suc k) T) ≡ cells-below u
+  piece-below =
+      let e : length (cells-below u) ≡ getD T k 0 / 256 - 1 = omega (arith, length-below u, stands-size tab T n k u s) in
+      rw (stands-below tab T n k u s) (take-at (cells-below u) (s .rest) (getD T k 0 / 256 - 1) e)
+
+  piece-open : (b : ℕ) → k ≡ 0 → piece-at T b (suc k) ≡ open-cells u
+  unfolding piece-at first-cell open-cells
+  piece-open b z = ap₂ (λ c l. c ∷ l) (ap (λ j. first-cell j (getD T k 0)) z ∙ stands-byte tab T n k u s) piece-below
+
+piece-later : (tab T : List ℕ) (n k : ℕ) (u : Term) → Stands tab T n (suc k) u → (b : ℕ) → piece-at T b (suc (suc k)) ≡ cells u
+unfolding piece-at first-cell
+piece-later tab T n k u s b = ap₂ (λ c l. c ∷ l) (stands-cell tab T n (suc k) u s) (piece-below tab T n (suc k) u s) ∙ sym (cells-root u)
 
 module _ (rs : List Rule) where
   mutual
@@ -45,7 +58,7 @@ module _ (rs : List Rule) where
     pub marked-length : {l : List ℕ} {x : Term} → Marked rs l x → length l ≡ size x
     marked-length (leaf e) = ap length e
     marked-length (visit e h) = ap length e ∙ ap suc (marked-lengths h)
-    marked-length (leave {ts = ts} e n) = ap length e ∙ ap suc (length-bytes-all ts)
+    marked-length (leave {x = x} e n) = ap length e ∙ length-cells x
 
     pub marked-lengths : {l : List ℕ} {xs : Terms} → MarkedAll rs l xs → length l ≡ sizes xs
     marked-lengths (no-more e) = ap length e
@@ -81,152 +94,94 @@ module _ (rs : List Rule) where
     mapped-none (cons t) (step-in rs ts) (second-none (λ u. cons u ts) (step rs t) (mapped (cons t) (step-in rs ts)) e),
   )
 
-  -- a normal term is matched by normal terms
-  abbrev NormalAt : Option Term → Type 0
-  NormalAt none = Unit {0}
-  NormalAt (some u) = step rs u ≡ none
+  normal-all : (ts : Terms) → step-in rs ts ≡ none → MarkedAll rs (cells-all ts) ts
+  unfolding cells-all
+  normal-all nil e = no-more refl
+  normal-all (cons t ts) e = let n = cons-none t ts e in more refl (leave refl (n .0)) (normal-all ts (n .1))
 
-  abbrev pub AllNormal : List Binding → Type 0
-  AllNormal bs = (y : ℕ) → NormalAt (bound bs y)
+  open-marked : (x : Term) → ArgumentsNormal rs x → Marked rs (open-cells x) x
+  unfolding open-cells root-byte cells-below
+  open-marked (var y) h = leaf refl
+  open-marked (node f ts) h = visit refl (normal-all ts h)
 
-  abbrev Answered : Option (List Binding) → Type 0
-  Answered none = Unit {0}
-  Answered (some bs) = AllNormal bs
+  -- at every place of a normal term's cells stands a normal term
+  record Inner (tab l : List ℕ) : Type 0 where
+    term : Term
+    wf : Wf 32 tab term
+    rest : List ℕ
+    text : l ≡ cells term ++ rest
+    normal : step rs term ≡ none
 
-  if-answered : (b : Bool) (o q : Option (List Binding)) → Answered o → Answered q → Answered (if b then o else q)
-  unfolding if_then_else_
-  if-answered true o q h k = h
-  if-answered false o q h k = k
-
-  if-normal : (b : Bool) (o q : Option Term) → NormalAt o → NormalAt q → NormalAt (if b then o else q)
-  unfolding if_then_else_
-  if-normal true o q h k = h
-  if-normal false o q h k = k
-
-  bind-normal : (x : ℕ) (t : Term) (bs : List Binding) (o : Option Term) → step rs t ≡ none → AllNormal bs → Answered (bind-to x t bs o)
-  unfolding bind-to bound
-  bind-normal x t bs none h k = λ y. if-normal (eqb y x) (some t) (bound bs y) h (k y)
-  bind-normal x t bs (some u) h k = if-answered (same u t) (some bs) none k tt
-
-  after-normal : (o : Option (List Binding)) (next : List Binding → Option (List Binding)) → Answered o → ((bs : List Binding) → AllNormal bs → Answered (next bs)) →
-      Answered (elim o [ none ↦ none | some bs ↦ next bs ])
-  after-normal none next h k = tt
-  after-normal (some bs) next h k = k bs h
+  inner-cons : (tab : List ℕ) (t : Term) (ts : Terms) (k : ℕ) (post : List ℕ) → (k < size t → Inner tab (drop k (cells t ++ (cells-all ts ++ post)))) → (size t ≤ k → Inner tab (drop (k - size t) (cells-all ts ++ post))) →
+      (b : Bool) → ltb k (size t) ≡ b → Inner tab (drop k ((cells t ++ cells-all ts) ++ post))
+  inner-cons tab t ts k post f g true e = subst (λ l. Inner tab (drop k l)) (sym (append-assoc (cells t) (cells-all ts) post)) (f (ltb-true k (size t) e))
+  inner-cons tab t ts k post f g false e =
+      let h : size t ≤ k = ltb-false k (size t) e in
+      let n : length (cells t) + (k - size t) ≡ k = omega (arith, length-cells t) in
+      let q : drop k ((cells t ++ cells-all ts) ++ post) ≡ drop (k - size t) (cells-all ts ++ post) =
+      ap (drop k) (append-assoc (cells t) (cells-all ts) post) ∙ ap (λ z. drop z (cells t ++ (cells-all ts ++ post))) (sym n) ∙ drop-append-add (cells t) (cells-all ts ++ post) (k - size t) in
+      subst (λ l. Inner tab l) (sym q) (g h)
 
   mutual
-    unfolding matching
+    unfolding cells size Wf
 
-    matching-normal : (l t : Term) (bs : List Binding) → step rs t ≡ none → AllNormal bs → Answered (matching l t bs)
-    matching-normal (var x) t bs h k = bind-normal x t bs (bound bs x) h k
-    matching-normal (node f ls) (var y) bs h k = tt
-    matching-normal (node f ls) (node g ts) bs h k = if-answered (eqb f g) (matching-all ls ts bs) none (matching-normals ls ts bs (node-none g ts h) k) tt
+    inner-at : (tab : List ℕ) (t : Term) (k : ℕ) (post : List ℕ) → Wf 32 tab t → step rs t ≡ none → k < size t → Inner tab (drop k (cells t ++ post))
+    inner-at tab (var y) zero post w n h = record { term = var y; wf = w; rest = post; text = refl; normal = n }
+    inner-at tab (var y) (suc k) post w n h = absurd (omega arith)
+    inner-at tab (node f ts) zero post w n h = record { term = node f ts; wf = w; rest = post; text = refl; normal = n }
+    inner-at tab (node f ts) (suc k) post w n h = inner-in tab ts k post (w .2) (node-none f ts n) (omega arith)
 
-    matching-normals : (ls ts : Terms) (bs : List Binding) → step-in rs ts ≡ none → AllNormal bs → Answered (matching-all ls ts bs)
-    matching-normals nil nil bs h k = k
-    matching-normals nil (cons t ts) bs h k = tt
-    matching-normals (cons l ls) nil bs h k = tt
-    matching-normals (cons l ls) (cons t ts) bs h k =
-        let n = cons-none t ts h in
-        after-normal (matching l t bs) (λ q. matching-all ls ts q) (matching-normal l t bs (n .0) k) (λ q k. matching-normals ls ts q (n .1) k)
+    inner-in : (tab : List ℕ) (ts : Terms) (k : ℕ) (post : List ℕ) → Wfs 32 tab ts → step-in rs ts ≡ none → k < sizes ts → Inner tab (drop k (cells-all ts ++ post))
+    inner-in tab nil k post w n h = absurd (omega arith)
+    inner-in tab (cons t ts) k post w n h =
+        inner-cons tab t ts k post (λ l. inner-at tab t k (cells-all ts ++ post) (w .0) (cons-none t ts n .0) l) (λ l. inner-in tab ts (k - size t) post (w .1) (cons-none t ts n .1) (omega arith)) (ltb k (size t)) refl
 
-  none-bound : AllNormal []
-  unfolding bound
-  none-bound y = tt
-
-  root-answered : (f : ℕ) (ls : Terms) (x : Term) → ArgumentsNormal rs x → Answered (matching (node f ls) x [])
-  unfolding matching
-  root-answered f ls (var y) h = tt
-  root-answered f ls (node g ts) h = if-answered (eqb f g) (matching-all ls ts []) none (matching-normals ls ts [] h none-bound) tt
-
-  pub root-normal : (f : ℕ) (ls : Terms) (x : Term) (bs : List Binding) → ArgumentsNormal rs x → matching (node f ls) x [] ≡ some bs → AllNormal bs
-  root-normal f ls x bs h e = rw e at (root-answered f ls x h)
+  below-normal : (tab T : List ℕ) (x : Term) (post : List ℕ) → Wf 32 tab x → T ≡ cells x ++ post → ArgumentsNormal rs x → (k : ℕ) (u : Term) → Stands tab T (size x) (suc k) u → step rs u ≡ none
+  unfolding cells size Wf
+  below-normal tab T (var y) post w e h k u s = absurd (let i = s .inside in omega (arith, size-pos u))
+  below-normal tab T (node f ts) post w e h k u s =
+      let v = inner-in tab ts k post (w .2) h (let i = s .inside in omega (arith, size-pos u)) in
+      let q : v .term ≡ u = cells-unique tab (v .term) u (v .rest) (s .rest) (v .wf) (s .wf) (sym (v .text) ∙ sym (ap (drop (suc k)) e) ∙ s .text) in
+      subst (λ z. step rs z ≡ none) q (v .normal)
 
   -- what is put for a right side
-  abbrev pub MarkFits : ℕ → List Binding → Type 0
-  MarkFits m bs = (m ≡ 0) ⊎ ((m ≡ 192) × AllNormal bs)
-
-  module _ (tab T B : List ℕ) (m : ℕ) (bs : List Binding) (rep : Rep tab T B bs) (ok : MarkFits m bs) where
-    run-marked : (u : Term) → Wf 32 tab u → (m ≡ 0) ⊎ ((m ≡ 192) × (step rs u ≡ none)) → Marked rs (mark-first m (term-bytes u)) u
-    unfolding term-bytes mark-first Wf
-    run-marked (var z) w h = leaf (ap (λ b. b ∷ []) (byte-other m (128 + z) (omega arith)))
-    run-marked (node g us) w (inl e) = let z : g + m ≡ g = omega arith in visit (ap (λ b. b ∷ terms-bytes us) (byte-symbol m g (w .0) ∙ z)) (plain-all us)
-    run-marked (node g us) w (inr (e, n)) = leave (ap (λ b. b ∷ terms-bytes us) (byte-symbol m g (w .0) ∙ ap (λ z. g + z) e)) n
-
-    normal-or : (o : Option Term) (u : Term) → o ≡ some u → NormalAt o → step rs u ≡ none
-    normal-or none u e n = absurd (some≢none (sym e))
-    normal-or (some v) u e n = let q : v ≡ u = cc in rw q at n
-
-    fits-or : (x : ℕ) (u : Term) → bound bs x ≡ some u → MarkFits m bs → (m ≡ 0) ⊎ ((m ≡ 192) × (step rs u ≡ none))
-    fits-or x u e (inl z) = inl z
-    fits-or x u e (inr (z, n)) = inr (z, normal-or (bound bs x) u e (n x))
-
-    slot-marked : (x k : ℕ) (o : Option Term) → bound bs x ≡ o → Slot tab T k o → Marked rs (piece-at tab T m (128 + x) k) (bound-or-variable x o)
+  module _ (tab T B : List ℕ) (x : Term) (post : List ℕ) (w : Wf 32 tab x) (e : T ≡ cells x ++ post) (an : ArgumentsNormal rs x) (bs : List Binding) (rep : Rep tab T (size x) B bs) where
+    slot-marked : (y k : ℕ) (o : Option Term) → Slot tab T (size x) k o → Marked rs (piece-at T (128 + y) k) (bound-or-variable y o)
     unfolding piece-at bound-or-variable
-    slot-marked x zero none e s = leaf refl
-    slot-marked x zero (some u) e s = absurd s
-    slot-marked x (suc k) none e s = absurd s
-    slot-marked x (suc k) (some u) e s =
-        let n : skip tab (drop k T) 1 ≡ size u = rw (s .bytes) (skip-term 32 tab u (s .wf) (s .rest)) in
-        let q : take (skip tab (drop k T) 1) (drop k T) ≡ term-bytes u = rw (n, s .bytes) (take-at (term-bytes u) (s .rest) (size u) (length-bytes u)) in
-        subst (λ l. Marked rs (mark-first m l) u) (sym q) (run-marked u (s .wf) (fits-or x u e ok))
+    slot-marked y zero none s = leaf refl
+    slot-marked y zero (some u) s = absurd s
+    slot-marked y (suc k) none s = absurd s
+    slot-marked y (suc zero) (some u) s =
+        let q : x ≡ u = cells-unique tab x u post (s .rest) w (s .wf) (sym e ∙ s .text) in
+        subst (λ l. Marked rs l u) (sym (piece-open tab T (size x) 0 u s (128 + y) refl)) (open-marked u (subst (ArgumentsNormal rs) q an))
+    slot-marked y (suc (suc k)) (some u) s =
+        leave (piece-later tab T (size x) k u s (128 + y)) (below-normal tab T x post w e an k u s)
 
-    variable-marked : (x : ℕ) → x < 16 → Marked rs (piece tab T B m (128 + x)) (bound-or-variable x (bound bs x))
+    variable-marked : (y : ℕ) → y < 16 → Marked rs (piece T B (128 + y)) (bound-or-variable y (bound bs y))
     unfolding piece
-    variable-marked x h =
-        subst (λ k. Marked rs (piece-at tab T m (128 + x) k) (bound-or-variable x (bound bs x))) (sym (slot-variable B (128 + x) x (omega arith) (omega arith) h))
-        (slot-marked x (getD B x 0) (bound bs x) refl (rep x h))
+    variable-marked y h =
+        subst (λ k. Marked rs (piece-at T (128 + y) k) (bound-or-variable y (bound bs y))) (sym (slot-variable B (128 + y) y (omega arith) (omega arith) h))
+        (slot-marked y (getD B y 0) (bound bs y) (rep y h))
 
-    symbol-piece : (f : ℕ) → f < 16 → piece tab T B m f ≡ f ∷ []
-    symbol-piece f h = sym (piece-byte tab T B m f (slot-of B f) refl (slot-symbol B f (omega arith)))
+    symbol-piece : (f : ℕ) → f < 16 → piece T B f ≡ f ∷ []
+    symbol-piece f h = sym (piece-byte T B f (slot-of B f) refl (slot-symbol B f (omega arith)))
 
-    pieces-append : (a b : List ℕ) → pieces tab T B m (a ++ b) ≡ pieces tab T B m a ++ pieces tab T B m b
+    pieces-append : (a b : List ℕ) → pieces T B (a ++ b) ≡ pieces T B a ++ pieces T B b
     unfolding pieces
     pieces-append [] b = refl
-    pieces-append (c ∷ a) b = ap (λ z. piece tab T B m c ++ z) (pieces-append a b) ∙ sym (append-assoc (piece tab T B m c) (pieces tab T B m a) (pieces tab T B m b))
+    pieces-append (c ∷ a) b = ap (λ z. piece T B c ++ z) (pieces-append a b) ∙ sym (append-assoc (piece T B c) (pieces T B a) (pieces T B b))
 
     mutual
       unfolding pieces term-bytes subst-term Wf Wfs
 
-      term-marked : (r : Term) → Wf 16 tab r → Marked rs (pieces tab T B m (term-bytes r)) (subst-term (λ x. bound-or-variable x (bound bs x)) r)
-      term-marked (var x) w = subst (λ l. Marked rs l (bound-or-variable x (bound bs x))) (sym (append-nil (piece tab T B m (128 + x)))) (variable-marked x w)
-      term-marked (node f ts) w = visit (ap (λ z. z ++ pieces tab T B m (terms-bytes ts)) (symbol-piece f (w .0))) (terms-marked ts (w .2))
+      term-marked : (r : Term) → Wf 16 tab r → Marked rs (pieces T B (term-bytes r)) (subst-term (λ y. bound-or-variable y (bound bs y)) r)
+      term-marked (var y) v = subst (λ l. Marked rs l (bound-or-variable y (bound bs y))) (sym (append-nil (piece T B (128 + y)))) (variable-marked y v)
+      term-marked (node f ts) v = visit (ap (λ z. z ++ pieces T B (terms-bytes ts)) (symbol-piece f (v .0))) (terms-marked ts (v .2))
 
-      terms-marked : (ts : Terms) → Wfs 16 tab ts → MarkedAll rs (pieces tab T B m (terms-bytes ts)) (subst-terms (λ x. bound-or-variable x (bound bs x)) ts)
-      terms-marked nil w = no-more refl
-      terms-marked (cons t ts) w = more (pieces-append (term-bytes t) (terms-bytes ts)) (term-marked t (w .0)) (terms-marked ts (w .1))
+      terms-marked : (ts : Terms) → Wfs 16 tab ts → MarkedAll rs (pieces T B (terms-bytes ts)) (subst-terms (λ y. bound-or-variable y (bound bs y)) ts)
+      terms-marked nil v = no-more refl
+      terms-marked (cons t ts) v = more (pieces-append (term-bytes t) (terms-bytes ts)) (term-marked t (v .0)) (terms-marked ts (v .1))
 
-    pub instance-marked : (right : List ℕ) (r : Term) → Wf 16 tab r → right ≡ term-bytes r → Marked rs (pieces tab T B m right) (instantiate bs r)
+    pub instance-marked : (right : List ℕ) (r : Term) → Wf 16 tab r → right ≡ term-bytes r → Marked rs (pieces T B right) (instantiate bs r)
     unfolding instantiate
-    instance-marked right r w e = subst (λ l. Marked rs (pieces tab T B m l) (instantiate bs r)) (sym e) (term-marked r w)
-
-  -- the mark is right for a left side
-  pub mark-fits : (tab rules : List ℕ) (n a : ℕ) (l x : Term) (bs : List Binding) → Wf 16 tab l → take n (drop a rules) ≡ term-bytes l → ArgumentsNormal rs x → matching l x [] ≡ some bs → MarkFits (mark-for (getD rules a 0)) bs
-  unfolding term-bytes Wf
-  mark-fits tab rules n a (var y) x bs w e h q = inl (for-variable (getD rules a 0) (let z = head-of rules n a (128 + y) [] e in omega arith))
-  mark-fits tab rules n a (node f ls) x bs w e h q =
-      inr (for-symbol (getD rules a 0) (let z = head-of rules n a f (terms-bytes ls) e in let l : f < 16 = w .0 in omega arith), root-normal f ls x bs h q)
-
--- `unmark`
-module _ (tab : List ℕ) where
-  unmark-go : (t : List ℕ) (len v : ℕ) → 0 < len → len ≤ length t → v ≡ getD t 0 0 - 192 → (f : ℕ) (m : List ℕ) → take len t ≡ (f + 192) ∷ m → take len (set t 0 v) ≡ f ∷ m
-  unmark-go [] len v h k e f m b = absurd (omega arith)
-  unmark-go (c ∷ t) zero v h k e f m b = absurd (omega arith)
-  unmark-go (c ∷ t) (suc n) v h k e f m b =
-      let p : c ≡ f + 192 = cc in
-      let q : take n t ≡ m = cc in
-      let g : v ≡ f = omega arith in
-      ap₂ (λ z l. z ∷ l) g q
-
-  pub unmarked : (t S : List ℕ) (len e v : ℕ) → S ≡ take len (set t 0 v) → v ≡ getD t 0 0 - 192 → 0 < len → len ≤ length t → e ≡ 0 + skip tab (drop 0 S) 1 → e ≤ length S → Unmarked tab t (set t 0 v) len e
-  unfolding term-bytes
-  unmarked t S len e v s g h k d l =
-      let n : length S ≡ len = ap length s ∙ length-take-le len (set t 0 v) (omega (arith, length-set t 0 v)) in
-      record {
-        same = length-set t 0 v;
-        first = let p = run-some tab S 0 (omega arith) in omega arith;
-        within = omega arith;
-        answer = λ f us post w b.
-            let q : take len (set t 0 v) ≡ term-bytes (node f us) ++ post = unmark-go t len v h k g f (terms-bytes us ++ post) b in
-            let z : skip tab S 1 ≡ size (node f us) = rw (s ∙ q) (skip-term 32 tab (node f us) w post) in
-            (omega arith, q);
-      }
+    instance-marked right r v d = subst (λ l. Marked rs (pieces T B l) (instantiate bs r)) (sym d) (term-marked r v)

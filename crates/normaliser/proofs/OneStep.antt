@@ -1,31 +1,32 @@
 -- `rewrite` by its returns: no rule, no unit left, too large, or the instance with what follows; the instance is well-formed. Assumes nothing.
 -- Read first: specs/Stored (Found, Rewritten), matching/specs/Pieces (Put), proofs/Marking.
-use mathlib.Core.Path.{_≡_, refl, sym, _∙_, ap, ap₂, subst, subst₂}
-use mathlib.Core.List.{List, _++_}
+use mathlib.Core.Path.{_≡_, refl, sym, _∙_, ap, ap₂, subst}
+use mathlib.Core.List.{List, _∷_, _++_}
 use mathlib.Core.Option.{Option, none, some}
-use Prim.Native.Nat.{ℕ, zero, suc, _+_, _-_, _*_, _<_, _≤_}
+use Prim.Native.Nat.{ℕ, zero, suc, _+_, _-_, _*_, _%_, _<_, _≤_}
 use native.Mathlib.Omega.{arith}
 use lib.Dec.{ltb}
 use borrow.Author.Tests.{lt-ltb, le-ltb}
-use lib.ListN.{length, getD, drop, take, length-append}
-use lib.Seq.{drop-at}
-use Rattle.terms.specs.Term.{Term, Terms, var, node, nil, cons, term-bytes, size, subst-term, subst-terms}
-use Rattle.terms.specs.Flat.{Wf, Wfs, Starts}
-use Rattle.terms.specs.Scan.{count}
+use lib.ListN.{length, getD, drop, take, set, length-set, length-append}
+use lib.Seq.{drop-at, take-set-lt, getD-take}
+use Rattle.terms.specs.Term.{Term, Terms, var, node, nil, cons, size, subst-term, subst-terms}
+use Rattle.terms.specs.Flat.{Wf, Wfs}
 use Rattle.terms.proofs.Subst.{count-subst}
-use Rattle.terms.proofs.Bytes.{length-bytes}
 use Rattle.unify.specs.Unify.{Binding}
 use Rattle.rewriting.specs.Overlap.{Rule, sides-of}
 use Rattle.rewriting.specs.Rewrite.{bound, bound-or-variable, instantiate, root-step}
+use Rattle.matching.specs.Cells.{cells, root-byte, cells-below, Stands}
 use Rattle.matching.specs.Held.{Slot, Rep, Within}
-use Rattle.normaliser.specs.Marks.{Marked, ArgumentsNormal}
-use Rattle.matching.specs.Pieces.{Put, mark-for, pieces, replaced}
-use Rattle.normaliser.specs.Stored.{Stored, Choice, Found, Tested, Wrote, Rewritten}
-use Rattle.normaliser.proofs.Marking.{MarkFits, mark-fits, instance-marked, marked-length}
+use Rattle.matching.specs.Pieces.{Put, pieces, replaced}
+use Rattle.matching.proofs.Celled.{length-cells, cells-root, root-low}
+use Rattle.normaliser.specs.Marks.{Marked, ArgumentsNormal, open-cells}
+use Rattle.normaliser.specs.Stored.{Stored, right-side, Choice, Found, out, Tested, Wrote, Rewritten}
+use Rattle.normaliser.specs.declared.Out.{Out}
+use Rattle.normaliser.proofs.Marking.{instance-marked, marked-length}
 
 -- an instance is well-formed
-module _ (tab T B : List ℕ) (bs : List Binding) (rep : Rep tab T B bs) where
-  slot-wf : (x : ℕ) → x < 16 → (k : ℕ) (o : Option Term) → Slot tab T k o → Wf 32 tab (bound-or-variable x o)
+module _ (tab T : List ℕ) (n : ℕ) (B : List ℕ) (bs : List Binding) (rep : Rep tab T n B bs) where
+  slot-wf : (x : ℕ) → x < 16 → (k : ℕ) (o : Option Term) → Slot tab T n k o → Wf 32 tab (bound-or-variable x o)
   unfolding bound-or-variable Wf
   slot-wf x h zero none s = omega arith
   slot-wf x h zero (some u) s = absurd s
@@ -47,132 +48,144 @@ module _ (tab T B : List ℕ) (bs : List Binding) (rep : Rep tab T B bs) where
   unfolding instantiate
   wf-instance r w = wf-subst r w
 
-module _ (tab rules lens t : List ℕ) (number len end most units k : ℕ) (B B′ : List ℕ) (T : List ℕ) (eT : T ≡ take len t) (f : Found tab rules lens T number k B B′) (p : end ≤ len) (q : len ≤ most) where
-  stands : (x : Term) (post : List ℕ) → Wf 32 tab x → take len t ≡ term-bytes x ++ post → Starts tab T x
-  stands x post w e = record { wf = w; rest = post; bytes = eT ∙ e }
+-- the part of a slot that is its right side
+pub contracted-by : (rules lens t t′ B : List ℕ) (k len end most m w : ℕ) → m ≡ getD lens (2 * k + 1) 0 → Put t t′ 0 most w (replaced (take len t) B (take (240 * k + 120 + m - (240 * k + 120)) (drop (240 * k + 120) rules)) end) →
+    Put t t′ 0 most w (replaced (take len t) B (right-side rules lens k) end)
+unfolding right-side
+contracted-by rules lens t t′ B k len end most m w e p =
+    let g : 240 * k + 120 + m - (240 * k + 120) ≡ getD lens (2 * k + 1) 0 = omega arith in
+    subst (λ n. Put t t′ 0 most w (replaced (take len t) B (take n (drop (240 * k + 120) rules)) end)) g p
 
-  pub step-none : k ≡ number → Rewritten tab rules lens number t t len end most units (record { verdict = 0; units = units; len = len; end = end })
+-- the root's cell with its size
+rooted : (tab t : List ℕ) (len end c : ℕ) (x : Term) (post : List ℕ) → 0 < len → c ≡ getD t 0 0 % 256 + 256 * end → Wf 32 tab x → take len t ≡ open-cells x ++ post → end ≡ size x → take len (set t 0 c) ≡ cells x ++ post
+unfolding open-cells
+rooted tab t len end c x post h e w b d =
+    let g : getD t 0 0 ≡ root-byte x = sym (getD-take len t 0 0 h) ∙ ap (λ l. getD l 0 0) b in
+    let l : root-byte x < 256 = root-low tab x w in
+    let q : c ≡ root-byte x + 256 * size x = omega arith in
+    take-set-lt len t 0 c h ∙ ap (λ l. set l 0 c) b ∙ ap (λ z. z ∷ (cells-below x ++ post)) q ∙ ap (λ l. l ++ post) (sym (cells-root x))
+
+pub rewritten-as : (rules lens : List ℕ) (number : ℕ) (t t′ : List ℕ) (len end most units : ℕ) (o p : Out) → o ≡ p → Rewritten rules lens number t t′ len end most units p → Rewritten rules lens number t t′ len end most units o
+rewritten-as rules lens number t t′ len end most units o p e h = subst (λ z. Rewritten rules lens number t t′ len end most units z) (sym e) h
+
+module _ (rules lens t : List ℕ) (number len end most units k : ℕ) (B B′ T : List ℕ) (c : ℕ) (cv : c ≡ getD t 0 0 % 256 + 256 * end) (eT : T ≡ take len (set t 0 c)) (f : Found rules lens T number k B B′) (z : 0 < end) (p : end ≤ len) (q : len ≤ most) where
+  text : (tab : List ℕ) (x : Term) (post : List ℕ) → Wf 32 tab x → take len t ≡ open-cells x ++ post → end ≡ size x → take len (set t 0 c) ≡ cells x ++ post
+  text tab x post w b d = rooted tab t len end c x post (omega arith) cv w b d
+
+  stands : (tab : List ℕ) (x : Term) (post : List ℕ) → Wf 32 tab x → take len t ≡ open-cells x ++ post → end ≡ size x → Stands tab T (size x) 0 x
+  stands tab x post w b d = record { wf = w; rest = post; text = eT ∙ text tab x post w b d; inside = omega arith }
+
+  pub step-none : k ≡ number → Rewritten rules lens number t (set t 0 c) len end most units (out 0 units len end)
   step-none e = record {
-    same = refl;
+    same = length-set t 0 c;
     known = omega arith;
     ends = p;
     small = q;
     left-over = omega arith;
     paid = λ z. absurd (omega arith);
     place = λ z. (refl, refl);
-    kept = λ z. (refl, refl);
-    answer = λ rs st n x post w b d nb. subst (λ o. Wrote tab rs t post most units (record { verdict = 0; units = units; len = len; end = end }) o) (sym (f .missing e rs st n x (stands x post w b))) refl;
+    answer = λ tab rs st n x post w b d nb.
+        subst (λ o. Wrote tab rs (set t 0 c) x post most units (out 0 units len end) o) (sym (f .missing e tab rs st n x (stands tab x post w b d))) (refl, refl, text tab x post w b d);
   }
 
   module _ (ne : k ≡ number → ⊥) where
-    chosen : (rs : List Rule) → Stored tab rules lens 0 (sides-of rs) → number ≡ length rs → (x : Term) (post : List ℕ) → Wf 32 tab x → take len t ≡ term-bytes x ++ post → Choice tab rules lens T B′ k x (root-step rs x)
-    chosen rs st n x post w b = f .lowest (let i = f .bounded in omega arith) rs st n x (stands x post w b)
+    chosen : (tab : List ℕ) (rs : List Rule) → Stored tab rules lens 0 (sides-of rs) → number ≡ length rs → (x : Term) (post : List ℕ) → Wf 32 tab x → take len t ≡ open-cells x ++ post → end ≡ size x → Choice tab rules lens T B′ k x (root-step rs x)
+    chosen tab rs st n x post w b d = f .lowest (let i = f .bounded in omega arith) tab rs st n x (stands tab x post w b d)
 
-    pub step-spent : units ≡ 0 → Rewritten tab rules lens number t t len end most units (record { verdict = 1; units = 0; len = len; end = end })
+    pub step-spent : units ≡ 0 → Rewritten rules lens number t (set t 0 c) len end most units (out 1 0 len end)
     step-spent u = record {
-      same = refl;
+      same = length-set t 0 c;
       known = omega arith;
       ends = p;
       small = q;
       left-over = omega arith;
       paid = λ z. absurd (omega arith);
       place = λ z. (refl, refl);
-      kept = λ z. absurd (omega arith);
-      answer = λ rs st n x post w b d nb. let c = chosen rs st n x post w b in
-          subst (λ o. Wrote tab rs t post most units (record { verdict = 1; units = 0; len = len; end = end }) o) (sym (c .result))
-          (subst (λ m. Wrote tab rs t post most m (record { verdict = 1; units = 0; len = len; end = end }) (some (instantiate (c .bindings) (c .rule .right)))) (sym u) (refl, refl));
+      answer = λ tab rs st n x post w b d nb. let h = chosen tab rs st n x post w b d in
+          subst (λ o. Wrote tab rs (set t 0 c) x post most units (out 1 0 len end) o) (sym (h .result))
+          (subst (λ m. Wrote tab rs (set t 0 c) x post most m (out 1 0 len end) (some (instantiate (h .bindings) (h .rule .right)))) (sym u) (refl, refl));
     }
 
-    pub found-within : Within tab (take len t) B′
-    found-within = subst (λ l. Within tab l B′) eT (f .within (let i = f .bounded in omega arith))
+    pub found-within : Within (take len (set t 0 c)) B′
+    found-within = subst (λ l. Within l B′) eT (f .within (let i = f .bounded in omega arith))
 
-    module _ (m w : ℕ) (mm : m ≡ getD lens (2 * k + 1) 0) (t′ : List ℕ)
-        (pt : Put t t′ 0 most w (replaced tab (take len t) B′ (getD rules (240 * k) 0) (take (240 * k + 120 + m - (240 * k + 120)) (drop (240 * k + 120) rules)) end)) where
-      mk : ℕ
-      mk = mark-for (getD rules (240 * k) 0)
-
+    module _ (w : ℕ) (t′ : List ℕ) (pt : Put (set t 0 c) t′ 0 most w (replaced (take len (set t 0 c)) B′ (right-side rules lens k) end)) where
       right : List ℕ
-      right = take (getD lens (2 * k + 1) 0) (drop (240 * k + 120) rules)
+      right = right-side rules lens k
 
-      put : Put t t′ 0 most w (pieces tab T B′ mk right ++ drop end T)
-      unfolding mk right
-      put =
-          let g : 240 * k + 120 + m - (240 * k + 120) ≡ getD lens (2 * k + 1) 0 = omega arith in
-          subst₂ (λ l n. Put t t′ 0 most w (replaced tab l B′ (getD rules (240 * k) 0) (take n (drop (240 * k + 120) rules)) end)) (sym eT) g pt
+      put : Put (set t 0 c) t′ 0 most w (pieces T B′ right ++ drop end T)
+      unfolding right
+      put = subst (λ l. Put (set t 0 c) t′ 0 most w (replaced l B′ (right-side rules lens k) end)) (sym eT) pt
 
-      module _ (rs : List Rule) (x : Term) (post : List ℕ) (b : take len t ≡ term-bytes x ++ post) (d : end ≡ size x) (nb : ArgumentsNormal rs x) (o : Option Term) (c : Choice tab rules lens T B′ k x o) where
+      module _ (tab : List ℕ) (rs : List Rule) (x : Term) (post : List ℕ) (wf : Wf 32 tab x) (b : take len t ≡ open-cells x ++ post) (d : end ≡ size x) (nb : ArgumentsNormal rs x) (o : Option Term) (h : Choice tab rules lens T B′ k x o) where
         new : Term
-        new = instantiate (c .bindings) (c .rule .right)
+        new = instantiate (h .bindings) (h .rule .right)
 
-        marks : Marked rs (pieces tab T B′ mk right) new
-        unfolding new mk right
-        marks =
-            let ok : MarkFits rs mk (c .bindings) = mark-fits rs tab rules (getD lens (2 * k) 0) (240 * k) (c .rule .left) x (c .bindings) (c .place .left-wf) (c .place .left-bytes) nb (c .matched) in
-            instance-marked rs tab T B′ mk (c .bindings) (c .held) ok right (c .rule .right) (c .place .right-wf) (c .place .right-bytes)
+        marks : Marked rs (pieces T B′ right) new
+        unfolding new right right-side
+        marks = instance-marked rs tab T B′ x post wf (eT ∙ text tab x post wf b d) nb (h .bindings) (h .held) right (h .rule .right) (h .place .right-wf) (h .place .right-bytes)
 
         rest : drop end T ≡ post
-        rest = ap (drop end) (eT ∙ b) ∙ drop-at (term-bytes x) post end (length-bytes x ∙ sym d)
+        rest = ap (drop end) (eT ∙ text tab x post wf b d) ∙ drop-at (cells x) post end (length-cells x ∙ sym d)
 
-        filled-length : length (pieces tab T B′ mk right ++ drop end T) ≡ size new + length post
-        filled-length = length-append (pieces tab T B′ mk right) (drop end T) ∙ ap₂ _+_ (marked-length rs marks) (ap length rest)
+        filled-length : length (pieces T B′ right ++ drop end T) ≡ size new + length post
+        filled-length = length-append (pieces T B′ right) (drop end T) ∙ ap₂ _+_ (marked-length rs marks) (ap length rest)
 
-        large-go : (n : ℕ) → most < w → Tested tab rs t′ post n (record { verdict = 2; units = n; len = len; end = end }) new (ltb most (size new + length post))
-        large-go n h = let g : most < size new + length post = omega (arith, put .over h, filled-length) in rw (lt-ltb most (size new + length post) g) (refl, refl)
+        large-go : (n : ℕ) → most < w → Tested tab rs t′ post n (out 2 n len end) new (ltb most (size new + length post))
+        large-go n l = let g : most < size new + length post = omega (arith, put .over l, filled-length) in rw (lt-ltb most (size new + length post) g) (refl, refl)
 
-        done-go : (n : ℕ) → w ≤ most → Tested tab rs t′ post n (record { verdict = 3; units = n; len = w; end = 0 }) new (ltb most (size new + length post))
+        done-go : (n : ℕ) → w ≤ most → Tested tab rs t′ post n (out 3 n w 0) new (ltb most (size new + length post))
         unfolding new
-        done-go n h =
-            let g : size new + length post ≤ most = omega (arith, put .next h, filled-length) in
+        done-go n l =
+            let g : size new + length post ≤ most = omega (arith, put .next l, filled-length) in
             rw (le-ltb most (size new + length post) g) (
               refl,
               refl,
               record {
-                wf = wf-instance tab T B′ (c .bindings) (c .held) (c .rule .right) (c .place .right-wf);
-                marks = pieces tab T B′ mk right;
+                wf = wf-instance tab T (size x) B′ (h .bindings) (h .held) (h .rule .right) (h .place .right-wf);
+                marks = pieces T B′ right;
                 marked = marks;
-                bytes = put .bytes h ∙ ap (λ z. pieces tab T B′ mk right ++ z) rest;
+                text = put .cells l ∙ ap (λ z. pieces T B′ right ++ z) rest;
               },
             )
 
       module _ (u : units ≡ 0 → ⊥) where
-        wrote-large : (rs : List Rule) (x : Term) (post : List ℕ) → take len t ≡ term-bytes x ++ post → end ≡ size x → ArgumentsNormal rs x → most < w → (o : Option Term) → Choice tab rules lens T B′ k x o → (v : ℕ) → v ≡ units →
-            Wrote tab rs t′ post most v (record { verdict = 2; units = v - 1; len = len; end = end }) o
+        wrote-large : (tab : List ℕ) (rs : List Rule) (x : Term) (post : List ℕ) → Wf 32 tab x → take len t ≡ open-cells x ++ post → end ≡ size x → ArgumentsNormal rs x → most < w → (o : Option Term) → Choice tab rules lens T B′ k x o →
+            (v : ℕ) → v ≡ units → Wrote tab rs t′ x post most v (out 2 (v - 1) len end) o
         unfolding new
-        wrote-large rs x post b d nb h o c zero e = absurd (u (sym e))
-        wrote-large rs x post b d nb h o c (suc n) e =
+        wrote-large tab rs x post wf b d nb l o h zero e = absurd (u (sym e))
+        wrote-large tab rs x post wf b d nb l o h (suc n) e =
             let g : suc n - 1 ≡ n = omega arith in
-            subst (λ z. Wrote tab rs t′ post most (suc n) (record { verdict = 2; units = suc n - 1; len = len; end = end }) z) (sym (c .result)) (rw g (large-go rs x post b d nb o c n h))
+            subst (λ z. Wrote tab rs t′ x post most (suc n) (out 2 (suc n - 1) len end) z) (sym (h .result)) (rw g (large-go tab rs x post wf b d nb o h n l))
 
-        pub step-large : most < w → Rewritten tab rules lens number t t′ len end most units (record { verdict = 2; units = units - 1; len = len; end = end })
-        step-large h = record {
-          same = pt .same;
+        pub step-large : most < w → Rewritten rules lens number t t′ len end most units (out 2 (units - 1) len end)
+        step-large l = record {
+          same = pt .same ∙ length-set t 0 c;
           known = omega arith;
           ends = p;
           small = q;
           left-over = omega arith;
           paid = λ z. absurd (omega arith);
           place = λ z. (refl, refl);
-          kept = λ z. absurd (omega arith);
-          answer = λ rs st n x post wf b d nb. wrote-large rs x post b d nb h (root-step rs x) (chosen rs st n x post wf b) units refl;
+          answer = λ tab rs st n x post wf b d nb. wrote-large tab rs x post wf b d nb l (root-step rs x) (chosen tab rs st n x post wf b d) units refl;
         }
 
-        wrote-done : (rs : List Rule) (x : Term) (post : List ℕ) → take len t ≡ term-bytes x ++ post → end ≡ size x → ArgumentsNormal rs x → w ≤ most → (o : Option Term) → Choice tab rules lens T B′ k x o → (v : ℕ) → v ≡ units →
-            Wrote tab rs t′ post most v (record { verdict = 3; units = v - 1; len = w; end = 0 }) o
+        wrote-done : (tab : List ℕ) (rs : List Rule) (x : Term) (post : List ℕ) → Wf 32 tab x → take len t ≡ open-cells x ++ post → end ≡ size x → ArgumentsNormal rs x → w ≤ most → (o : Option Term) → Choice tab rules lens T B′ k x o →
+            (v : ℕ) → v ≡ units → Wrote tab rs t′ x post most v (out 3 (v - 1) w 0) o
         unfolding new
-        wrote-done rs x post b d nb h o c zero e = absurd (u (sym e))
-        wrote-done rs x post b d nb h o c (suc n) e =
+        wrote-done tab rs x post wf b d nb l o h zero e = absurd (u (sym e))
+        wrote-done tab rs x post wf b d nb l o h (suc n) e =
             let g : suc n - 1 ≡ n = omega arith in
-            subst (λ z. Wrote tab rs t′ post most (suc n) (record { verdict = 3; units = suc n - 1; len = w; end = 0 }) z) (sym (c .result)) (rw g (done-go rs x post b d nb o c n h))
+            subst (λ z. Wrote tab rs t′ x post most (suc n) (out 3 (suc n - 1) w 0) z) (sym (h .result)) (rw g (done-go tab rs x post wf b d nb o h n l))
 
-        pub step-done : w ≤ most → Rewritten tab rules lens number t t′ len end most units (record { verdict = 3; units = units - 1; len = w; end = 0 })
-        step-done h = record {
-          same = pt .same;
+        pub step-done : w ≤ most → Rewritten rules lens number t t′ len end most units (out 3 (units - 1) w 0)
+        step-done l = record {
+          same = pt .same ∙ length-set t 0 c;
           known = omega arith;
           ends = omega arith;
-          small = h;
+          small = l;
           left-over = omega arith;
           paid = λ z. (let nz : 0 < units = omega arith in omega arith);
           place = λ z. absurd (z refl);
-          kept = λ z. absurd (omega arith);
-          answer = λ rs st n x post wf b d nb. wrote-done rs x post b d nb h (root-step rs x) (chosen rs st n x post wf b) units refl;
+          answer = λ tab rs st n x post wf b d nb. wrote-done tab rs x post wf b d nb l (root-step rs x) (chosen tab rs st n x post wf b d) units refl;
         }

@@ -4,26 +4,50 @@ use mathlib.Core.Path.{_≡_, refl, sym, _∙_, ap, ap₂, subst}
 use mathlib.Core.Bool.{Bool, true, false}
 use mathlib.Core.List.{List, [], _∷_, _++_}
 use mathlib.Core.Option.{Option, none, some}
-use Prim.Native.Nat.{ℕ, zero, suc, _+_, _-_, _*_, _<_, _≤_}
+use Prim.Native.Nat.{ℕ, zero, suc, _+_, _-_, _*_, _/_, _%_, _<_, _≤_}
 use native.Mathlib.Omega.{arith}
+use native.Mathlib.Nat.{mod-eq-of-lt}
 use lib.Dec.{ltb}
-use lib.ListN.{length, getD, drop, take, length-append}
+use lib.ListN.{length, getD, drop, take, length-append, length-take}
 use lib.Seq.{take-take, getD-take}
 use Rattle.terms.specs.Base.{if_then_else_}
-use Rattle.terms.specs.Term.{Term, Terms, var, node, nil, cons, term-bytes, terms-bytes, size, sizes}
+use Rattle.terms.specs.Term.{Term, Terms, var, node, nil, cons, size, sizes}
 use Rattle.terms.specs.Flat.{Wf, Wfs}
 use Rattle.terms.specs.Scan.{count, owes}
 use Rattle.terms.proofs.Scans.{owes-symbol, owes-other}
 use Rattle.rewriting.specs.Overlap.{Rule, sides-of}
-use Rattle.rewriting.specs.Rewrite.{root-step, step-in, Paid, done, stop, too-large, and-then}
+use Rattle.rewriting.specs.Rewrite.{root-step, step, step-in, Paid, done, stop, too-large, and-then}
+use Rattle.matching.specs.Cells.{cells, cells-all, root-byte, cells-below}
+use Rattle.matching.proofs.Celled.{length-cells, cells-root, root-low, cell-size}
 use Rattle.normaliser.specs.Inside.{pay-for, normalise-in, normalise-all}
-use Rattle.normaliser.specs.Marks.{Marked, MarkedAll, leaf, visit, leave, no-more, ArgumentsNormal}
-use Rattle.normaliser.specs.Stored.{Stored, Holds, HoldsAll, Tested, Wrote, Rewritten, Unmarked, EndsWith, EndsAll, Limit, Settled, SettledAll}
+use Rattle.normaliser.specs.Marks.{Marked, MarkedAll, leaf, visit, leave, no-more, ArgumentsNormal, open-cells}
+use Rattle.normaliser.specs.Stored.{Stored, Holds, HoldsAll, Tested, Wrote, Rewritten, out, Left, EndsWith, EndsAll, Limit, Settled, SettledAll}
 use Rattle.normaliser.specs.declared.Out.{Out}
 use Rattle.normaliser.proofs.Sequence.{at-root, iterate-normal, normalise-normal, normalise-var, normalise-node, normalise-nil}
 use Rattle.terms.proofs.Places.{size-pos}
 use Rattle.normaliser.proofs.Marking.{marked-length}
 use Rattle.normaliser.proofs.Parts.{part, back, part-take, back-length, back-take, ltb-less, zero≢code}
+
+-- `leave`
+pub leave-long : (c len units e : ℕ) (o : Out) → o ≡ out 4 units len 0 → e ≡ c / 256 → len < e → Left c len units o
+leave-long c len units e o d k h = subst (λ z. Left c len units z) (sym d) (record {
+  known = omega arith;
+  whole = refl;
+  left-over = refl;
+  ends = omega arith;
+  first = λ z. absurd (omega arith);
+  answer = λ z. absurd (omega arith);
+})
+
+pub leave-done : (c len units e : ℕ) (o : Out) → o ≡ out 0 units len e → e ≡ c / 256 → e ≤ len → 256 ≤ c → Left c len units o
+leave-done c len units e o d k h l = subst (λ z. Left c len units z) (sym d) (record {
+  known = omega arith;
+  whole = refl;
+  left-over = refl;
+  ends = h;
+  first = λ z. omega arith;
+  answer = λ z. (refl, k);
+})
 
 -- A term's arguments, and the term with others.
 args : Term → Terms
@@ -34,21 +58,17 @@ with-args : Term → Terms → Term
 with-args (var x) us = var x
 with-args (node f ts) us = node f us
 
-root-byte : Term → ℕ
-root-byte (var x) = 128 + x
-root-byte (node f ts) = f
-
 by-parts : (rs : List Rule) (big : ℕ → Bool) (y : Term) (u : ℕ) →
     normalise-in rs big y u ≡ and-then (normalise-all rs (λ n. big (suc n)) (args y) u) (λ us m. at-root rs big (with-args y us) m)
 unfolding args with-args and-then
 by-parts rs big (var x) u = normalise-var rs big x u ∙ ap (λ p. and-then p (λ us m. at-root rs big (var x) m)) (sym (normalise-nil rs (λ n. big (suc n)) u))
 by-parts rs big (node f ts) u = normalise-node rs big f ts u
 
--- a term whose root has no mark
+-- a term whose root has no size
 record Opened (rs : List Rule) (t : List ℕ) (l : ℕ) (y : Term) (post : List ℕ) : Type 0 where
   marks : List ℕ
   marked : MarkedAll rs marks (args y)
-  bytes : take l t ≡ root-byte y ∷ (marks ++ post)
+  text : take l t ≡ root-byte y ∷ (marks ++ post)
 
 -- What is true where a turn begins.
 pub record Where (tab : List ℕ) (rs : List Rule) (x : Term) (post : List ℕ) (big : ℕ → Bool) (units : ℕ) (t : List ℕ) (l u : ℕ) : Type 0 where
@@ -65,7 +85,7 @@ pub record Turning (tab rules lens : List ℕ) (number : ℕ) (t₀ : List ℕ) 
 
 none-held : (tab : List ℕ) (rs : List Rule) (t : List ℕ) (l : ℕ) (y : Term) (post : List ℕ) → l ≡ 0 → Holds tab rs t l y post → ⊥
 none-held tab rs t l y post e h =
-    let q : [] ≡ h .marks ++ post = sym (ap (λ z. take z t) e) ∙ h .bytes in
+    let q : [] ≡ h .marks ++ post = sym (ap (λ z. take z t) e) ∙ h .text in
     omega (arith, size-pos y, marked-length rs (h .marked), ap length q, length-append (h .marks) post)
 
 module _ (tab rules lens : List ℕ) (number : ℕ) where
@@ -78,39 +98,49 @@ module _ (tab rules lens : List ℕ) (number : ℕ) where
   }
 
   module _ (t₀ : List ℕ) (len most units : ℕ) (t : List ℕ) (l u : ℕ) (i : Turning tab rules lens number t₀ len most units t l u) where
-    pub turn-empty : l ≡ 0 → Settled tab rules lens number t₀ t len most units (record { verdict = 4; units = u; len = 0; end = 0 })
-    turn-empty e = record {
+    pub turn-empty : l ≡ 0 → (o : Out) → o ≡ out 4 u 0 0 → Settled tab rules lens number t₀ t len most units o
+    turn-empty e o d = subst (λ o. Settled tab rules lens number t₀ t len most units o) (sym d) (record {
       bounds = record { same = i .same; known = omega arith; ends = omega arith; small = omega arith; cost = let c = i .cost in omega arith };
       first = λ z. absurd (omega arith);
       answer = λ rs st n x post h big lim. let p = i .place rs st n x post h big lim in absurd (none-held tab rs t l (p .term) post e (p .held));
-    }
+    })
 
-    -- the first byte
+    -- the first cell
     head : (l ≡ 0 → ⊥) → (b : ℕ) (m : List ℕ) → take l t ≡ b ∷ m → getD t 0 0 ≡ b
     head ne b m e = let nz : 0 < l = omega arith in sym (getD-take l t 0 0 nz) ∙ ap (λ z. getD z 0 0) e
 
-    -- a term with a mark is normal
-    leave-go : (l ≡ 0 → ⊥) → 192 ≤ getD t 0 0 → (t′ : List ℕ) (e : ℕ) → Unmarked tab t t′ l e → (rs : List Rule) (big : ℕ → Bool) (y : Term) (post ms : List ℕ) → Wf 32 tab y → Marked rs ms y → take l t ≡ ms ++ post →
-        EndsWith tab t′ post (record { verdict = 0; units = u; len = l; end = e }) (normalise-in rs big y u)
-    unfolding Wf
-    leave-go ne k t′ e un rs big (var y) post ms w (leaf d) b = absurd (let z = head ne (128 + y) post (b ∙ ap (λ z. z ++ post) d) in omega arith)
-    leave-go ne k t′ e un rs big (node f ts) post ms w (visit {m = m} d h) b =
-        absurd (let z = head ne f (m ++ post) (b ∙ ap (λ z. z ++ post) d) in let g : f < 16 = w .0 in omega arith)
-    leave-go ne k t′ e un rs big (node f ts) post ms w (leave d n) b =
-        let a = un .answer f ts post w (b ∙ ap (λ z. z ++ post) d) in
-        subst (λ p. EndsWith tab t′ post (record { verdict = 0; units = u; len = l; end = e }) p) (sym (normalise-normal rs big (node f ts) u n)) (refl, refl, a .0, a .1, w)
+    -- a term whose root has its size is normal
+    module _ (ne : l ≡ 0 → ⊥) (k : 256 ≤ getD t 0 0) (o : Out) (lf : Left (getD t 0 0) l u o) where
+      leave-term : (rs : List Rule) (big : ℕ → Bool) (y : Term) (post : List ℕ) → Wf 32 tab y → take l t ≡ cells y ++ post → step rs y ≡ none → EndsWith tab t post o (normalise-in rs big y u)
+      leave-term rs big y post w b n =
+          let g : getD t 0 0 ≡ root-byte y + 256 * size y = head ne (root-byte y + 256 * size y) (cells-below y ++ post) (b ∙ ap (λ z. z ++ post) (cells-root y)) in
+          let d : getD t 0 0 / 256 ≡ size y = ap (λ c. c / 256) g ∙ cell-size (root-byte y) (size y) (root-low tab y w) in
+          let f : size y ≤ l = omega (arith, length-take l t, ap length b ∙ length-append (cells y) post, length-cells y) in
+          let a = lf .answer (omega arith) in
+          subst (λ p. EndsWith tab t post o p) (sym (normalise-normal rs big y u n)) (a .0, lf .left-over, a .1 ∙ d, ap (λ m. take m t) (lf .whole) ∙ b, w)
 
-    pub turn-leave : (l ≡ 0 → ⊥) → 192 ≤ getD t 0 0 → (t′ : List ℕ) (e : ℕ) → Unmarked tab t t′ l e → Settled tab rules lens number t₀ t′ len most units (record { verdict = 0; units = u; len = l; end = e })
-    turn-leave ne k t′ e un = record {
-      bounds = record { same = un .same ∙ i .same; known = omega arith; ends = un .within; small = i .small; cost = i .cost };
-      first = λ z. un .first;
-      answer = λ rs st n x post h big lim.
-          let p = i .place rs st n x post h big lim in
-          let g = p .held in
-          subst (λ o. EndsWith tab t′ post (record { verdict = 0; units = u; len = l; end = e }) o) (sym (p .answer)) (leave-go ne k t′ e un rs big (p .term) post (g .marks) (g .wf) (g .marked) (g .bytes));
-    }
+      leave-go : (rs : List Rule) (big : ℕ → Bool) (y : Term) (post ms : List ℕ) → Wf 32 tab y → Marked rs ms y → take l t ≡ ms ++ post → EndsWith tab t post o (normalise-in rs big y u)
+      unfolding Wf
+      leave-go rs big (var y) post ms w (leaf d) b = absurd (let z = head ne (128 + y) post (b ∙ ap (λ z. z ++ post) d) in omega arith)
+      leave-go rs big (node f ts) post ms w (visit {m = m} d h) b =
+          absurd (let z = head ne f (m ++ post) (b ∙ ap (λ z. z ++ post) d) in let g : f < 16 = w .0 in omega arith)
+      leave-go rs big (var y) post ms w (leave d n) b = leave-term rs big (var y) post w (b ∙ ap (λ z. z ++ post) d) n
+      leave-go rs big (node f ts) post ms w (leave d n) b = leave-term rs big (node f ts) post w (b ∙ ap (λ z. z ++ post) d) n
 
-    module _ (ne : l ≡ 0 → ⊥) (um : getD t 0 0 < 192) (room : most ≤ length t) (n : ℕ) (nn : n ≡ owes tab (getD t 0 0)) (q : List ℕ) (r : Out) (a : SettledAll tab rules lens number (part 1 t) q n (l - 1) (most - 1) u r) where
+      pub turn-leave : Settled tab rules lens number t₀ t len most units o
+      turn-leave =
+          let e : o .len ≡ l = lf .whole in
+          let v : o .units ≡ u = lf .left-over in
+          record {
+            bounds = record { same = i .same; known = lf .known; ends = lf .ends; small = let m = i .small in omega arith; cost = let m = i .cost in omega arith };
+            first = lf .first;
+            answer = λ rs st n x post h big lim.
+                let p = i .place rs st n x post h big lim in
+                let g = p .held in
+                subst (λ z. EndsWith tab t post o z) (sym (p .answer)) (leave-go rs big (p .term) post (g .marks) (g .wf) (g .marked) (g .text));
+          }
+
+    module _ (ne : l ≡ 0 → ⊥) (um : getD t 0 0 < 256) (room : most ≤ length t) (n : ℕ) (nn : n ≡ owes tab (getD t 0 0 % 256)) (q : List ℕ) (r : Out) (a : SettledAll tab rules lens number (part 1 t) q n (l - 1) (most - 1) u r) where
       one : 1 ≤ length t
       one = let s = i .small in let nz : 0 < l = omega arith in omega arith
 
@@ -124,23 +154,27 @@ module _ (tab rules lens : List ℕ) (number : ℕ) where
       byte : (b : ℕ) (m : List ℕ) → take l t ≡ b ∷ m → take 1 t ≡ b ∷ []
       byte b m e = let nz : 1 ≤ l = omega arith in sym (take-take 1 l t nz) ∙ ap (take 1) e
 
-      -- a term without a mark: its byte, its arguments' bytes, and what follows
+      -- a term whose root has no size: its byte, its arguments' cells, and what follows
+      sized-not : (y : Term) (post : List ℕ) → take l t ≡ cells y ++ post → ⊥
+      sized-not y post b = omega (arith, size-pos y, head ne (root-byte y + 256 * size y) (cells-below y ++ post) (b ∙ ap (λ z. z ++ post) (cells-root y)))
+
       opened : (rs : List Rule) (y : Term) (post ms : List ℕ) → Wf 32 tab y → Marked rs ms y → take l t ≡ ms ++ post → Opened rs t l y post
       unfolding args root-byte Wf
-      opened rs (var y) post ms w (leaf d) b = record { marks = []; marked = no-more refl; bytes = b ∙ ap (λ z. z ++ post) d }
-      opened rs (node f ts) post ms w (visit {m = m} d h) b = record { marks = m; marked = h; bytes = b ∙ ap (λ z. z ++ post) d }
-      opened rs (node f ts) post ms w (leave d n) b = absurd (let z = head ne (f + 192) (terms-bytes ts ++ post) (b ∙ ap (λ z. z ++ post) d) in omega arith)
+      opened rs (var y) post ms w (leaf d) b = record { marks = []; marked = no-more refl; text = b ∙ ap (λ z. z ++ post) d }
+      opened rs (node f ts) post ms w (visit {m = m} d h) b = record { marks = m; marked = h; text = b ∙ ap (λ z. z ++ post) d }
+      opened rs (var y) post ms w (leave d n) b = absurd (sized-not (var y) post (b ∙ ap (λ z. z ++ post) d))
+      opened rs (node f ts) post ms w (leave d n) b = absurd (sized-not (node f ts) post (b ∙ ap (λ z. z ++ post) d))
 
       open-held : (rs : List Rule) (y : Term) (post : List ℕ) → Holds tab rs t l y post → Opened rs t l y post
-      open-held rs y post h = opened rs y post (h .marks) (h .wf) (h .marked) (h .bytes)
+      open-held rs y post h = opened rs y post (h .marks) (h .wf) (h .marked) (h .text)
 
       number-go : (y : Term) → Wf 32 tab y → getD t 0 0 ≡ root-byte y → count (args y) ≡ n
       unfolding args root-byte Wf count
-      number-go (var x) w e = sym (nn ∙ ap (owes tab) e ∙ owes-other tab (128 + x) (omega arith))
-      number-go (node f ts) w e = w .1 ∙ sym (nn ∙ ap (owes tab) e ∙ owes-symbol tab f (w .0))
+      number-go (var x) w e = sym (nn ∙ ap (owes tab) (mod-eq-of-lt um ∙ e) ∙ owes-other tab (128 + x) (omega arith))
+      number-go (node f ts) w e = w .1 ∙ sym (nn ∙ ap (owes tab) (mod-eq-of-lt um ∙ e) ∙ owes-symbol tab f (w .0))
 
       number-of : (rs : List Rule) (y : Term) (post : List ℕ) → Wf 32 tab y → Opened rs t l y post → count (args y) ≡ n
-      number-of rs y post w o = number-go y w (head ne (root-byte y) (o .marks ++ post) (o .bytes))
+      number-of rs y post w o = number-go y w (head ne (root-byte y) (o .marks ++ post) (o .text))
 
       args-wf : (y : Term) → Wf 32 tab y → Wfs 32 tab (args y)
       unfolding args Wf Wfs
@@ -150,7 +184,7 @@ module _ (tab rules lens : List ℕ) (number : ℕ) where
       inner : (rs : List Rule) → Stored tab rules lens 0 (sides-of rs) → number ≡ length rs → (y : Term) (post : List ℕ) → Wf 32 tab y → Opened rs t l y post → (big : ℕ → Bool) → Limit big most post →
           EndsAll tab q post n r (normalise-all rs (λ k. big (suc k)) (args y) u)
       inner rs st m y post w o big lim =
-          let h : HoldsAll tab rs (part 1 t) (l - 1) (args y) post = record { wfs = args-wf y w; marks = o .marks; marked = o .marked; bytes = part-take 1 l t ∙ ap (drop 1) (o .bytes) } in
+          let h : HoldsAll tab rs (part 1 t) (l - 1) (args y) post = record { wfs = args-wf y w; marks = o .marks; marked = o .marked; text = part-take 1 l t ∙ ap (drop 1) (o .text) } in
           a .answer rs st m (args y) post h (number-of rs y post w o) (λ k. big (suc k)) (low big post lim)
 
       pub turn-room : (length (back 1 t q) ≡ length t) × (0 < r .end + 1) × (r .end + 1 ≤ r .len + 1) × (r .len + 1 ≤ most)
@@ -187,7 +221,7 @@ module _ (tab rules lens : List ℕ) (number : ℕ) where
           }
 
       -- the arguments are normal, and the root is tried
-      module _ (zr : r .verdict ≡ 0) (t′ : List ℕ) (s : Out) (w : Rewritten tab rules lens number (back 1 t q) t′ (r .len + 1) (r .end + 1) most (r .units) s) where
+      module _ (zr : r .verdict ≡ 0) (t′ : List ℕ) (s : Out) (w : Rewritten rules lens number (back 1 t q) t′ (r .len + 1) (r .end + 1) most (r .units) s) where
         wf-with : (y : Term) (us : Terms) → Wf 32 tab y → Wfs 32 tab us → count us ≡ n → count (args y) ≡ n → Wf 32 tab (with-args y us)
         unfolding with-args Wf args
         wf-with (var x) us v k e d = v
@@ -199,11 +233,11 @@ module _ (tab rules lens : List ℕ) (number : ℕ) where
         size-with (var x) (cons b us) v e d o = absurd (omega arith)
         size-with (node f ts) us v e d o = omega arith
 
-        bytes-with : (y : Term) (us : Terms) (post ms : List ℕ) → take l t ≡ root-byte y ∷ ms → count us ≡ n → count (args y) ≡ n → take (r .len) q ≡ terms-bytes us ++ post → take (r .len + 1) (back 1 t q) ≡ term-bytes (with-args y us) ++ post
-        unfolding with-args root-byte term-bytes args count
-        bytes-with (var x) nil post ms b e d o = back-take 1 (r .len) t q one ∙ ap₂ _++_ (byte (128 + x) ms b) o
-        bytes-with (var x) (cons c us) post ms b e d o = absurd (omega arith)
-        bytes-with (node f ts) us post ms b e d o = back-take 1 (r .len) t q one ∙ ap₂ _++_ (byte f ms b) o
+        cells-with : (y : Term) (us : Terms) (post ms : List ℕ) → take l t ≡ root-byte y ∷ ms → count us ≡ n → count (args y) ≡ n → take (r .len) q ≡ cells-all us ++ post → take (r .len + 1) (back 1 t q) ≡ open-cells (with-args y us) ++ post
+        unfolding with-args open-cells root-byte cells-below cells-all args count
+        cells-with (var x) nil post ms b e d o = back-take 1 (r .len) t q one ∙ ap₂ _++_ (byte (128 + x) ms b) o
+        cells-with (var x) (cons c us) post ms b e d o = absurd (omega arith)
+        cells-with (node f ts) us post ms b e d o = back-take 1 (r .len) t q one ∙ ap₂ _++_ (byte f ms b) o
 
         normal-with : (rs : List Rule) (y : Term) (us : Terms) → step-in rs us ≡ none → ArgumentsNormal rs (with-args y us)
         unfolding with-args
@@ -220,15 +254,15 @@ module _ (tab rules lens : List ℕ) (number : ℕ) where
         tested-go rs big post v k true e = (λ z. e, λ z. absurd (let d : s .verdict ≡ 2 = e .0 in omega arith))
         tested-go rs big post v k false e = (λ z. absurd (z (e .0)), λ z. (v, e .2, ap (normalise-in rs big v) (sym (e .1))))
 
-        root-go : (rs : List Rule) (big : ℕ → Bool) (post : List ℕ) → Limit big most post → (y : Term) → Wf 32 tab y → take (r .len + 1) (back 1 t q) ≡ term-bytes y ++ post → r .end + 1 ≡ size y →
-            (o : Option Term) (k : ℕ) → r .units ≡ k → Wrote tab rs t′ post most k s o → Next rs big post (pay-for (λ v. big (size v)) (λ v m. normalise-in rs big v m) y o k)
+        root-go : (rs : List Rule) (big : ℕ → Bool) (post : List ℕ) → Limit big most post → (y : Term) → Wf 32 tab y → r .end + 1 ≡ size y → (o : Option Term) (k : ℕ) → Wrote tab rs t′ y post most k s o →
+            Next rs big post (pay-for (λ v. big (size v)) (λ v m. normalise-in rs big v m) y o k)
         unfolding pay-for
-        root-go rs big post lim y v b d none k e o = (
-          λ z. let (us, tt′) = w .kept o in let (ll, le) = w .place z in (o, us ∙ e, le ∙ d, ap₂ (λ m l. take m l) ll tt′ ∙ b, v),
-          λ z. absurd (let h : s .verdict ≡ 0 = o in omega arith),
+        root-go rs big post lim y v d none k o = (
+          λ z. (o .0, o .1, w .place z .1 ∙ d, o .2, v),
+          λ z. absurd (let h : s .verdict ≡ 0 = o .0 in omega arith),
         )
-        root-go rs big post lim y v b d (some x) zero e o = (λ z. o, λ z. absurd (let h : s .verdict ≡ 1 = o .0 in omega arith))
-        root-go rs big post lim y v b d (some x) (suc k) e o = tested-go rs big post x k (big (size x)) (subst (λ c. Tested tab rs t′ post k s x c) (sym (lim (size x))) o)
+        root-go rs big post lim y v d (some x) zero o = (λ z. o, λ z. absurd (let h : s .verdict ≡ 1 = o .0 in omega arith))
+        root-go rs big post lim y v d (some x) (suc k) o = tested-go rs big post x k (big (size x)) (subst (λ c. Tested tab rs t′ post k s x c) (sym (lim (size x))) o)
 
         root-next : (rs : List Rule) → Stored tab rules lens 0 (sides-of rs) → number ≡ length rs → (big : ℕ → Bool) (post : List ℕ) → Limit big most post → (y : Term) → Wf 32 tab y → Opened rs t l y post →
             (p : Paid Terms) → normalise-all rs (λ k. big (suc k)) (args y) u ≡ p → EndsAll tab q post n r p → Next rs big post (and-then p (λ us m. at-root rs big (with-args y us) m))
@@ -237,11 +271,11 @@ module _ (tab rules lens : List ℕ) (number : ℕ) where
         root-next rs st m big post lim y v b (done us k) j e =
             let d = number-of rs y post v b in
             let f = wf-with y us v (e .4) (e .5) d in
-            let g = bytes-with y us post (b .marks ++ post) (b .bytes) (e .5) d (e .3) in
+            let g = cells-with y us post (b .marks ++ post) (b .text) (e .5) d (e .3) in
             let h = size-with y us v (e .5) d (e .2) in
             let nb = normal-with rs y us (iterate-normal (step-in rs) (λ us. big (suc (sizes us))) u (args y) us k j) in
-            root-go rs big post lim (with-args y us) f g h (root-step rs (with-args y us)) k (e .1)
-            (subst (λ j. Wrote tab rs t′ post most j s (root-step rs (with-args y us))) (e .1) (w .answer rs st m (with-args y us) post f g h nb))
+            root-go rs big post lim (with-args y us) f h (root-step rs (with-args y us)) k
+            (subst (λ j. Wrote tab rs t′ (with-args y us) post most j s (root-step rs (with-args y us))) (e .1) (w .answer tab rs st m (with-args y us) post f g h nb))
 
         next : (rs : List Rule) → Stored tab rules lens 0 (sides-of rs) → number ≡ length rs → (x : Term) (post : List ℕ) → Holds tab rs t₀ len x post → (big : ℕ → Bool) → Limit big most post → Next rs big post (normalise-in rs big x units)
         next rs st m x post h big lim =

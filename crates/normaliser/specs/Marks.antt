@@ -1,17 +1,18 @@
--- A term's bytes in which some subterms that are normal have a mark at their root, so that they need no visit. Assumes nothing.
+-- A term in cells some of which have no size: a subterm whose cell has one is normal, and needs no visit. Assumes nothing.
 use mathlib.Core.Path.{_≡_}
 use mathlib.Core.List.{List, [], _∷_, _++_}
 use mathlib.Core.Option.{none}
 use Prim.Native.Nat.{ℕ, _+_}
-use Rattle.terms.specs.Term.{Term, Terms, var, node, nil, cons, terms-bytes}
+use Rattle.terms.specs.Term.{Term, Terms, var, node, nil, cons}
 use Rattle.rewriting.specs.Overlap.{Rule}
 use Rattle.rewriting.specs.Rewrite.{step, step-in}
+use Rattle.matching.specs.Cells.{cells, root-byte, cells-below}
 
 mutual
   pub data Marked (rs : List Rule) : List ℕ → Term → Type 0 where
     leaf : {l : List ℕ} {y : ℕ} → l ≡ (128 + y) ∷ [] → Marked rs l (var y)
     visit : {l m : List ℕ} {f : ℕ} {ts : Terms} → l ≡ f ∷ m → MarkedAll rs m ts → Marked rs l (node f ts)
-    leave : {l : List ℕ} {f : ℕ} {ts : Terms} → l ≡ (f + 192) ∷ terms-bytes ts → step rs (node f ts) ≡ none → Marked rs l (node f ts)
+    leave : {l : List ℕ} {x : Term} → l ≡ cells x → step rs x ≡ none → Marked rs l x
 
   pub data MarkedAll (rs : List Rule) : List ℕ → Terms → Type 0 where
     no-more : {l : List ℕ} → l ≡ [] → MarkedAll rs l nil
@@ -21,3 +22,7 @@ mutual
 abbrev pub ArgumentsNormal : List Rule → Term → Type 0
 ArgumentsNormal rs (var y) = Unit {0}
 ArgumentsNormal rs (node f ts) = step-in rs ts ≡ none
+
+-- the cells of a term whose arguments, and no more, are known to be normal
+unfoldable pub open-cells : Term → List ℕ
+open-cells x = root-byte x ∷ cells-below x

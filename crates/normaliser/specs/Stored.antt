@@ -3,19 +3,20 @@ use mathlib.Core.Path.{_≡_}
 use mathlib.Core.Bool.{Bool, true, false}
 use mathlib.Core.List.{List, [], _∷_, _++_}
 use mathlib.Core.Option.{Option, none, some}
-use Prim.Native.Nat.{ℕ, zero, suc, _+_, _*_, _<_, _≤_}
+use Prim.Native.Nat.{ℕ, zero, suc, _+_, _*_, _/_, _<_, _≤_}
 use lib.Dec.{ltb}
 use lib.ListN.{length, getD, drop, take}
 use Rattle.terms.specs.Base.{is-some}
-use Rattle.terms.specs.Term.{Term, Terms, node, Pair, term-bytes, terms-bytes, size, sizes}
-use Rattle.terms.specs.Flat.{Wf, Wfs, Starts}
+use Rattle.terms.specs.Term.{Term, Terms, Pair, term-bytes, size, sizes}
+use Rattle.terms.specs.Flat.{Wf, Wfs}
 use Rattle.terms.specs.Scan.{count}
 use Rattle.unify.specs.Unify.{Binding}
 use Rattle.rewriting.specs.Overlap.{Rule, sides-of}
 use Rattle.rewriting.specs.Rewrite.{matching, instantiate, root-step, step, normalise, Paid, done, stop, End, complete, neither-above, spent, too-large, rules-full, log-full}
+use Rattle.matching.specs.Cells.{cells, cells-all, Stands}
 use Rattle.matching.specs.Held.{Rep, Within, Answers}
 use Rattle.normaliser.specs.Inside.{normalise-in, normalise-all}
-use Rattle.normaliser.specs.Marks.{Marked, MarkedAll, ArgumentsNormal}
+use Rattle.normaliser.specs.Marks.{Marked, MarkedAll, ArgumentsNormal, open-cells}
 use Rattle.normaliser.specs.declared.Out.{Out}
 use Rattle.normaliser.specs.declared.Normal.{Normal}
 
@@ -44,11 +45,15 @@ unfoldable pub Stored : List ℕ → List ℕ → List ℕ → ℕ → List Pair
 Stored tab rules lens k [] = Unit {0}
 Stored tab rules lens k (p ∷ ps) = RuleAt tab rules lens k p × Stored tab rules lens (suc k) ps
 
+-- the bytes of rule k's right side
+unfoldable pub right-side : List ℕ → List ℕ → ℕ → List ℕ
+right-side rules lens k = take (getD lens (2 * k + 1) 0) (drop (240 * k + 120) rules)
+
 -- `fits`
-pub record Fitted (tab rules lens T : List ℕ) (k : ℕ) (B : List ℕ) (r : Bool) (B′ : List ℕ) : Type 0 where
+pub record Fitted (rules lens T : List ℕ) (k : ℕ) (B : List ℕ) (r : Bool) (B′ : List ℕ) : Type 0 where
   pub same : length B′ ≡ length B
-  pub within : r ≡ true → Within tab T B′
-  pub answer : (p : Pair) → RuleAt tab rules lens k p → (x : Term) → Starts tab T x → Answers tab T r B′ (matching (p .left) x [])
+  pub within : r ≡ true → Within T B′
+  pub answer : (tab : List ℕ) (p : Pair) → RuleAt tab rules lens k p → (x : Term) → Stands tab T (size x) 0 x → Answers tab T (size x) r B′ (matching (p .left) x [])
 
 -- `find`
 pub record Choice (tab rules lens T B : List ℕ) (k : ℕ) (x : Term) (o : Option Term) : Type 0 where
@@ -56,39 +61,43 @@ pub record Choice (tab rules lens T B : List ℕ) (k : ℕ) (x : Term) (o : Opti
   pub bindings : List Binding
   pub matched : matching (rule .left) x [] ≡ some bindings
   pub place : RuleAt tab rules lens k rule
-  pub held : Rep tab T B bindings
+  pub held : Rep tab T (size x) B bindings
   pub result : o ≡ some (instantiate bindings (rule .right))
 
-pub record Found (tab rules lens T : List ℕ) (number k : ℕ) (B B′ : List ℕ) : Type 0 where
+pub record Found (rules lens T : List ℕ) (number k : ℕ) (B B′ : List ℕ) : Type 0 where
   pub same : length B′ ≡ length B
   pub bounded : k ≤ number
-  pub within : k < number → Within tab T B′
-  pub lowest : k < number → (rs : List Rule) → Stored tab rules lens 0 (sides-of rs) → number ≡ length rs → (x : Term) → Starts tab T x → Choice tab rules lens T B′ k x (root-step rs x)
-  pub missing : k ≡ number → (rs : List Rule) → Stored tab rules lens 0 (sides-of rs) → number ≡ length rs → (x : Term) → Starts tab T x → root-step rs x ≡ none
+  pub within : k < number → Within T B′
+  pub lowest : k < number → (tab : List ℕ) (rs : List Rule) → Stored tab rules lens 0 (sides-of rs) → number ≡ length rs → (x : Term) → Stands tab T (size x) 0 x → Choice tab rules lens T B′ k x (root-step rs x)
+  pub missing : k ≡ number → (tab : List ℕ) (rs : List Rule) → Stored tab rules lens 0 (sides-of rs) → number ≡ length rs → (x : Term) → Stands tab T (size x) 0 x → root-step rs x ≡ none
 
--- `rewrite`; the term u, perhaps with marks, and then `post` are the first `len` bytes
+-- the term u, of which some subterms are known to be normal, and then `post` are the first `len` cells
 pub record Holds (tab : List ℕ) (rs : List Rule) (t : List ℕ) (len : ℕ) (u : Term) (post : List ℕ) : Type 0 where
   pub wf : Wf 32 tab u
   pub marks : List ℕ
   pub marked : Marked rs marks u
-  pub bytes : take len t ≡ marks ++ post
+  pub text : take len t ≡ marks ++ post
 
 pub record HoldsAll (tab : List ℕ) (rs : List Rule) (t : List ℕ) (len : ℕ) (us : Terms) (post : List ℕ) : Type 0 where
   pub wfs : Wfs 32 tab us
   pub marks : List ℕ
   pub marked : MarkedAll rs marks us
-  pub bytes : take len t ≡ marks ++ post
+  pub text : take len t ≡ marks ++ post
 
+abbrev pub out : ℕ → ℕ → ℕ → ℕ → Out
+out verdict units len end = record { verdict = verdict; units = units; len = len; end = end }
+
+-- `rewrite`
 abbrev pub Tested : List ℕ → List Rule → List ℕ → List ℕ → ℕ → Out → Term → Bool → Type 0
 Tested tab rs t post n o u true = (o .verdict ≡ 2) × (o .units ≡ n)
 Tested tab rs t post n o u false = (o .verdict ≡ 3) × (o .units ≡ n) × Holds tab rs t (o .len) u post
 
-abbrev pub Wrote : List ℕ → List Rule → List ℕ → List ℕ → ℕ → ℕ → Out → Option Term → Type 0
-Wrote tab rs t post most units o none = o .verdict ≡ 0
-Wrote tab rs t post most zero o (some u) = (o .verdict ≡ 1) × (o .units ≡ 0)
-Wrote tab rs t post most (suc n) o (some u) = Tested tab rs t post n o u (ltb most (size u + length post))
+abbrev pub Wrote : List ℕ → List Rule → List ℕ → Term → List ℕ → ℕ → ℕ → Out → Option Term → Type 0
+Wrote tab rs t x post most units o none = (o .verdict ≡ 0) × (o .units ≡ units) × (take (o .len) t ≡ cells x ++ post)
+Wrote tab rs t x post most zero o (some u) = (o .verdict ≡ 1) × (o .units ≡ 0)
+Wrote tab rs t x post most (suc n) o (some u) = Tested tab rs t post n o u (ltb most (size u + length post))
 
-pub record Rewritten (tab rules lens : List ℕ) (number : ℕ) (t t′ : List ℕ) (len end most units : ℕ) (o : Out) : Type 0 where
+pub record Rewritten (rules lens : List ℕ) (number : ℕ) (t t′ : List ℕ) (len end most units : ℕ) (o : Out) : Type 0 where
   pub same : length t′ ≡ length t
   pub known : o .verdict ≤ 3
   pub ends : o .end ≤ o .len
@@ -96,16 +105,17 @@ pub record Rewritten (tab rules lens : List ℕ) (number : ℕ) (t t′ : List �
   pub left-over : o .units ≤ units
   pub paid : o .verdict ≡ 3 → o .units + 1 ≡ units
   pub place : (o .verdict ≡ 3 → ⊥) → (o .len ≡ len) × (o .end ≡ end)
-  pub kept : o .verdict ≡ 0 → (o .units ≡ units) × (t′ ≡ t)
-  pub answer : (rs : List Rule) → Stored tab rules lens 0 (sides-of rs) → number ≡ length rs → (x : Term) (post : List ℕ) → Wf 32 tab x → take len t ≡ term-bytes x ++ post → end ≡ size x → ArgumentsNormal rs x →
-      Wrote tab rs t′ post most units o (root-step rs x)
+  pub answer : (tab : List ℕ) (rs : List Rule) → Stored tab rules lens 0 (sides-of rs) → number ≡ length rs → (x : Term) (post : List ℕ) → Wf 32 tab x → take len t ≡ open-cells x ++ post → end ≡ size x → ArgumentsNormal rs x →
+      Wrote tab rs t′ x post most units o (root-step rs x)
 
--- `unmark`
-pub record Unmarked (tab t t′ : List ℕ) (len e : ℕ) : Type 0 where
-  pub same : length t′ ≡ length t
-  pub first : 1 ≤ e
-  pub within : e ≤ len
-  pub answer : (f : ℕ) (us : Terms) (post : List ℕ) → Wf 32 tab (node f us) → take len t ≡ ((f + 192) ∷ terms-bytes us) ++ post → (e ≡ size (node f us)) × (take len t′ ≡ term-bytes (node f us) ++ post)
+-- `leave`
+pub record Left (c len units : ℕ) (o : Out) : Type 0 where
+  pub known : o .verdict ≤ 4
+  pub whole : o .len ≡ len
+  pub left-over : o .units ≡ units
+  pub ends : o .end ≤ o .len
+  pub first : o .verdict ≡ 0 → 1 ≤ o .end
+  pub answer : c / 256 ≤ len → (o .verdict ≡ 0) × (o .end ≡ c / 256)
 
 -- `settle` and `settle_all`
 abbrev pub code : End → ℕ
@@ -117,11 +127,11 @@ code rules-full = 9
 code log-full = 9
 
 abbrev pub EndsWith : List ℕ → List ℕ → List ℕ → Out → Paid Term → Type 0
-EndsWith tab t post o (done y left) = (o .verdict ≡ 0) × (o .units ≡ left) × (o .end ≡ size y) × (take (o .len) t ≡ term-bytes y ++ post) × Wf 32 tab y
+EndsWith tab t post o (done y left) = (o .verdict ≡ 0) × (o .units ≡ left) × (o .end ≡ size y) × (take (o .len) t ≡ cells y ++ post) × Wf 32 tab y
 EndsWith tab t post o (stop e left) = (o .verdict ≡ code e) × (o .units ≡ left)
 
 abbrev pub EndsAll : List ℕ → List ℕ → List ℕ → ℕ → Out → Paid Terms → Type 0
-EndsAll tab t post n o (done ys left) = (o .verdict ≡ 0) × (o .units ≡ left) × (o .end ≡ sizes ys) × (take (o .len) t ≡ terms-bytes ys ++ post) × Wfs 32 tab ys × (count ys ≡ n)
+EndsAll tab t post n o (done ys left) = (o .verdict ≡ 0) × (o .units ≡ left) × (o .end ≡ sizes ys) × (take (o .len) t ≡ cells-all ys ++ post) × Wfs 32 tab ys × (count ys ≡ n)
 EndsAll tab t post n o (stop e left) = (o .verdict ≡ code e) × (o .units ≡ left)
 
 pub record Bounds (t t′ : List ℕ) (len most units : ℕ) (o : Out) : Type 0 where

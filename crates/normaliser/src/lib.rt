@@ -1,41 +1,39 @@
-// Rules in slots, and normalising terms as bytes by them.
-ghost use Prim.Native.Nat.{ℕ, _+_, _<_, _≤_};
-ghost use lib.ListN.{length, getD};
-ghost use Rattle.normaliser.specs.Stored.{Layout, Fitted, Found, Rewritten, Unmarked, Settled, SettledAll, Normalised, Reducible};
+// Rules in slots, and normalising terms by them. Inside, a term stands in cells: a subterm that is known to be normal has its size in its cell.
+ghost use mathlib.Core.Path.{_≡_};
+ghost use mathlib.Core.List.{[], _++_};
+ghost use Prim.Native.Nat.{ℕ, _+_, _*_, _<_, _≤_};
+ghost use lib.ListN.{length, drop, take};
+ghost use Rattle.matching.specs.Cells.{node-bytes};
+ghost use Rattle.matching.specs.Held.{Within};
+ghost use Rattle.matching.specs.Pieces.{Put, replaced};
+ghost use Rattle.normaliser.specs.Stored.{Layout, Fitted, Found, right-side, Rewritten, out, Left, Settled, SettledAll, Normalised, Reducible};
 
 // Whether rule k matches at the start of t.
-fn fits(rules: &[u8], lens: &[u8], k: usize, t: &[u8], table: &[u8], binds: &mut [usize]) -> bool
-    requires { ⌜ Layout (now table) (now rules) (now lens) (k + 1) ⌝ }
-    requires { ⌜ (0 < length (now t)) × (length (now t) ≤ 65536) × (32 ≤ length (now binds)) ⌝ }
-    ensures { λ r. ⌜ Fitted (now (table .entry)) (now (rules .entry)) (now (lens .entry)) (now (t .entry)) k (now (binds .entry)) r (now (binds .exit)) ⌝ }
+fn fits(rules: &[u8], lens: &[u8], k: usize, t: &[u16], binds: &mut [u8]) -> bool
+    requires { ⌜ Layout [] (now rules) (now lens) (k + 1) ⌝ }
+    requires { ⌜ (0 < length (now t)) × (length (now t) ≤ 120) × (16 ≤ length (now binds)) ⌝ }
+    ensures { λ r. ⌜ Fitted (now (rules .entry)) (now (lens .entry)) (now (t .entry)) k (now (binds .entry)) r (now (binds .exit)) ⌝ }
 {
     let a = 240 * k;
     let b = rules[a];
     if b < 128 {
-        if t[0] != b {
+        if matching::byte_of(t[0]) != b {
             return false;
         }
     }
     let n = terms::wide(lens[2 * k]);
-    matching::matches(&rules[a..a + n], t, table, binds)
+    matching::matches(&rules[a..a + n], t, binds)
 }
 
 // The lowest rule that matches at the start of t, or count.
-fn find(
-    rules: &[u8],
-    lens: &[u8],
-    count: usize,
-    t: &[u8],
-    table: &[u8],
-    binds: &mut [usize],
-) -> usize
-    requires { ⌜ Layout (now table) (now rules) (now lens) count ⌝ }
-    requires { ⌜ (0 < length (now t)) × (length (now t) ≤ 65536) × (32 ≤ length (now binds)) ⌝ }
-    ensures { λ r. ⌜ Found (now (table .entry)) (now (rules .entry)) (now (lens .entry)) (now (t .entry)) count r (now (binds .entry)) (now (binds .exit)) ⌝ }
+fn find(rules: &[u8], lens: &[u8], count: usize, t: &[u16], binds: &mut [u8]) -> usize
+    requires { ⌜ Layout [] (now rules) (now lens) count ⌝ }
+    requires { ⌜ (0 < length (now t)) × (length (now t) ≤ 120) × (16 ≤ length (now binds)) ⌝ }
+    ensures { λ r. ⌜ Found (now (rules .entry)) (now (lens .entry)) (now (t .entry)) count r (now (binds .entry)) (now (binds .exit)) ⌝ }
 {
     let mut k = 0;
     while k < count {
-        if fits(rules, lens, k, t, table, binds) {
+        if fits(rules, lens, k, t, binds) {
             return k;
         }
         k += 1;
@@ -51,73 +49,84 @@ pub struct Out {
     pub end: usize,
 }
 
-// One step at the root, if a rule matches there.
-fn rewrite(
-    t: &mut [u8],
+fn ended(verdict: u8, units: u32, len: usize, end: usize) -> Out
+    ensures { λ r. ⌜ r ≡ out verdict units len end ⌝ }
+{
+    Out {
+        verdict: verdict,
+        units: units,
+        len: len,
+        end: end,
+    }
+}
+
+// The redex at the start of t is replaced by the instance of rule k's right side: the length, or most + 1.
+fn contract(
+    t: &mut [u16],
     len: usize,
     end: usize,
     most: usize,
-    table: &[u8],
+    rules: &[u8],
+    lens: &[u8],
+    k: usize,
+    binds: &[u8],
+) -> usize
+    requires { ⌜ Layout [] (now rules) (now lens) (k + 1) ⌝ }
+    requires { ⌜ (end ≤ len) × (len ≤ most) × (most ≤ length (now t)) × (most ≤ 120) ⌝ }
+    requires { ⌜ (16 ≤ length (now binds)) × Within (take len (now t)) (now binds) ⌝ }
+    ensures { λ r. ⌜ Put (now (t .entry)) (now (t .exit)) 0 most r (replaced (take len (now (t .entry))) (now (binds .entry)) (right-side (now (rules .entry)) (now (lens .entry)) k) end) ⌝ }
+{
+    let a = 240 * k + 120;
+    let m = terms::wide(lens[2 * k + 1]);
+    matching::replace(t, len, end, most, &rules[a..a + m], binds)
+}
+
+// The term at the start of t, whose arguments are normal, ends at `end`: its root's cell has its size, and one step is made there if a rule matches.
+fn rewrite(
+    t: &mut [u16],
+    len: usize,
+    end: usize,
+    most: usize,
     rules: &[u8],
     lens: &[u8],
     count: usize,
     units: u32,
 ) -> Out
-    requires { ⌜ Layout (now table) (now rules) (now lens) count ⌝ }
+    requires { ⌜ Layout [] (now rules) (now lens) count ⌝ }
     requires { ⌜ (0 < end) × (end ≤ len) × (len ≤ most) × (most ≤ length (now t)) × (most ≤ 120) ⌝ }
-    ensures { λ r. ⌜ Rewritten (now (table .entry)) (now (rules .entry)) (now (lens .entry)) count (now (t .entry)) (now (t .exit)) len end most units r ⌝ }
+    ensures { λ r. ⌜ Rewritten (now (rules .entry)) (now (lens .entry)) count (now (t .entry)) (now (t .exit)) len end most units r ⌝ }
 {
-    let mut binds = [0usize; 32];
-    let k = find(rules, lens, count, &t[0..len], table, &mut binds);
+    t[0] = matching::sized(t[0], end);
+    let mut binds = [0u8; 16];
+    let k = find(rules, lens, count, &t[0..len], &mut binds);
     if k == count {
-        return Out {
-            verdict: 0,
-            units: units,
-            len: len,
-            end: end,
-        };
+        return ended(0, units, len, end);
     }
     if units == 0 {
-        return Out {
-            verdict: 1,
-            units: 0,
-            len: len,
-            end: end,
-        };
+        return ended(1, 0, len, end);
     }
-    let a = 240 * k + 120;
-    let m = terms::wide(lens[2 * k + 1]);
-    let right = &rules[a..a + m];
-    let first = rules[240 * k];
-    let w = matching::replace(t, len, end, most, table, right, first, &binds);
+    let w = contract(t, len, end, most, rules, lens, k, &binds);
     if w > most {
-        return Out {
-            verdict: 2,
-            units: units - 1,
-            len: len,
-            end: end,
-        };
+        return ended(2, units - 1, len, end);
     }
-    Out {
-        verdict: 3,
-        units: units - 1,
-        len: w,
-        end: 0,
-    }
+    ended(3, units - 1, w, 0)
 }
 
-// The root's mark is taken away: where the term ends.
-fn unmark(t: &mut [u8], len: usize, table: &[u8]) -> usize
-    requires { ⌜ (0 < len) × (len ≤ length (now t)) × (len ≤ 65536) × (192 ≤ getD (now t) 0 0) ⌝ }
-    ensures { λ r. ⌜ Unmarked (now (table .entry)) (now (t .entry)) (now (t .exit)) len r ⌝ }
+// The term at the start, whose root has the cell c, is normal. It would be no term where it ends beyond len.
+fn leave(c: u16, len: usize, units: u32) -> Out
+    requires { ⌜ 256 ≤ c ⌝ }
+    ensures { λ r. ⌜ Left c len units r ⌝ }
 {
-    t[0] = t[0] - 192;
-    terms::term_end(&t[0..len], table, 0)
+    let e = matching::size_of(c);
+    if e > len {
+        return ended(4, units, len, 0);
+    }
+    ended(0, units, len, e)
 }
 
-// Normalises the term at the start of t, of which `len` bytes are in use and at most `most` may be. A term with a mark is normal.
+// Normalises the term at the start of t, of which `len` cells are in use and at most `most` may be.
 fn settle(
-    t: &mut [u8],
+    t: &mut [u16],
     len: usize,
     most: usize,
     table: &[u8],
@@ -126,7 +135,7 @@ fn settle(
     count: usize,
     units: u32,
 ) -> Out
-    requires { ⌜ Layout (now table) (now rules) (now lens) count ⌝ }
+    requires { ⌜ Layout [] (now rules) (now lens) count ⌝ }
     requires { ⌜ (len ≤ most) × (most ≤ length (now t)) × (most ≤ 120) ⌝ }
     ensures { λ r. ⌜ Settled (now (table .entry)) (now (rules .entry)) (now (lens .entry)) count (now (t .entry)) (now (t .exit)) len most units r ⌝ }
 {
@@ -134,30 +143,19 @@ fn settle(
     let mut u = units;
     loop {
         if l == 0 {
-            return Out {
-                verdict: 4,
-                units: u,
-                len: 0,
-                end: 0,
-            };
+            return ended(4, u, 0, 0);
         }
-        if t[0] >= 192 {
-            return Out {
-                verdict: 0,
-                units: u,
-                len: l,
-                end: unmark(t, l, table),
-            };
+        let c = t[0];
+        if c >= 256 {
+            return leave(c, l, u);
         }
-        let n = terms::owed_by(table, t[0]);
+        let n = terms::owed_by(table, matching::byte_of(c));
         let m = most - 1;
         let r = settle_all(&mut t[1..], n, l - 1, m, table, rules, lens, count, u);
         if r.verdict != 0 {
             return r;
         }
-        let k = r.len + 1;
-        let e = r.end + 1;
-        let s = rewrite(t, k, e, most, table, rules, lens, count, r.units);
+        let s = rewrite(t, r.len + 1, r.end + 1, most, rules, lens, count, r.units);
         if s.verdict != 3 {
             return s;
         }
@@ -168,7 +166,7 @@ fn settle(
 
 // Normalises the n terms at the start of t.
 fn settle_all(
-    t: &mut [u8],
+    t: &mut [u16],
     n: usize,
     len: usize,
     most: usize,
@@ -178,58 +176,65 @@ fn settle_all(
     count: usize,
     units: u32,
 ) -> Out
-    requires { ⌜ Layout (now table) (now rules) (now lens) count ⌝ }
+    requires { ⌜ Layout [] (now rules) (now lens) count ⌝ }
     requires { ⌜ (len ≤ most) × (most ≤ length (now t)) × (most ≤ 120) ⌝ }
     ensures { λ r. ⌜ SettledAll (now (table .entry)) (now (rules .entry)) (now (lens .entry)) count (now (t .entry)) (now (t .exit)) n len most units r ⌝ }
 {
     if n == 0 {
-        return Out {
-            verdict: 0,
-            units: units,
-            len: len,
-            end: 0,
-        };
+        return ended(0, units, len, 0);
     }
     let r = settle(t, len, most, table, rules, lens, count, units);
     if r.verdict != 0 {
         return r;
     }
     let e = r.end;
-    let s = settle_all(
-        &mut t[e..],
-        n - 1,
-        r.len - e,
-        most - e,
-        table,
-        rules,
-        lens,
-        count,
-        r.units,
-    );
-    Out {
-        verdict: s.verdict,
-        units: s.units,
-        len: s.len + e,
-        end: s.end + e,
+    let l = r.len - e;
+    let m = most - e;
+    let u = r.units;
+    let s = settle_all(&mut t[e..], n - 1, l, m, table, rules, lens, count, u);
+    ended(s.verdict, s.units, s.len + e, s.end + e)
+}
+
+fn cell(b: u8) -> u16
+    ensures { λ r. ⌜ r ≡ b ⌝ }
+{
+    b as u16
+}
+
+// The bytes of t as cells: nothing is known to be normal.
+fn load(t: &[u8], cells: &mut [u16])
+    requires { ⌜ length (now t) ≤ length (now cells) ⌝ }
+    ensures { λ _. ⌜ now (cells .exit) ≡ now (t .entry) ++ drop (length (now (t .entry))) (now (cells .entry)) ⌝ }
+{
+    let mut i = 0;
+    while i < t.len() {
+        cells[i] = cell(t[i]);
+        i += 1;
     }
 }
 
-// Whether some rule matches some node of the term that t holds.
-pub fn reducible(t: &[u8], table: &[u8], rules: &[u8], lens: &[u8], count: usize) -> bool
-    requires { ⌜ Layout (now table) (now rules) (now lens) count ⌝ }
-    requires { ⌜ length (now t) ≤ 65536 ⌝ }
-    ensures { λ r. ⌜ Reducible (now (table .entry)) (now (rules .entry)) (now (lens .entry)) count (now (t .entry)) r ⌝ }
+// The nodes' bytes back into t.
+fn unload(cells: &[u16], t: &mut [u8])
+    requires { ⌜ length (now cells) ≤ length (now t) ⌝ }
+    ensures { λ _. ⌜ now (t .exit) ≡ node-bytes (now (cells .entry)) ++ drop (length (now (cells .entry))) (now (t .entry)) ⌝ }
 {
-    let mut binds = [0usize; 32];
     let mut i = 0;
-    while i < t.len() {
-        let k = find(rules, lens, count, &t[i..], table, &mut binds);
-        if k < count {
-            return true;
-        }
+    while i < cells.len() {
+        t[i] = matching::byte_of(cells[i]);
         i += 1;
     }
-    false
+}
+
+// Whether some rule matches some node of the term that t holds: a step would be due.
+pub fn reducible(t: &[u8], table: &[u8], rules: &[u8], lens: &[u8], count: usize) -> bool
+    requires { ⌜ Layout (now table) (now rules) (now lens) count ⌝ }
+    requires { ⌜ length (now t) ≤ 120 ⌝ }
+    ensures { λ r. ⌜ Reducible (now (table .entry)) (now (rules .entry)) (now (lens .entry)) count (now (t .entry)) r ⌝ }
+{
+    let mut cells = [0u16; 120];
+    load(t, &mut cells);
+    let r = settle(&mut cells, t.len(), 120, table, rules, lens, count, 0);
+    r.verdict == 1
 }
 
 // Verdict 0: normal; 1: a unit due and none left; 2: too large; 4: no term. `paid` units were paid, and `len` bytes are in use.
@@ -253,10 +258,14 @@ pub fn normalise(
     requires { ⌜ (len ≤ 120) × (120 ≤ length (now t)) ⌝ }
     ensures { λ r. ⌜ Normalised (now (table .entry)) (now (rules .entry)) (now (lens .entry)) count (now (t .entry)) (now (t .exit)) len units r ⌝ }
 {
-    let r = settle(t, len, 120, table, rules, lens, count, units);
+    let mut cells = [0u16; 120];
+    load(&t[0..len], &mut cells);
+    let r = settle(&mut cells, len, 120, table, rules, lens, count, units);
+    let n = r.len;
+    unload(&cells[0..n], t);
     Normal {
         verdict: r.verdict,
         paid: units - r.units,
-        len: r.len,
+        len: n,
     }
 }

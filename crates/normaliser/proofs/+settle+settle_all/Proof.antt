@@ -1,4 +1,4 @@
--- `settle` and `settle_all` call each other; 1000 times the units and twice the bytes in use (and 1 for `settle_all`) fall. Assumes nothing. The loop
+-- `settle` and `settle_all` call each other; 1000 times the units and twice the cells in use (and 1 for `settle_all`) fall. Assumes nothing. The loop
 -- of `settle`: the term at hand comes to what was asked; the units fall.
 -- Read first: specs/Stored (Settled), proofs/Settling, proofs/Together.
 use borrow.Author.Needs.{needs}
@@ -11,14 +11,17 @@ use Rattle.normaliser.proofs.+settle+settle_all.Lts-settle as settle-lt
 use Rattle.normaliser.proofs.settle_all.Reads as settle-all
 use Rattle.normaliser.proofs.settle_all.Kinds as settle-all-kinds
 use Rattle.normaliser.proofs.+settle+settle_all.Lts-settle_all as settle-all-lts
+use Rattle.matching.proofs.byte_of.Reads as byte-of-reads
+use Rattle.normaliser.proofs.ended.Reads as ended-reads
+use Rattle.normaliser.proofs.leave.Reads as leave-reads
 use Rattle.normaliser.proofs.rewrite.Reads as rewrite-reads
-use Rattle.normaliser.proofs.unmark.Reads as unmark-reads
 use Rattle.terms.proofs.owed_by.Reads as owed-by-reads
 use Rattle.normaliser.proofs.+settle+settle_all.{statement}
 use Rattle.normaliser.proofs.+settle+settle_all.Tie.{close}
-use mathlib.Core.Path.{_∙_}
+use mathlib.Core.Path.{_∙_, ap}
 use Prim.Native.Nat.{_+_, _*_}
 use native.Mathlib.Omega.{arith}
+use Rattle.terms.specs.Scan.{owes}
 use Rattle.normaliser.proofs.Parts.{part-length}
 use Rattle.normaliser.proofs.Settling.{Turning, turn-start, turn-empty, turn-leave, turn-stop, turn-end, turn-less, turn-on, turn-room}
 use Rattle.normaliser.proofs.Together.{all-none, all-stop, all-more}
@@ -54,126 +57,69 @@ settle-μ-loop t₀ len most table rules lens count units l₀ u₀ t l u =
     u
 
 abbrev settle-cs : ℕ → settle-lts.Claims
-settle-cs t = (unmark-reads.Asked, unmark-reads.Learnt, owed-by-reads.Asked, owed-by-reads.Learnt, settle-all-below t, settle-all.Post, rewrite-reads.Asked, rewrite-reads.Learnt)
+settle-cs t = (ended-reads.Asked, ended-reads.Learnt, leave-reads.Asked, leave-reads.Learnt, byte-of-reads.Asked, byte-of-reads.Learnt, owed-by-reads.Asked, owed-by-reads.Learnt, settle-all-below t, settle-all.Post, rewrite-reads.Asked, rewrite-reads.Learnt)
 
 abbrev settle-all-cs : ℕ → settle-all-lts.Claims
-settle-all-cs t = (settle-below t, settle.Post, settle-all-below t, settle-all.Post)
+settle-all-cs t = (ended-reads.Asked, ended-reads.Learnt, settle-below t, settle.Post, settle-all-below t, settle-all.Post)
 
 settle-loop-holds : (t : ℕ) → settle-lts.Need-loop-holds (settle-cs t) (settle-at t) settle.Post settle-Inv-loop settle-μ-loop
 settle-loop-holds t c =
     turn-start _ _ _ _ _ _ _ _ (search needs)
 
-settle-same-length : (t : ℕ) → settle-lts.Need-same-length (settle-cs t) (settle-at t) settle.Post settle-Inv-loop settle-μ-loop
-settle-same-length t c = search needs
-
 settle-returns : (t : ℕ) → settle-lts.Need-returns (settle-cs t) (settle-at t) settle.Post settle-Inv-loop settle-μ-loop
 settle-returns t c =
-    turn-empty _ _ _ _ _ _ _ _ _ _ _ (c .before .loop .inv) (c .if1 .taken)
-
-settle-slice-read-if2 : (t : ℕ) → settle-lts.Need-slice-read-if2 (settle-cs t) (settle-at t) settle.Post settle-Inv-loop settle-μ-loop
-settle-slice-read-if2 t c = search needs
-
-settle-unmark-requires : (t : ℕ) → settle-lts.Need-unmark-requires (settle-cs t) (settle-at t) settle.Post settle-Inv-loop settle-μ-loop
-settle-unmark-requires t c κs =
-    let i = c .before .before .before .before .loop .inv in let s = i .same in let m = i .small in let p = c .before .before .before .before .before .before .before .before .before .pre in let n = c .before .before .before .if1 .left in (omega arith, omega arith, omega arith, c .before .if2 .taken)
-
-settle-same-length-2 : (t : ℕ) → settle-lts.Need-same-length-2 (settle-cs t) (settle-at t) settle.Post settle-Inv-loop settle-μ-loop
-settle-same-length-2 t c =
-    c .before .before .unmark .ensures .same ∙ c .before .before .before .before .before .before .before .loop .inv .same
+    turn-empty _ _ _ _ _ _ _ _ _ _ _ (c .before .before .loop .inv) (c .before .if1 .taken) _ (c .ended .ensures)
 
 settle-returns-2 : (t : ℕ) → settle-lts.Need-returns-2 (settle-cs t) (settle-at t) settle.Post settle-Inv-loop settle-μ-loop
 settle-returns-2 t c =
-    turn-leave _ _ _ _ _ _ _ _ _ _ _ (c .before .before .before .before .before .before .before .loop .inv) (c .before .before .before .before .before .before .if1 .left) (c .before .before .before .before .if2 .taken) _ _ (c .before .before .unmark .ensures)
-
-settle-slice-read-owed-by : (t : ℕ) → settle-lts.Need-slice-read-owed-by (settle-cs t) (settle-at t) settle.Post settle-Inv-loop settle-μ-loop
-settle-slice-read-owed-by t c = search needs
-
-settle-owed-by-requires : (t : ℕ) → settle-lts.Need-owed-by-requires (settle-cs t) (settle-at t) settle.Post settle-Inv-loop settle-μ-loop
-settle-owed-by-requires t c κs = search needs
-
-settle-sub-m : (t : ℕ) → settle-lts.Need-sub-m (settle-cs t) (settle-at t) settle.Post settle-Inv-loop settle-μ-loop
-settle-sub-m t c = search needs
-
-settle-sub-settle-all : (t : ℕ) → settle-lts.Need-sub-settle-all (settle-cs t) (settle-at t) settle.Post settle-Inv-loop settle-μ-loop
-settle-sub-settle-all t c = search needs
-
-settle-part-settle-all-start : (t : ℕ) → settle-lts.Need-part-settle-all-start (settle-cs t) (settle-at t) settle.Post settle-Inv-loop settle-μ-loop
-settle-part-settle-all-start t c = search needs
-
-settle-part-settle-all-end : (t : ℕ) → settle-lts.Need-part-settle-all-end (settle-cs t) (settle-at t) settle.Post settle-Inv-loop settle-μ-loop
-settle-part-settle-all-end t c = search needs
-
-settle-sub-settle-all-2 : (t : ℕ) → settle-lts.Need-sub-settle-all-2 (settle-cs t) (settle-at t) settle.Post settle-Inv-loop settle-μ-loop
-settle-sub-settle-all-2 t c = search needs
+    turn-leave _ _ _ _ _ _ _ _ _ _ _ (c .before .before .before .before .loop .inv) (c .before .before .before .if1 .left) (c .before .if2 .taken) _ (c .leave .ensures)
 
 settle-settle-all-requires : (t : ℕ) → settle-lts.Need-settle-all-requires (settle-cs t) (settle-at t) settle.Post settle-Inv-loop settle-μ-loop
 settle-settle-all-requires t c κs =
-    let i = c .before .before .before .before .before .before .loop .inv in let s = i .same in let m = i .small in let k = i .cost in let p = c .before .before .before .before .before .before .before .before .before .before .before .pre in let n = c .before .before .before .before .before .if1 .left in let e = part-length 1 (c .before .before .before .before .before .before .loop .t) in (omega arith, (p .1 .0, (omega arith, omega arith, omega arith)))
-
-settle-same-length-3 : (t : ℕ) → settle-lts.Need-same-length-3 (settle-cs t) (settle-at t) settle.Post settle-Inv-loop settle-μ-loop
-settle-same-length-3 t c = search needs
+    let i = c .before .before .before .before .before .before .loop .inv in
+    let s = i .same in
+    let m = i .small in
+    let k = i .cost in
+    let p = c .before .before .before .before .before .before .before .before .before .before .before .pre in
+    let n = c .before .before .before .before .before .if1 .left in
+    let e = part-length 1 (c .before .before .before .before .before .before .loop .t) in
+    (omega arith, (p .1 .0, (omega arith, omega arith, omega arith)))
 
 settle-returns-3 : (t : ℕ) → settle-lts.Need-returns-3 (settle-cs t) (settle-at t) settle.Post settle-Inv-loop settle-μ-loop
 settle-returns-3 t c =
-    turn-stop _ _ _ _ _ _ _ _ _ _ _ (c .before .before .before .before .before .before .before .before .before .before .before .loop .inv) (c .before .before .before .before .before .before .before .before .before .before .if1 .left) (c .before .before .before .before .before .before .before .before .if2 .left) (search needs) _ (c .before .before .before .before .before .before .owed-by .ensures .0) _ _ (c .before .before .before .before .settle-all .ensures) (c .if3 .taken)
-
-settle-add-k : (t : ℕ) → settle-lts.Need-add-k (settle-cs t) (settle-at t) settle.Post settle-Inv-loop settle-μ-loop
-settle-add-k t c = search needs
-
-settle-add-e : (t : ℕ) → settle-lts.Need-add-e (settle-cs t) (settle-at t) settle.Post settle-Inv-loop settle-μ-loop
-settle-add-e t c = search needs
+    turn-stop _ _ _ _ _ _ _ _ _ _ _ (c .before .before .before .before .before .before .before .before .before .before .before .loop .inv) (c .before .before .before .before .before .before .before .before .before .before .if1 .left) (c .before .before .before .before .before .before .before .before .if2 .left) (let p = c .before .before .before .before .before .before .before .before .before .before .before .before .before .before .before .before .pre .1 .1 in let s = c .before .before .before .before .before .before .before .before .before .before .before .loop .inv .same in omega arith) _ (c .before .before .before .before .before .before .owed-by .ensures .0 ∙ ap (owes (c .before .before .before .before .before .before .before .before .before .before .before .before .before .before .before .before .args .table .now)) (c .before .before .before .before .before .before .before .byte-of .ensures)) _ _ (c .before .before .before .before .settle-all .ensures) (c .if3 .taken)
 
 settle-rewrite-requires : (t : ℕ) → settle-lts.Need-rewrite-requires (settle-cs t) (settle-at t) settle.Post settle-Inv-loop settle-μ-loop
 settle-rewrite-requires t c κs =
-    let p = c .before .before .before .before .before .before .before .before .before .before .before .before .before .before .before .before .before .before .before .pre in let i = c .before .before .before .before .before .before .before .before .before .before .before .before .before .before .loop .inv in let s = i .same in let m = turn-room _ _ _ _ _ _ _ _ _ _ _ i (c .before .before .before .before .before .before .before .before .before .before .before .before .before .if1 .left) (c .before .before .before .before .before .before .before .before .before .before .before .if2 .left) (omega arith) _ (c .before .before .before .before .before .before .before .before .before .owed-by .ensures .0) _ _ (c .before .before .before .before .before .before .before .settle-all .ensures) in (p .1 .0, (m .1, m .2, m .3, omega arith, omega arith))
+    let p = c .before .before .before .before .before .before .before .before .before .before .before .before .before .before .before .before .before .before .before .pre in
+    let i = c .before .before .before .before .before .before .before .before .before .before .before .before .before .before .loop .inv in
+    let s = i .same in
+    let m = turn-room _ _ _ _ _ _ _ _ _ _ _ i (c .before .before .before .before .before .before .before .before .before .before .before .before .before .if1 .left) (c .before .before .before .before .before .before .before .before .before .before .before .if2 .left) (omega arith) _ (c .before .before .before .before .before .before .before .before .before .owed-by .ensures .0 ∙ ap (owes (c .before .before .before .before .before .before .before .before .before .before .before .before .before .before .before .before .before .before .before .args .table .now)) (c .before .before .before .before .before .before .before .before .before .before .byte-of .ensures)) _ _ (c .before .before .before .before .before .before .before .settle-all .ensures) in
+    (p .1 .0, (m .1, m .2, m .3, omega arith, omega arith))
 
 settle-same-length-4 : (t : ℕ) → settle-lts.Need-same-length-4 (settle-cs t) (settle-at t) settle.Post settle-Inv-loop settle-μ-loop
 settle-same-length-4 t c =
-    turn-end _ _ _ _ _ _ _ _ _ _ _ (c .before .before .before .before .before .before .before .before .before .before .before .before .before .before .before .before .before .before .before .loop .inv) (c .before .before .before .before .before .before .before .before .before .before .before .before .before .before .before .before .before .before .if1 .left) (c .before .before .before .before .before .before .before .before .before .before .before .before .before .before .before .before .if2 .left) (let p = c .before .before .before .before .before .before .before .before .before .before .before .before .before .before .before .before .before .before .before .before .before .before .before .before .pre .1 .1 in let s = c .before .before .before .before .before .before .before .before .before .before .before .before .before .before .before .before .before .before .before .loop .inv .same in omega arith) _ (c .before .before .before .before .before .before .before .before .before .before .before .before .before .before .owed-by .ensures .0) _ _ (c .before .before .before .before .before .before .before .before .before .before .before .before .settle-all .ensures) (c .before .before .before .before .before .before .before .before .if3 .left) _ _ (c .before .before .before .before .rewrite .ensures) (c .if4 .taken) .bounds .same
+    turn-end _ _ _ _ _ _ _ _ _ _ _ (c .before .before .before .before .before .before .before .before .before .before .before .before .before .before .before .before .before .before .before .loop .inv) (c .before .before .before .before .before .before .before .before .before .before .before .before .before .before .before .before .before .before .if1 .left) (c .before .before .before .before .before .before .before .before .before .before .before .before .before .before .before .before .if2 .left) (let p = c .before .before .before .before .before .before .before .before .before .before .before .before .before .before .before .before .before .before .before .before .before .before .before .before .pre .1 .1 in let s = c .before .before .before .before .before .before .before .before .before .before .before .before .before .before .before .before .before .before .before .loop .inv .same in omega arith) _ (c .before .before .before .before .before .before .before .before .before .before .before .before .before .before .owed-by .ensures .0 ∙ ap (owes (c .before .before .before .before .before .before .before .before .before .before .before .before .before .before .before .before .before .before .before .before .before .before .before .before .args .table .now)) (c .before .before .before .before .before .before .before .before .before .before .before .before .before .before .before .byte-of .ensures)) _ _ (c .before .before .before .before .before .before .before .before .before .before .before .before .settle-all .ensures) (c .before .before .before .before .before .before .before .before .if3 .left) _ _ (c .before .before .before .before .rewrite .ensures) (c .if4 .taken) .bounds .same
 
 settle-returns-4 : (t : ℕ) → settle-lts.Need-returns-4 (settle-cs t) (settle-at t) settle.Post settle-Inv-loop settle-μ-loop
 settle-returns-4 t c =
-    turn-end _ _ _ _ _ _ _ _ _ _ _ (c .before .before .before .before .before .before .before .before .before .before .before .before .before .before .before .before .before .before .before .loop .inv) (c .before .before .before .before .before .before .before .before .before .before .before .before .before .before .before .before .before .before .if1 .left) (c .before .before .before .before .before .before .before .before .before .before .before .before .before .before .before .before .if2 .left) (let p = c .before .before .before .before .before .before .before .before .before .before .before .before .before .before .before .before .before .before .before .before .before .before .before .before .pre .1 .1 in let s = c .before .before .before .before .before .before .before .before .before .before .before .before .before .before .before .before .before .before .before .loop .inv .same in omega arith) _ (c .before .before .before .before .before .before .before .before .before .before .before .before .before .before .owed-by .ensures .0) _ _ (c .before .before .before .before .before .before .before .before .before .before .before .before .settle-all .ensures) (c .before .before .before .before .before .before .before .before .if3 .left) _ _ (c .before .before .before .before .rewrite .ensures) (c .if4 .taken)
+    turn-end _ _ _ _ _ _ _ _ _ _ _ (c .before .before .before .before .before .before .before .before .before .before .before .before .before .before .before .before .before .before .before .loop .inv) (c .before .before .before .before .before .before .before .before .before .before .before .before .before .before .before .before .before .before .if1 .left) (c .before .before .before .before .before .before .before .before .before .before .before .before .before .before .before .before .if2 .left) (let p = c .before .before .before .before .before .before .before .before .before .before .before .before .before .before .before .before .before .before .before .before .before .before .before .before .pre .1 .1 in let s = c .before .before .before .before .before .before .before .before .before .before .before .before .before .before .before .before .before .before .before .loop .inv .same in omega arith) _ (c .before .before .before .before .before .before .before .before .before .before .before .before .before .before .owed-by .ensures .0 ∙ ap (owes (c .before .before .before .before .before .before .before .before .before .before .before .before .before .before .before .before .before .before .before .before .before .before .before .before .args .table .now)) (c .before .before .before .before .before .before .before .before .before .before .before .before .before .before .before .byte-of .ensures)) _ _ (c .before .before .before .before .before .before .before .before .before .before .before .before .settle-all .ensures) (c .before .before .before .before .before .before .before .before .if3 .left) _ _ (c .before .before .before .before .rewrite .ensures) (c .if4 .taken)
 
 settle-loop-less : (t : ℕ) → settle-lts.Need-loop-less (settle-cs t) (settle-at t) settle.Post settle-Inv-loop settle-μ-loop
 settle-loop-less t c =
-    turn-less _ _ _ _ _ _ _ _ _ _ _ (c .before .before .before .before .before .before .before .before .before .before .before .before .before .before .before .before .before .before .before .loop .inv) (c .before .before .before .before .before .before .before .before .before .before .before .before .before .before .before .before .before .before .if1 .left) (c .before .before .before .before .before .before .before .before .before .before .before .before .before .before .before .before .if2 .left) (let p = c .before .before .before .before .before .before .before .before .before .before .before .before .before .before .before .before .before .before .before .before .before .before .before .before .pre .1 .1 in let s = c .before .before .before .before .before .before .before .before .before .before .before .before .before .before .before .before .before .before .before .loop .inv .same in omega arith) _ (c .before .before .before .before .before .before .before .before .before .before .before .before .before .before .owed-by .ensures .0) _ _ (c .before .before .before .before .before .before .before .before .before .before .before .before .settle-all .ensures) (c .before .before .before .before .before .before .before .before .if3 .left) _ _ (c .before .before .before .before .rewrite .ensures) (let p = c .before .before .before .before .before .before .before .before .before .before .before .before .before .before .before .before .before .before .before .before .before .before .before .before .pre .1 .1 in omega arith) (c .if4 .left)
+    turn-less _ _ _ _ _ _ _ _ _ _ _ (c .before .before .before .before .before .before .before .before .before .before .before .before .before .before .before .before .before .before .before .loop .inv) (c .before .before .before .before .before .before .before .before .before .before .before .before .before .before .before .before .before .before .if1 .left) (c .before .before .before .before .before .before .before .before .before .before .before .before .before .before .before .before .if2 .left) (let p = c .before .before .before .before .before .before .before .before .before .before .before .before .before .before .before .before .before .before .before .before .before .before .before .before .pre .1 .1 in let s = c .before .before .before .before .before .before .before .before .before .before .before .before .before .before .before .before .before .before .before .loop .inv .same in omega arith) _ (c .before .before .before .before .before .before .before .before .before .before .before .before .before .before .owed-by .ensures .0 ∙ ap (owes (c .before .before .before .before .before .before .before .before .before .before .before .before .before .before .before .before .before .before .before .before .before .before .before .before .args .table .now)) (c .before .before .before .before .before .before .before .before .before .before .before .before .before .before .before .byte-of .ensures)) _ _ (c .before .before .before .before .before .before .before .before .before .before .before .before .settle-all .ensures) (c .before .before .before .before .before .before .before .before .if3 .left) _ _ (c .before .before .before .before .rewrite .ensures) (let p = c .before .before .before .before .before .before .before .before .before .before .before .before .before .before .before .before .before .before .before .before .before .before .before .before .pre .1 .1 in omega arith) (c .if4 .left)
 
 settle-loop-again : (t : ℕ) → settle-lts.Need-loop-again (settle-cs t) (settle-at t) settle.Post settle-Inv-loop settle-μ-loop
 settle-loop-again t c =
-    turn-on _ _ _ _ _ _ _ _ _ _ _ (c .before .before .before .before .before .before .before .before .before .before .before .before .before .before .before .before .before .before .before .loop .inv) (c .before .before .before .before .before .before .before .before .before .before .before .before .before .before .before .before .before .before .if1 .left) (c .before .before .before .before .before .before .before .before .before .before .before .before .before .before .before .before .if2 .left) (let p = c .before .before .before .before .before .before .before .before .before .before .before .before .before .before .before .before .before .before .before .before .before .before .before .before .pre .1 .1 in let s = c .before .before .before .before .before .before .before .before .before .before .before .before .before .before .before .before .before .before .before .loop .inv .same in omega arith) _ (c .before .before .before .before .before .before .before .before .before .before .before .before .before .before .owed-by .ensures .0) _ _ (c .before .before .before .before .before .before .before .before .before .before .before .before .settle-all .ensures) (c .before .before .before .before .before .before .before .before .if3 .left) _ _ (c .before .before .before .before .rewrite .ensures) (let p = c .before .before .before .before .before .before .before .before .before .before .before .before .before .before .before .before .before .before .before .before .before .before .before .before .pre .1 .1 in omega arith) (c .if4 .left)
+    turn-on _ _ _ _ _ _ _ _ _ _ _ (c .before .before .before .before .before .before .before .before .before .before .before .before .before .before .before .before .before .before .before .loop .inv) (c .before .before .before .before .before .before .before .before .before .before .before .before .before .before .before .before .before .before .if1 .left) (c .before .before .before .before .before .before .before .before .before .before .before .before .before .before .before .before .if2 .left) (let p = c .before .before .before .before .before .before .before .before .before .before .before .before .before .before .before .before .before .before .before .before .before .before .before .before .pre .1 .1 in let s = c .before .before .before .before .before .before .before .before .before .before .before .before .before .before .before .before .before .before .before .loop .inv .same in omega arith) _ (c .before .before .before .before .before .before .before .before .before .before .before .before .before .before .owed-by .ensures .0 ∙ ap (owes (c .before .before .before .before .before .before .before .before .before .before .before .before .before .before .before .before .before .before .before .before .before .before .before .before .args .table .now)) (c .before .before .before .before .before .before .before .before .before .before .before .before .before .before .before .byte-of .ensures)) _ _ (c .before .before .before .before .before .before .before .before .before .before .before .before .settle-all .ensures) (c .before .before .before .before .before .before .before .before .if3 .left) _ _ (c .before .before .before .before .rewrite .ensures) (let p = c .before .before .before .before .before .before .before .before .before .before .before .before .before .before .before .before .before .before .before .before .before .before .before .before .pre .1 .1 in omega arith) (c .if4 .left)
 
 settle-all-returns : (t : ℕ) → settle-all-lts.Need-returns (settle-all-cs t) (settle-all-at t) settle-all.Post
 settle-all-returns t c =
-    all-none _ _ _ _ _ _ _ _ _ (c .if1 .taken) (search needs)
-
-settle-all-settle-requires : (t : ℕ) → settle-all-lts.Need-settle-requires (settle-all-cs t) (settle-all-at t) settle-all.Post
-settle-all-settle-requires t c κs = search needs
-
-settle-all-same-length : (t : ℕ) → settle-all-lts.Need-same-length (settle-all-cs t) (settle-all-at t) settle-all.Post
-settle-all-same-length t c = search needs
+    all-none _ _ _ _ _ _ _ _ _ (c .before .if1 .taken) (search needs) _ (c .ended .ensures)
 
 settle-all-returns-2 : (t : ℕ) → settle-all-lts.Need-returns-2 (settle-all-cs t) (settle-all-at t) settle-all.Post
 settle-all-returns-2 t c =
     all-stop _ _ _ _ _ _ _ _ _ (c .before .before .before .before .before .before .if1 .left) _ _ (c .before .before .before .before .settle .ensures) (c .if2 .taken)
-
-settle-all-sub-settle-all : (t : ℕ) → settle-all-lts.Need-sub-settle-all (settle-all-cs t) (settle-all-at t) settle-all.Post
-settle-all-sub-settle-all t c = search needs
-
-settle-all-part-settle-all-start : (t : ℕ) → settle-all-lts.Need-part-settle-all-start (settle-all-cs t) (settle-all-at t) settle-all.Post
-settle-all-part-settle-all-start t c = search needs
-
-settle-all-part-settle-all-end : (t : ℕ) → settle-all-lts.Need-part-settle-all-end (settle-all-cs t) (settle-all-at t) settle-all.Post
-settle-all-part-settle-all-end t c = search needs
-
-settle-all-sub-settle-all-2 : (t : ℕ) → settle-all-lts.Need-sub-settle-all-2 (settle-all-cs t) (settle-all-at t) settle-all.Post
-settle-all-sub-settle-all-2 t c = search needs
-
-settle-all-sub-settle-all-3 : (t : ℕ) → settle-all-lts.Need-sub-settle-all-3 (settle-all-cs t) (settle-all-at t) settle-all.Post
-settle-all-sub-settle-all-3 t c = search needs
-
-settle-all-sub-settle-all-4 : (t : ℕ) → settle-all-lts.Need-sub-settle-all-4 (settle-all-cs t) (settle-all-at t) settle-all.Post
-settle-all-sub-settle-all-4 t c = search needs
 
 settle-all-settle-all-requires : (t : ℕ) → settle-all-lts.Need-settle-all-requires (settle-all-cs t) (settle-all-at t) settle-all.Post
 settle-all-settle-all-requires t c κs =
@@ -189,8 +135,8 @@ settle-all-settle-all-requires t c κs =
     let e = part-length (c .before .before .before .before .before .before .settle .result .end) (c .before .before .before .before .before .before .settle .last .0) in
     (omega arith, (p .1 .0, (omega arith, omega arith, omega arith)))
 
-settle-all-add-t17 : (t : ℕ) → settle-all-lts.Need-add-t17 (settle-all-cs t) (settle-all-at t) settle-all.Post
-settle-all-add-t17 t c =
+settle-all-add-ended : (t : ℕ) → settle-all-lts.Need-add-ended (settle-all-cs t) (settle-all-at t) settle-all.Post
+settle-all-add-ended t c =
     let p = c .before .before .before .before .before .before .before .before .before .before .before .before .before .before .before .before .before .pre .1 .1 in
     let d = c .before .before .before .before .before .before .before .before .before .before .settle .ensures .bounds in
     let y = d .ends in
@@ -200,8 +146,8 @@ settle-all-add-t17 t c =
     let w = b .small in
     search needs
 
-settle-all-add-t22 : (t : ℕ) → settle-all-lts.Need-add-t22 (settle-all-cs t) (settle-all-at t) settle-all.Post
-settle-all-add-t22 t c =
+settle-all-add-ended-2 : (t : ℕ) → settle-all-lts.Need-add-ended-2 (settle-all-cs t) (settle-all-at t) settle-all.Post
+settle-all-add-ended-2 t c =
     let p = c .before .before .before .before .before .before .before .before .before .before .before .before .before .before .before .before .before .before .pre .1 .1 in
     let d = c .before .before .before .before .before .before .before .before .before .before .before .settle .ensures .bounds in
     let y = d .ends in
@@ -211,12 +157,9 @@ settle-all-add-t22 t c =
     let w = b .small in
     search needs
 
-settle-all-same-length-2 : (t : ℕ) → settle-all-lts.Need-same-length-2 (settle-all-cs t) (settle-all-at t) settle-all.Post
-settle-all-same-length-2 t c = search needs
-
 settle-all-returns-3 : (t : ℕ) → settle-all-lts.Need-returns-3 (settle-all-cs t) (settle-all-at t) settle-all.Post
 settle-all-returns-3 t c =
-    all-more _ _ _ _ _ _ _ _ _ (c .before .before .before .before .before .before .before .before .before .before .before .before .before .if1 .left) _ _ (c .before .before .before .before .before .before .before .before .before .before .before .settle .ensures) (c .before .before .before .before .before .before .before .if2 .left) (let p = c .before .before .before .before .before .before .before .before .before .before .before .before .before .before .before .before .before .before .pre .1 .1 in omega arith) _ _ (c .before .before .before .before .settle-all .ensures)
+    all-more _ _ _ _ _ _ _ _ _ (c .before .before .before .before .before .before .before .before .before .before .before .before .before .before .if1 .left) _ _ (c .before .before .before .before .before .before .before .before .before .before .before .before .settle .ensures) (c .before .before .before .before .before .before .before .before .if2 .left) (let p = c .before .before .before .before .before .before .before .before .before .before .before .before .before .before .before .before .before .before .before .pre .1 .1 in omega arith) _ _ (c .before .before .before .before .before .settle-all .ensures) _ (c .ended2 .ensures)
 
 pub +settle+settle-all-spec : {M : Type 1} → statement M
 +settle+settle-all-spec = close μ-settle μ-settle-all (λ t. settle-lts.spec (settle-cs t)
@@ -225,45 +168,49 @@ pub +settle+settle-all-spec : {M : Type 1} → statement M
     settle-Inv-loop
     settle-μ-loop
     (settle-loop-holds t)
-    (settle-same-length t)
+    (λ c κs. search needs)
+    (λ c. search needs)
     (settle-returns t)
-    (settle-slice-read-if2 t)
-    (settle-unmark-requires t)
-    (settle-same-length-2 t)
+    (λ c. search needs)
+    (λ c κs. search needs)
+    (λ c. search needs)
     (settle-returns-2 t)
-    (settle-slice-read-owed-by t)
-    (settle-owed-by-requires t)
-    (settle-sub-m t)
-    (settle-sub-settle-all t)
-    (settle-part-settle-all-start t)
-    (settle-part-settle-all-end t)
-    (settle-sub-settle-all-2 t)
+    (λ c κs. search needs)
+    (λ c κs. search needs)
+    (λ c. search needs)
+    (λ c. search needs)
+    (λ c. search needs)
+    (λ c. search needs)
+    (λ c. search needs)
     (settle-settle-all-requires t)
-    (settle-same-length-3 t)
+    (λ c. search needs)
     (settle-returns-3 t)
-    (settle-add-k t)
-    (settle-add-e t)
+    (λ c. search needs)
+    (λ c. search needs)
     (settle-rewrite-requires t)
     (settle-same-length-4 t)
     (settle-returns-4 t)
     (settle-loop-less t)
     (settle-loop-again t))
     λ t. settle-all-lts.spec
-    (settle-below t, settle.Post, settle-all-below t, settle-all.Post)
+    (settle-all-cs t)
     (settle-all-at t)
     settle-all.Post
+    (λ c κs. search needs)
     (settle-all-returns t)
-    (settle-all-settle-requires t)
-    (settle-all-same-length t)
+    (λ c κs. search needs)
+    (λ c. search needs)
     (settle-all-returns-2 t)
-    (settle-all-sub-settle-all t)
-    (settle-all-part-settle-all-start t)
-    (settle-all-part-settle-all-end t)
-    (settle-all-sub-settle-all-2 t)
-    (settle-all-sub-settle-all-3 t)
-    (settle-all-sub-settle-all-4 t)
+    (λ c. search needs)
+    (λ c. search needs)
+    (λ c. search needs)
+    (λ c. search needs)
+    (λ c. search needs)
+    (λ c. search needs)
+    (λ c. search needs)
     (settle-all-settle-all-requires t)
-    (settle-all-add-t17 t)
-    (settle-all-add-t22 t)
-    (settle-all-same-length-2 t)
+    (settle-all-add-ended t)
+    (settle-all-add-ended-2 t)
+    (λ c κs. search needs)
+    (λ c. search needs)
     (settle-all-returns-3 t)

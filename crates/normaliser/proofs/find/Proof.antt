@@ -1,53 +1,34 @@
--- `find`: the invariant is that the rules from k on decide the step at the root as all rules do; count - k falls. Assumes nothing.
+-- `find`: the invariant is that the rules from k on decide the step as all do; the rules to come fall. Assumes nothing.
 -- Read first: specs/Stored (Found), proofs/Choosing (Searching).
+use Rattle.normaliser.proofs.Choosing.{Searching, search-start, search-end, search-on, search-hit, layout-below}
+use Prim.Native.Nat.{_-_}
 use borrow.Author.Needs.{needs}
 use Rattle.normaliser.proofs.find.Statement.{statement}
 use Rattle.normaliser.proofs.find.Tie as tie
 use Rattle.normaliser.proofs.find.Reads as reads
 use Rattle.normaliser.proofs.find.Lts as lts
 use Rattle.normaliser.proofs.fits.Reads as fits-reads
-use Prim.Native.Nat.{_-_}
-use Rattle.normaliser.proofs.Choosing.{Searching, search-start, search-end, search-on, search-hit, layout-below}
 
 abbrev Inv-loop : tie.InvT-loop
-Inv-loop rules lens count t table binds₀ k₀ binds k =
-    Searching table rules lens t count k binds₀ binds
+Inv-loop rules lens count t binds₀ k₀ binds k = Searching rules lens t count k binds₀ binds
 
 abbrev μ-loop : tie.MeasureT-loop
-μ-loop rules lens count t table binds₀ k₀ binds k =
-    count - k
+μ-loop rules lens count t binds₀ k₀ binds k = count - k
 
 loop-holds : tie.Need-loop-holds Inv-loop μ-loop
-loop-holds c =
-    search-start _ _ _ _ _ _
+loop-holds c = search-start _ _ _ _ _
 
 fits-requires : tie.Need-fits-requires Inv-loop μ-loop
-fits-requires c κs =
-    (layout-below _ _ _ _ _ (c .before .before .before .before .before .before .before .before .pre .0) (c .before .loop-test .taken), let i = c .before .before .loop .inv .same in search needs)
-
-same-length : tie.Need-same-length Inv-loop μ-loop
-same-length c = search needs
+fits-requires c κs = (layout-below _ _ _ _ _ (c .before .before .before .before .before .before .before .pre .0) (c .before .loop-test .taken), let i = c .before .before .loop .inv .same in search needs)
 
 returns : tie.Need-returns Inv-loop μ-loop
-returns c =
-    search-hit _ _ _ _ _ _ _ _ (c .before .before .before .before .before .before .loop .inv) (c .before .before .before .before .before .loop-test .taken) _ _ (c .before .before .before .fits2 .ensures) (c .if1 .taken)
-
-add-k : tie.Need-add-k Inv-loop μ-loop
-add-k c = search needs
-
-loop-less : tie.Need-loop-less Inv-loop μ-loop
-loop-less c = search needs
+returns c = search-hit _ _ _ _ _ _ _ (c .before .before .before .before .before .before .loop .inv) (c .before .before .before .before .before .loop-test .taken) _ _ (c .before .before .before .fits2 .ensures) (c .if1 .taken)
 
 loop-again : tie.Need-loop-again Inv-loop μ-loop
-loop-again c =
-    search-on _ _ _ _ _ _ _ _ (c .before .before .before .before .before .before .loop .inv) (c .before .before .before .before .before .loop-test .taken) _ _ (c .before .before .before .fits2 .ensures) (c .if1 .left)
-
-same-length-2 : tie.Need-same-length-2 Inv-loop μ-loop
-same-length-2 c = search needs
+loop-again c = search-on _ _ _ _ _ _ _ (c .before .before .before .before .before .before .loop .inv) (c .before .before .before .before .before .loop-test .taken) _ _ (c .before .before .before .fits2 .ensures) (c .if1 .left)
 
 returns-2 : tie.Need-returns-2 Inv-loop μ-loop
-returns-2 c =
-    search-end _ _ _ _ _ _ _ _ (c .before .loop .inv) (c .loop-test .left)
+returns-2 c = search-end _ _ _ _ _ _ _ (c .before .loop .inv) (c .loop-test .left)
 
 pub find-spec : {M : Type 1} → statement M
 find-spec =
@@ -57,10 +38,10 @@ find-spec =
     μ-loop
     loop-holds
     fits-requires
-    same-length
+    (λ c. search needs)
     returns
-    add-k
-    loop-less
+    (λ c. search needs)
+    (λ c. search needs)
     loop-again
-    same-length-2
+    (λ c. search needs)
     returns-2)

@@ -1,26 +1,42 @@
--- `normalise`: `settle` with at most 120 bytes, and the units that it took, by `whole`. Assumes nothing.
+-- `normalise`: the bytes are loaded, settled with at most 120 cells, and unloaded; and the units that it took, by `whole`. Assumes nothing.
 -- Read first: specs/Stored (Normalised), proofs/Whole.
+use Rattle.normaliser.proofs.Whole.{whole}
+use Rattle.matching.proofs.Replacing.{take-less-zero}
+use lib.Seq.{length-take-le}
+use lib.ListN.{length}
+use native.Mathlib.Omega.{arith}
+use mathlib.Core.Path.{refl, _∙_, ap}
 use borrow.Author.Needs.{needs}
 use Rattle.normaliser.proofs.normalise.Statement.{statement}
 use Rattle.normaliser.proofs.normalise.Tie as tie
 use Rattle.normaliser.proofs.normalise.Reads as reads
 use Rattle.normaliser.proofs.normalise.Lts as lts
+use Rattle.normaliser.proofs.load.Reads as load-reads
 use Rattle.normaliser.proofs.settle.Reads as settle-reads
-use Rattle.normaliser.proofs.Whole.{paid-within, whole}
-
-settle-requires : tie.Need-settle-requires
-settle-requires c κs = search needs
-
-sub-t11 : tie.Need-sub-t11
-sub-t11 c =
-    let w = paid-within _ _ _ _ _ _ _ _ _ (c .before .before .before .settle .ensures) (search needs) in search needs
-
-same-length : tie.Need-same-length
-same-length c = search needs
+use Rattle.normaliser.proofs.unload.Reads as unload-reads
 
 returns : tie.Need-returns
 returns c =
-    whole _ _ _ _ _ _ _ _ _ (c .before .before .before .settle .ensures) (search needs) (search needs)
+    let a = c .before .before .before .before .before .before .before .before .before .before .before .before .before .before .before .before .before .before .before .args in
+    let p = c .before .before .before .before .before .before .before .before .before .before .before .before .before .before .before .before .before .before .before .pre .1 in
+    let e = take-less-zero (a .len) (a .t .now) in
+    whole _ _ _ _ _ _ _ _ _ _ _ (ap length e ∙ length-take-le (a .len) (a .t .now) (omega arith)) (omega arith) refl (c .before .before .before .before .before .before .before .before .before .before .before .load .ensures) (c .before .before .before .before .before .before .before .before .settle .ensures) _ _ _ e (omega arith) (take-less-zero (c .before .before .before .before .before .before .before .before .settle .result .len) (c .before .before .before .before .before .before .before .before .settle .last .0)) (c .before .before .before .unload .ensures)
 
 pub normalise-spec : {M : Type 1} → statement M
-normalise-spec = tie.close (tie.spec settle-requires sub-t11 same-length returns)
+normalise-spec =
+    tie.close
+    (tie.spec
+    (λ c. search needs)
+    (λ c. search needs)
+    (λ c. search needs)
+    (λ c. search needs)
+    (λ c κs. search needs)
+    (λ c. search needs)
+    (λ c κs. search needs)
+    (λ c. search needs)
+    (λ c. search needs)
+    (λ c. search needs)
+    (λ c κs. search needs)
+    (λ c. search needs)
+    (λ c. search needs)
+    returns)

@@ -1,152 +1,79 @@
 -- `rewrite`: a lemma for each return: no rule (`step-none`), no unit (`step-spent`), too large (`step-large`), rewritten (`step-done`). Assumes
 -- nothing.
 -- Read first: specs/Stored (Rewritten), proofs/OneStep.
+use Rattle.normaliser.proofs.OneStep.{rewritten-as, found-within, step-none, step-spent, step-large, step-done}
+use Rattle.normaliser.proofs.Choosing.{layout-below}
+use Rattle.matching.proofs.Replacing.{take-less-zero}
+use lib.ListN.{set, length-set}
+use native.Mathlib.Omega.{arith}
+use mathlib.Core.Path.{_∙_}
 use borrow.Author.Needs.{needs}
 use Rattle.normaliser.proofs.rewrite.Statement.{statement}
 use Rattle.normaliser.proofs.rewrite.Tie as tie
 use Rattle.normaliser.proofs.rewrite.Reads as reads
 use Rattle.normaliser.proofs.rewrite.Lts as lts
+use Rattle.matching.proofs.sized.Reads as sized-reads
+use Rattle.normaliser.proofs.contract.Reads as contract-reads
+use Rattle.normaliser.proofs.ended.Reads as ended-reads
 use Rattle.normaliser.proofs.find.Reads as find-reads
-use Rattle.matching.proofs.replace.Reads as replace-reads
-use Rattle.terms.proofs.wide.Reads as wide-reads
-use Prim.Native.Nat.{_*_, _+_}
-use native.Mathlib.Omega.{arith}
-use Rattle.matching.proofs.Replacing.{take-less-zero}
-use Rattle.normaliser.proofs.OneStep.{found-within, step-none, step-spent, step-large, step-done}
-
-sub-find : tie.Need-sub-find
-sub-find c = search needs
-
-part-find-start : tie.Need-part-find-start
-part-find-start c = search needs
 
 part-find-end : tie.Need-part-find-end
-part-find-end c = search needs
-
-slice-aggregate-find : tie.Need-slice-aggregate-find
-slice-aggregate-find c = search needs
-
-find-requires : tie.Need-find-requires
-find-requires c κs = search needs
-
-same-length : tie.Need-same-length
-same-length c = search needs
+part-find-end c = let l = length-set (c .before .before .before .before .before .before .args .t .now) 0 (c .before .sized .result) in search needs
 
 returns : tie.Need-returns
-returns c =
-    step-none _ _ _ _ _ _ _ _ _ _ _ _ _ (take-less-zero (c .before .before .before .before .before .before .before .before .before .before .args .len) (c .before .before .before .before .before .before .before .before .before .before .args .t .now)) (c .before .before .find .ensures) (search needs) (search needs) (c .if1 .taken)
-
-same-length-2 : tie.Need-same-length-2
-same-length-2 c = search needs
+returns c = let a = c .before .before .before .before .before .before .before .before .before .before .before .before .args in rewritten-as _ _ _ _ _ _ _ _ _ _ _ (c .ended .ensures) (step-none _ _ _ _ _ _ _ _ _ _ _ _ _ (c .before .before .before .before .before .before .before .sized .ensures) (take-less-zero (a .len) (set (a .t .now) 0 (c .before .before .before .before .before .before .before .sized .result))) (c .before .before .before .find .ensures) (search needs) (search needs) (search needs) (c .before .if1 .taken))
 
 returns-2 : tie.Need-returns-2
-returns-2 c =
-    step-spent _ _ _ _ _ _ _ _ _ _ _ _ _ (take-less-zero (c .before .before .before .before .before .before .before .before .before .before .before .args .len) (c .before .before .before .before .before .before .before .before .before .before .before .args .t .now)) (c .before .before .before .find .ensures) (search needs) (search needs) (c .before .if1 .left) (c .if2 .taken)
+returns-2 c = let a = c .before .before .before .before .before .before .before .before .before .before .before .before .before .args in rewritten-as _ _ _ _ _ _ _ _ _ _ _ (c .ended2 .ensures) (step-spent _ _ _ _ _ _ _ _ _ _ _ _ _ (c .before .before .before .before .before .before .before .before .sized .ensures) (take-less-zero (a .len) (set (a .t .now) 0 (c .before .before .before .before .before .before .before .before .sized .result))) (c .before .before .before .before .find .ensures) (search needs) (search needs) (search needs) (c .before .before .if1 .left) (c .before .if2 .taken))
 
-mul-a : tie.Need-mul-a
-mul-a c = search needs
-
-add-a : tie.Need-add-a
-add-a c = search needs
-
-mul-wide : tie.Need-mul-wide
-mul-wide c = search needs
-
-add-wide : tie.Need-add-wide
-add-wide c = search needs
-
-shared-slice-read-wide : tie.Need-shared-slice-read-wide
-shared-slice-read-wide c = search needs
-
-wide-requires : tie.Need-wide-requires
-wide-requires c κs = search needs
-
-add-right : tie.Need-add-right
-add-right c = search needs
-
-sub-right : tie.Need-sub-right
-sub-right c = search needs
-
-part-right-start : tie.Need-part-right-start
-part-right-start c = search needs
-
-part-right-end : tie.Need-part-right-end
-part-right-end c =
-    let l = c .before .before .before .before .before .before .before .before .before .before .before .before .before .pre .0 in
-    let f = l .few in
-    let o = l .slots in
-    let b = c .before .before .before .before .before .find .ensures .bounded in
-    let n = c .before .before .before .if1 .left in
-    let s = l .short (2 * (c .before .before .before .before .before .find .result) + 1) (omega arith) in
-    let w = c .wide .ensures .0 in
-    search needs
-
-mul-first : tie.Need-mul-first
-mul-first c = search needs
-
-shared-slice-read-first : tie.Need-shared-slice-read-first
-shared-slice-read-first c = search needs
-
-slice-aggregate-replace : tie.Need-slice-aggregate-replace
-slice-aggregate-replace c = search needs
-
-replace-requires : tie.Need-replace-requires
-replace-requires c κs =
-    let a = c .before .before .before .before .before .before .before .before .before .before .before .before .before .before .before .before .before .args in
-    let f = c .before .before .before .before .before .before .before .before .before .find .ensures in
+contract-requires : tie.Need-contract-requires
+contract-requires c κs =
+    let a = c .before .before .before .before .before .before .before .before .before .before .before .before .before .before .args in
+    let p = c .before .before .before .before .before .before .before .before .before .before .before .before .before .before .pre .1 in
+    let f = c .before .before .before .before .before .find .ensures in
     let s = f .same in
-    (search needs, (search needs, found-within _ _ _ (a .t .now) _ (a .len) (a .end) (a .most) 0 _ _ _ _ (take-less-zero (c .before .before .before .before .before .before .before .before .before .before .before .before .before .before .before .before .before .args .len) (c .before .before .before .before .before .before .before .before .before .before .before .before .before .before .before .before .before .args .t .now)) f (let p = c .before .before .before .before .before .before .before .before .before .before .before .before .before .before .before .before .before .pre .1 in omega arith) (let p = c .before .before .before .before .before .before .before .before .before .before .before .before .before .before .before .before .before .pre .1 in omega arith) (c .before .before .before .before .before .before .before .if1 .left)))
-
-sub-t34 : tie.Need-sub-t34
-sub-t34 c = search needs
+    let b = f .bounded in
+    let n = c .before .before .before .if1 .left in
+    let l = length-set (a .t .now) 0 (c .before .before .before .before .before .before .before .before .before .sized .result) in
+    (layout-below _ _ _ _ _ (c .before .before .before .before .before .before .before .before .before .before .before .before .before .before .pre .0) (omega arith), ((omega arith, omega arith, omega arith, omega arith), (search needs, found-within _ _ (a .t .now) _ (a .len) (a .end) (a .most) 0 _ _ _ _ _ (c .before .before .before .before .before .before .before .before .before .sized .ensures) (take-less-zero (a .len) (set (a .t .now) 0 (c .before .before .before .before .before .before .before .before .before .sized .result))) f (omega arith) (omega arith) (omega arith) n)))
 
 same-length-3 : tie.Need-same-length-3
-same-length-3 c = search needs
+same-length-3 c = c .before .before .before .before .contract .ensures .same ∙ length-set (c .before .before .before .before .before .before .before .before .before .before .before .before .before .before .before .before .before .before .before .args .t .now) 0 (c .before .before .before .before .before .before .before .before .before .before .before .before .before .before .sized .result)
 
 returns-3 : tie.Need-returns-3
-returns-3 c =
-    step-large _ _ _ _ _ _ _ _ _ _ _ _ _ (take-less-zero (c .before .before .before .before .before .before .before .before .before .before .before .before .before .before .before .before .before .before .before .before .before .args .len) (c .before .before .before .before .before .before .before .before .before .before .before .before .before .before .before .before .before .before .before .before .before .args .t .now)) (c .before .before .before .before .before .before .before .before .before .before .before .before .before .find .ensures) (let p = c .before .before .before .before .before .before .before .before .before .before .before .before .before .before .before .before .before .before .before .before .before .pre .1 in omega arith) (let p = c .before .before .before .before .before .before .before .before .before .before .before .before .before .before .before .before .before .before .before .before .before .pre .1 in omega arith) (c .before .before .before .before .before .before .before .before .before .before .before .if1 .left) _ _ (c .before .before .before .before .before .before .before .before .wide .ensures .0) _ (c .before .before .before .replace .ensures) (c .before .before .before .before .before .before .before .before .before .before .if2 .left) (c .if3 .taken)
-
-sub-t35 : tie.Need-sub-t35
-sub-t35 c = search needs
+returns-3 c = let a = c .before .before .before .before .before .before .before .before .before .before .before .before .before .before .before .before .before .before .before .args in let p = c .before .before .before .before .before .before .before .before .before .before .before .before .before .before .before .before .before .before .before .pre .1 in rewritten-as _ _ _ _ _ _ _ _ _ _ _ (c .ended3 .ensures) (step-large _ _ _ _ _ _ _ _ _ _ _ _ _ (c .before .before .before .before .before .before .before .before .before .before .before .before .before .before .sized .ensures) (take-less-zero (a .len) (set (a .t .now) 0 (c .before .before .before .before .before .before .before .before .before .before .before .before .before .before .sized .result))) (c .before .before .before .before .before .before .before .before .before .before .find .ensures) (omega arith) (omega arith) (omega arith) (c .before .before .before .before .before .before .before .before .if1 .left) _ _ (c .before .before .before .before .contract .ensures) (c .before .before .before .before .before .before .before .if2 .left) (c .before .if3 .taken))
 
 same-length-4 : tie.Need-same-length-4
-same-length-4 c = search needs
+same-length-4 c = c .before .before .before .before .contract .ensures .same ∙ length-set (c .before .before .before .before .before .before .before .before .before .before .before .before .before .before .before .before .before .before .before .args .t .now) 0 (c .before .before .before .before .before .before .before .before .before .before .before .before .before .before .sized .result)
 
 returns-4 : tie.Need-returns-4
-returns-4 c =
-    step-done _ _ _ _ _ _ _ _ _ _ _ _ _ (take-less-zero (c .before .before .before .before .before .before .before .before .before .before .before .before .before .before .before .before .before .before .before .before .before .args .len) (c .before .before .before .before .before .before .before .before .before .before .before .before .before .before .before .before .before .before .before .before .before .args .t .now)) (c .before .before .before .before .before .before .before .before .before .before .before .before .before .find .ensures) (let p = c .before .before .before .before .before .before .before .before .before .before .before .before .before .before .before .before .before .before .before .before .before .pre .1 in omega arith) (let p = c .before .before .before .before .before .before .before .before .before .before .before .before .before .before .before .before .before .before .before .before .before .pre .1 in omega arith) (c .before .before .before .before .before .before .before .before .before .before .before .if1 .left) _ _ (c .before .before .before .before .before .before .before .before .wide .ensures .0) _ (c .before .before .before .replace .ensures) (c .before .before .before .before .before .before .before .before .before .before .if2 .left) (c .if3 .left)
+returns-4 c = let a = c .before .before .before .before .before .before .before .before .before .before .before .before .before .before .before .before .before .before .before .args in let p = c .before .before .before .before .before .before .before .before .before .before .before .before .before .before .before .before .before .before .before .pre .1 in rewritten-as _ _ _ _ _ _ _ _ _ _ _ (c .ended4 .ensures) (step-done _ _ _ _ _ _ _ _ _ _ _ _ _ (c .before .before .before .before .before .before .before .before .before .before .before .before .before .before .sized .ensures) (take-less-zero (a .len) (set (a .t .now) 0 (c .before .before .before .before .before .before .before .before .before .before .before .before .before .before .sized .result))) (c .before .before .before .before .before .before .before .before .before .before .find .ensures) (omega arith) (omega arith) (omega arith) (c .before .before .before .before .before .before .before .before .if1 .left) _ _ (c .before .before .before .before .contract .ensures) (c .before .before .before .before .before .before .before .if2 .left) (c .before .if3 .left))
 
 pub rewrite-spec : {M : Type 1} → statement M
 rewrite-spec =
     tie.close
     (tie.spec
-    sub-find
-    part-find-start
+    (λ c. search needs)
+    (λ c κs. search needs)
+    (λ c. search needs)
+    (λ c. search needs)
+    (λ c. search needs)
     part-find-end
-    slice-aggregate-find
-    find-requires
-    same-length
+    (λ c. search needs)
+    (λ c κs. search needs)
+    (λ c κs. search needs)
+    (λ c. search needs)
     returns
-    same-length-2
+    (λ c κs. search needs)
+    (λ c. search needs)
     returns-2
-    mul-a
-    add-a
-    mul-wide
-    add-wide
-    shared-slice-read-wide
-    wide-requires
-    add-right
-    sub-right
-    part-right-start
-    part-right-end
-    mul-first
-    shared-slice-read-first
-    slice-aggregate-replace
-    replace-requires
-    sub-t34
+    (λ c. search needs)
+    contract-requires
+    (λ c. search needs)
+    (λ c κs. search needs)
     same-length-3
     returns-3
-    sub-t35
+    (λ c. search needs)
+    (λ c κs. search needs)
     same-length-4
     returns-4)

@@ -1,0 +1,20 @@
+-- `leave`: beyond `len` (`leave-long`), or the end that the cell says (`leave-done`). Assumes nothing.
+-- Read first: specs/Stored (Left), proofs/Settling.
+use Rattle.normaliser.proofs.Settling.{leave-long, leave-done}
+use borrow.Author.Needs.{needs}
+use Rattle.normaliser.proofs.leave.Statement.{statement}
+use Rattle.normaliser.proofs.leave.Tie as tie
+use Rattle.normaliser.proofs.leave.Reads as reads
+use Rattle.normaliser.proofs.leave.Lts as lts
+use Rattle.matching.proofs.size_of.Reads as size-of-reads
+use Rattle.normaliser.proofs.ended.Reads as ended-reads
+
+returns : tie.Need-returns
+returns c = leave-long _ _ _ _ _ (c .ended .ensures) (c .before .before .size-of .ensures .0) (c .before .if1 .taken)
+
+returns-2 : tie.Need-returns-2
+returns-2 c = leave-done _ _ _ _ _ (c .ended2 .ensures) (c .before .before .size-of .ensures .0) (c .before .if1 .left) (search needs)
+
+pub leave-spec : {M : Type 1} → statement M
+leave-spec =
+    tie.close (tie.spec (λ c κs. search needs) (λ c κs. search needs) returns (λ c κs. search needs) returns-2)
