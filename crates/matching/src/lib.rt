@@ -65,11 +65,12 @@ fn again(t: &[u16], a: usize, j: usize) -> usize
     ensures { λ r. ⌜ Again (now (t .entry)) a j r ⌝ }
 {
     let n = size_of(t[a]);
+    let f = a + n;
     let e = j + n;
     if e > t.len() {
         return 0;
     }
-    if same_cells(&t[a..a + n], &t[j..e]) {
+    if same_cells(&t[a..f], &t[j..e]) {
         return e;
     }
     0

@@ -1,6 +1,7 @@
 -- `find`: the invariant is that the rules from k on decide the step as all do; the rules to come fall. Assumes nothing.
 -- Read first: specs/Stored (Found), proofs/Choosing (Searching).
-use Rattle.normaliser.proofs.Choosing.{Searching, search-start, search-end, search-on, search-hit, layout-below}
+use Rattle.normaliser.proofs.Choosing.{Searching, search-start, search-end, search-on, search-hit, layout-front}
+use native.Mathlib.Omega.{arith}
 use Prim.Native.Nat.{_-_}
 use borrow.Author.Needs.{needs}
 use Rattle.normaliser.proofs.find.Statement.{statement}
@@ -19,7 +20,7 @@ loop-holds : tie.Need-loop-holds Inv-loop μ-loop
 loop-holds c = search-start _ _ _ _ _
 
 fits-requires : tie.Need-fits-requires Inv-loop μ-loop
-fits-requires c κs = (layout-below _ _ _ _ _ (c .before .before .before .before .before .before .before .pre .0) (c .before .loop-test .taken), let i = c .before .before .loop .inv .same in search needs)
+fits-requires c κs = (layout-front _ _ _ _ _ _ (c .before .before .before .before .before .before .before .pre .0) (let q = c .before .loop-test .taken in omega arith), let i = c .before .before .loop .inv .same in search needs)
 
 returns : tie.Need-returns Inv-loop μ-loop
 returns c = search-hit _ _ _ _ _ _ _ (c .before .before .before .before .before .before .loop .inv) (c .before .before .before .before .before .loop-test .taken) _ _ (c .before .before .before .fits2 .ensures) (c .if1 .taken)
