@@ -15,7 +15,7 @@ use Rattle.terms.proofs.Subst.{In}
 use Rattle.terms.proofs.Below.{place-in-below}
 use Rattle.naming.specs.Names.{added, collect}
 
--- the list without x
+-- what a test chooses, by what it says
 yes-if : {A : Type 0} {P : Type 0} (a b : A) (c : Bool) → Says P c → P → (if c then a else b) ≡ a
 unfolding if_then_else_
 yes-if a b true h p = refl
@@ -26,6 +26,7 @@ unfolding if_then_else_
 no-if a b true h p = absurd (p h)
 no-if a b false h p = refl
 
+-- the list without x
 without-yes : (x z : ℕ) (l : List ℕ) → x ≡ z → without x (z ∷ l) ≡ without x l
 unfolding without
 without-yes x z l e = yes-if (without x l) (z ∷ without x l) (eqb x z) (eqb-says x z) e

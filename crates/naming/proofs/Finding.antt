@@ -5,7 +5,7 @@ use mathlib.Core.List.{List, [], _∷_, _++_, map}
 use Prim.Native.Nat.{ℕ, zero, suc, _+_, _-_, _≤_, _<_}
 use native.Mathlib.Omega.{arith}
 use native.Mathlib.Decide.{decLt}
-use native.Mathlib.Nat.{le-of-suc-le-suc}
+use native.Mathlib.Nat.{le-of-suc-le-suc, sub-zero}
 use native.Mathlib.Numerals.{add-one}
 use lib.Seq.{drop-cons, getD-take, length-take-le, take-suc-set}
 use lib.ListN.{length, getD, take, drop, set, length-set, drop-of-length-le}
@@ -106,11 +106,11 @@ renamed-is l e f n p q = q ∙ ap (λ z. map (named z) l) p
 -- `rename_front`: the front that is lent, and how it comes back
 module _ (e : ℕ) (out : List ℕ) where
   pub front-is : take (e - 0) (drop 0 out) ≡ take e out
-  front-is = let f : e - 0 ≡ e = omega arith in ap (λ z. take z out) f
+  front-is = ap (λ z. take z out) (sub-zero e)
 
   pub front-ready : e ≤ length out → e ≤ 240 → length (collect [] (take e out)) ≤ 127 →
       (length (take (e - 0) (drop 0 out)) ≤ 240) × (length (collect [] (take (e - 0) (drop 0 out))) ≤ 127)
   front-ready h k few = rw front-is (omega (arith, length-take-le e out h), few)
 
   pub front-back : (ys : List ℕ) → ys ≡ renamed-bytes (take (e - 0) (drop 0 out)) → take 0 out ++ (ys ++ drop (e - 0) (drop 0 out)) ≡ renamed-bytes (take e out) ++ drop e out
-  front-back ys q = let f : e - 0 ≡ e = omega arith in ap (λ z. z ++ drop (e - 0) out) q ∙ ap (λ z. renamed-bytes (take z out) ++ drop z out) f
+  front-back ys q = ap (λ z. z ++ drop (e - 0) out) q ∙ ap (λ z. renamed-bytes (take z out) ++ drop z out) (sub-zero e)

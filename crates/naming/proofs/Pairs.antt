@@ -1,15 +1,15 @@
 -- Well-formed terms have symbols below 128; the renamed bytes of two sides are those of the renamed pair, which is well-formed. Assumes nothing.
 -- Read first: terms/specs/Flat (Wf), terms/specs/Term (renamed), proofs/Renaming (renamed-terms).
-use mathlib.Core.Path.{_≡_, refl, sym, ap, subst, _∙_}
-use mathlib.Core.Logic.{⊎-elim}
-use mathlib.Core.List.{List, _++_, append-nil, List·Memᴰ·head, List·Memᴰ·not-nil, List·Memᴰ·cases-cons, Memᴰ·append-left, Memᴰ·append-right, List·Memᴰ·append-cases}
-use Prim.Native.Nat.{ℕ, suc, _≤_, _<_}
+use mathlib.Core.Path.{_≡_, refl, sym, ap, _∙_}
+use mathlib.Core.List.{List, _++_, append-nil, List·Memᴰ·head, Memᴰ·append-left, Memᴰ·append-right}
+use Prim.Native.Nat.{ℕ, _≤_, _<_}
 use native.Mathlib.Omega.{arith}
 use lib.ListN.{length}
 use Rattle.terms.specs.Base.{place-in}
 use Rattle.terms.specs.Term.{Term, var, node, Terms, nil, cons, variables, variables-of, subst-term, subst-terms, term-bytes, terms-bytes, Pair, pair-variables, renamed}
 use Rattle.terms.specs.Scan.{count}
 use Rattle.terms.specs.Flat.{Wf, Wfs}
+use Rattle.terms.proofs.Flats.{wf-below}
 use Rattle.terms.proofs.Subst.{In, VarsIn, count-subst}
 use Rattle.terms.proofs.Below.{place-in-below, in-pair-left, in-pair-right}
 use Rattle.terms.proofs.Limits.{variables-few}
@@ -38,17 +38,6 @@ renamed-pair e v w =
     ∙ ap (λ z. term-bytes (renamed e .left) ++ z) (append-nil (term-bytes (renamed e .right)))
 
 -- variables below n: at most n different ones
-mutual
-  unfolding Wf variables
-
-  wf-below : (n : ℕ) (tab : List ℕ) (t : Term) → Wf n tab t → VarsIn (λ x. x < n) t
-  wf-below n tab (var y) w x i = ⊎-elim (λ e. subst (λ z. z < n) (sym e) w) (λ j. absurd (List·Memᴰ·not-nil j)) (List·Memᴰ·cases-cons i)
-  wf-below n tab (node f ts) w x i = wfs-below n tab ts (w .2) x i
-
-  wfs-below : (n : ℕ) (tab : List ℕ) (ts : Terms) → Wfs n tab ts → (x : ℕ) → In x (variables-of ts) → x < n
-  wfs-below n tab nil w x i = absurd (List·Memᴰ·not-nil i)
-  wfs-below n tab (cons t ts) w x i = ⊎-elim (λ j. wf-below n tab t (w .0) x j) (λ j. wfs-below n tab ts (w .1) x j) (List·Memᴰ·append-cases (variables t) i)
-
 pub wf-few : (n : ℕ) (tab : List ℕ) (e : Pair) → Wf n tab (e .left) → Wf n tab (e .right) → length (pair-variables e) ≤ n
 wf-few n tab e v w = variables-few n e (wf-below n tab (e .left) v) (wf-below n tab (e .right) w)
 

@@ -1,27 +1,19 @@
 -- `above` is what the document's three clauses say, word for word; where the lists are equally long no test of that is left. Assumes nothing.
--- Read first: specs/Order, proofs/Decide.
+-- Read first: specs/Order, specs/Walk (`all-above`), proofs/Decide.
 use mathlib.Core.Path.{_≡_, refl, ap, _∙_}
-use mathlib.Core.Bool.{Bool, true, false, _&&_, _||_}
+use mathlib.Core.Bool.{_&&_, _||_, and-true}
 use Prim.Native.Nat.{ℕ}
 use lib.Dec.{eqb, ltb}
 use Rattle.terms.specs.Base.{if_then_else_}
 use Rattle.terms.specs.Term.{Term, Terms, var, node, nil, cons, same}
 use Rattle.order.specs.Order.{by-clauses, by-clauses-all, above, some-reaches, first-above}
+use Rattle.order.specs.Walk.{all-above}
 use Rattle.order.proofs.PathOrder.{SameLen}
 use Rattle.order.proofs.Decide.{len-dec}
 
-and-true : (b : Bool) → (b && true) ≡ b
-and-true true = refl
-and-true false = refl
-
 module _ (rank : ℕ → ℕ) where
-  -- "s is above every argument of t"
-  unfoldable pub above-all : Term → Terms → Bool
-  above-all s nil = true
-  above-all s (cons t ts) = above rank s t && above-all s ts
-
-  every-is : (f : ℕ) (ss ts : Terms) → by-clauses-all rank f (some-reaches rank ss) (first-above rank ss) ts ≡ above-all (node f ss) ts
-  unfolding above above-all by-clauses
+  every-is : (f : ℕ) (ss ts : Terms) → by-clauses-all rank f (some-reaches rank ss) (first-above rank ss) ts ≡ all-above rank (node f ss) ts
+  unfolding above all-above by-clauses
   every-is f ss nil = refl
   every-is f ss (cons t ts) = ap (λ b. above rank (node f ss) t && b) (every-is f ss ts)
 
@@ -29,8 +21,8 @@ module _ (rank : ℕ → ℕ) where
   pub clauses : (f g : ℕ) (ss ts : Terms) →
       above rank (node f ss) (node g ts) ≡
       (some-reaches rank ss (node g ts)
-      || ltb (rank g) (rank f) && above-all (node f ss) ts
-      || eqb f g && above-all (node f ss) ts && first-above rank ss ts)
+      || ltb (rank g) (rank f) && all-above rank (node f ss) ts
+      || eqb f g && all-above rank (node f ss) ts && first-above rank ss ts)
   unfolding above by-clauses
   clauses f g ss ts =
       ap (λ every. some-reaches rank ss (node g ts) || ltb (rank g) (rank f) && every || eqb f g && every && first-above rank ss ts)

@@ -1,4 +1,4 @@
--- `Above rank` is closed under substitution and under contexts, and has the subterm property. Assumes nothing.
+-- `Above rank` is closed under substitution and under contexts, and a term is above its arguments. Assumes nothing.
 -- Read first: proofs/PathOrder.
 use mathlib.Core.Logic.{⊎-elim}
 use mathlib.Core.List.{List·Memᴰ·not-nil, Memᴰ·append-left, Memᴰ·append-right, List·Memᴰ·append-cases}
@@ -14,11 +14,6 @@ infix 30 _∈_
 pub data _∈_ (t : Term) : Terms → Type 0 where
   in-here : {ts : Terms} → t ∈ cons t ts
   in-later : {s : Term} {ts : Terms} → t ∈ ts → t ∈ cons s ts
-
--- t is a proper subterm of s
-pub data Inside (t : Term) : Term → Type 0 where
-  arg : {f : ℕ} {ss : Terms} → t ∈ ss → Inside t (node f ss)
-  deeper : {f : ℕ} {s : Term} {ss : Terms} → s ∈ ss → Inside t s → Inside t (node f ss)
 
 subst-len : {ss ts : Terms} (σ : ℕ → Term) → SameLen ss ts → SameLen (subst-terms σ ss) (subst-terms σ ts)
 unfolding subst-terms
@@ -48,7 +43,7 @@ module _ (rank : ℕ → ℕ) where
     lex-subst σ (first a l) = first (above-subst σ a) (subst-len σ l)
     lex-subst σ (next x) = next (lex-subst σ x)
 
-  -- The subterm property.
+  -- A term is above its arguments.
   in-within : {t : Term} {ss : Terms} → t ∈ ss → Within rank ss t
   in-within in-here = here
   in-within (in-later m) = later (in-within m)
@@ -59,10 +54,6 @@ module _ (rank : ℕ → ℕ) where
 
   pub above-arg : {f : ℕ} {t : Term} {ss : Terms} → t ∈ ss → Above rank (node f ss) t
   above-arg m = by-arg (in-within m)
-
-  pub above-inside : {s t : Term} → Inside t s → Above rank s t
-  above-inside (arg m) = above-arg m
-  above-inside (deeper m i) = by-arg (in-above-within m (above-inside i))
 
   -- a term is above each part of a list of which it has every term among its arguments
   pub all-args : {f : ℕ} {ss : Terms} (ts : Terms) → ((t : Term) → t ∈ ts → t ∈ ss) → AboveAll rank (node f ss) ts

@@ -5,7 +5,7 @@ use mathlib.Core.Bool.{Bool, true, false, false≢true}
 use mathlib.Core.Logic.{_⊎_, inl, inr}
 use Prim.Native.Nat.{ℕ, _<_}
 use Rattle.terms.specs.Term.{Term, Terms, var, node, nil, cons}
-use Rattle.order.proofs.PathOrder.{SameLen, len-nil, len-cons, Above, by-arg, by-rank, by-lex, Within, here, by-above, later, AboveAll, all-nil, all-cons, Lex, first, next}
+use Rattle.order.proofs.PathOrder.{SameLen, len-nil, len-cons, Above, by-arg, by-rank, by-lex, Within, here, by-above, later, AboveAll, all-nil, all-cons, Lex, first, next, var-above, lex-nil}
 use Rattle.terms.specs.Base.{if_then_else_}
 use Rattle.terms.proofs.Shape.{Decides, dec-map, dec-and, dec-or, dec-false, dec-true, eqb-dec, ltb-dec, same-dec}
 use Rattle.order.specs.Order.{same-length, by-clauses, by-clauses-all, above, some-reaches, first-above}
@@ -64,9 +64,6 @@ module _ (rank : ℕ → ℕ) where
   pub above-var : {f x : ℕ} {ss : Terms} → Above rank (node f ss) (var x) → Within rank ss (var x)
   above-var (by-arg w) = w
 
-  pub var-above : {x : ℕ} {t : Term} → Above rank (var x) t → ⊥
-  var-above = elim [ ]
-
   pub within-nil : {t : Term} → Within rank nil t → ⊥
   within-nil = elim [ ]
 
@@ -86,9 +83,6 @@ module _ (rank : ℕ → ℕ) where
   pub all-parts : {s t : Term} {ts : Terms} → AboveAll rank s (cons t ts) → Above rank s t × AboveAll rank s ts
   all-parts (all-cons a all) = (a, all)
 
-  pub lex-nil : {ts : Terms} → Lex rank nil ts → ⊥
-  lex-nil = elim [ ]
-
   pub lex-cons-nil : {s : Term} {ss : Terms} → Lex rank (cons s ss) nil → ⊥
   lex-cons-nil = elim [ ]
 
@@ -98,10 +92,6 @@ module _ (rank : ℕ → ℕ) where
 
   pub next-eq : {s t : Term} {ss ts : Terms} → s ≡ t → Lex rank ss ts → Lex rank (cons s ss) (cons t ts)
   next-eq {s} {ss = ss} {ts = ts} e x = subst (λ u. Lex rank (cons s ss) (cons u ts)) e (next x)
-
-  pub parts-lex : {s t : Term} {ss ts : Terms} → ((s ≡ t) × Lex rank ss ts) ⊎ (Above rank s t × SameLen ss ts) → Lex rank (cons s ss) (cons t ts)
-  parts-lex (inl k) = next-eq (k .0) (k .1)
-  parts-lex (inr k) = first (k .0) (k .1)
 
   next-of : {s t : Term} {ss ts : Terms} → s ≡ t → Lex rank (cons s ss) (cons t ts) → Lex rank ss ts
   next-of {s} {t} {ss} {ts} e x = pick (lex-parts x)
@@ -139,7 +129,7 @@ module _ (rank : ℕ → ℕ) where
     unfolding above some-reaches first-above
 
     pub above-dec : (s t : Term) → Decides (above rank s t) (Above rank s t)
-    above-dec (var x) t = dec-false var-above
+    above-dec (var x) t = dec-false (var-above rank)
     above-dec (node f ss) t = node-dec f ss (some-reaches rank ss) (first-above rank ss) (λ u. within-dec ss u) (λ us. lex-dec ss us) t
 
     pub within-dec : (ss : Terms) (t : Term) → Decides (some-reaches rank ss t) (Within rank ss t)
@@ -147,7 +137,7 @@ module _ (rank : ℕ → ℕ) where
     within-dec (cons s ss) t = dec-map cons-within within-cons (dec-or (dec-or (same-dec s t) (above-dec s t)) (within-dec ss t))
 
     pub lex-dec : (ss ts : Terms) → Decides (first-above rank ss ts) (Lex rank ss ts)
-    lex-dec nil ts = dec-false lex-nil
+    lex-dec nil ts = dec-false (lex-nil rank)
     lex-dec (cons s ss) nil = dec-false lex-cons-nil
     lex-dec (cons s ss) (cons t ts) =
         dec-if (same-dec s t)

@@ -1,23 +1,20 @@
--- The faster test: where the symbols at the root decide, the other clauses are not tried. It agrees with `above`. Assumes nothing.
+-- The test by its root symbols: where they decide, the other clauses are not tried. It agrees with `above`. Assumes nothing.
 -- Read first: specs/Order, proofs/Decide.
-use mathlib.Core.Path.{_≡_, refl, sym, subst}
-use mathlib.Core.Bool.{Bool, true, false, _&&_, _||_, cond, false≢true}
+use mathlib.Core.Path.{_≡_, sym, subst}
+use mathlib.Core.Bool.{Bool, true, false, _&&_, _||_}
 use mathlib.Core.Logic.{_⊎_, inl, inr}
-use Prim.Native.Nat.{ℕ, zero, suc, _+_, _<_, _≤_}
+use Prim.Native.Nat.{ℕ, _+_, _<_, _≤_}
 use native.Mathlib.Omega.{arith}
 use lib.Dec.{eqb, ltb}
 use Rattle.terms.specs.Term.{Term, Terms, var, node, nil, cons, size, sizes, same}
-use Rattle.order.proofs.PathOrder.{SameLen, Above, by-arg, by-rank, by-lex, Within, here, by-above, later, AboveAll, all-nil, all-cons, Lex, first, next}
+use Rattle.order.proofs.PathOrder.{SameLen, Above, by-arg, by-rank, by-lex, Within, here, by-above, later, AboveAll, all-nil, all-cons, Lex, first, next, var-above, lex-nil}
 use Rattle.order.proofs.WellFounded.{above-irrefl}
 use Rattle.order.proofs.Closure.{_∈_, in-here, in-later, above-arg, all-args}
 use Rattle.order.proofs.Trans.{above-trans}
 use Rattle.terms.proofs.Shape.{Decides, dec-map, dec-and, dec-or, dec-false, dec-true, dec-agree, eqb-dec, ltb-dec, same-dec}
 use Rattle.order.specs.Order.{same-length, above}
-use Rattle.order.proofs.Decide.{above-node, above-var, var-above, within-nil, within-cons, cons-within, all-parts, lex-nil, lex-cons-nil, lex-parts, len-dec, above-dec}
-
-pub dec-cond : {A C : Type 0} {c x y : Bool} → Decides c C → (C → Decides x A) → ((C → ⊥) → Decides y A) → Decides (cond c x y) A
-dec-cond {c = true} d p q = p (d .0 refl)
-dec-cond {c = false} d p q = q (λ k. false≢true (d .1 k))
+use Rattle.terms.specs.Base.{if_then_else_}
+use Rattle.order.proofs.Decide.{dec-if, above-node, above-var, within-nil, within-cons, cons-within, all-parts, lex-cons-nil, lex-parts, len-dec, above-dec}
 
 -- some term of the list equals t or is above t; s is above every term of the list: by the test `ab`
 unfoldable pub some? : (Term → Term → Bool) → Terms → Term → Bool
@@ -33,8 +30,9 @@ unfoldable pub walk? : (Term → Term → Bool) → Term → Term → Terms → 
 walk? ab s t nil ys = false
 walk? ab s t (cons x xs) nil = some? ab (cons x xs) t
 walk? ab s t (cons x xs) (cons y ys) =
-    cond (same x y) (walk? ab s t xs ys)
-    (cond (ab x y) (cond (same-length xs ys) (all? ab s ys) (some? ab (cons x xs) t)) (some? ab xs t))
+    if same x y then walk? ab s t xs ys
+    else if ab x y then (if same-length xs ys then all? ab s ys else some? ab (cons x xs) t)
+    else some? ab xs t
 
 -- `Common us vs ss ts`: `us` is `ss` behind some terms, and `vs` is `ts` behind the same terms.
 pub data Common (us vs : Terms) : Terms → Terms → Type 0 where
@@ -116,7 +114,7 @@ module _ (rank : ℕ → ℕ) where
   within-down whole w = w
   within-down (skip {s = s} c) w = within-rest (above-arg rank (in-right c s in-here)) (within-down c w)
 
-  -- s is not by-above an argument of t: neither is it t or by-above t.
+  -- s is not above an argument of t: neither is it t or above t.
   within-not : {s t y : Term} {ss : Terms} → Above rank t y → (Above rank s y → ⊥) → Within rank (cons s ss) t → Within rank ss t
   within-not b n here = absurd (n b)
   within-not b n (by-above a) = absurd (n (above-trans rank a b))
@@ -127,12 +125,9 @@ module _ (rank : ℕ → ℕ) where
   step? ab (var x) t = false
   step? ab (node f ss) (var y) = some? ab ss (var y)
   step? ab (node f ss) (node g ts) =
-      cond (eqb f g) (walk? ab (node f ss) (node g ts) ss ts)
-      (cond (ltb (rank g) (rank f)) (all? ab (node f ss) ts) (some? ab ss (node g ts)))
-
-  unfoldable pub fast? : ℕ → Term → Term → Bool
-  fast? zero s t = false
-  fast? (suc n) s t = step? (fast? n) s t
+      if eqb f g then walk? ab (node f ss) (node g ts) ss ts
+      else if ltb (rank g) (rank f) then all? ab (node f ss) ts
+      else some? ab ss (node g ts)
 
   module _ (ab : Term → Term → Bool) (n : ℕ) (ab-dec : (s t : Term) → size s + size t < n → Decides (ab s t) (Above rank s t)) where
     some-dec : (ss : Terms) (t : Term) → sizes ss + size t < n → Decides (some? ab ss t) (Within rank ss t)
@@ -194,11 +189,11 @@ module _ (rank : ℕ → ℕ) where
       walk-dec nil ts c h k b = only-args c (lex-nil rank) h
       walk-dec (cons x xs) nil c h k b = only-args c (lex-cons-nil rank) h
       walk-dec (cons x xs) (cons y ys) c h k b =
-          dec-cond (same-dec x y)
+          dec-if (same-dec x y)
           (λ e. walk-dec xs ys (skip-eq e c) (omega arith) (omega arith) (omega arith))
           (λ ne.
-          dec-cond (ab-dec x y (omega arith))
-          (λ a. dec-cond (len-dec xs ys) (λ l. won c a l (omega arith)) (λ nl. only-args c (no-len ne nl) h))
+          dec-if (ab-dec x y (omega arith))
+          (λ a. dec-if (len-dec xs ys) (λ l. won c a l (omega arith)) (λ nl. only-args c (no-len ne nl) h))
           (λ na. lost c ne na (omega arith)))
 
     symbol-dec : (f g : ℕ) (ss ts : Terms) → f ≡ g → size (node f ss) + size (node g ts) ≤ n
@@ -213,21 +208,12 @@ module _ (rank : ℕ → ℕ) where
     step-dec (var x) t h = dec-false (var-above rank)
     step-dec (node f ss) (var y) h = dec-map by-arg (above-var rank) (some-dec ss (var y) (omega arith))
     step-dec (node f ss) (node g ts) h =
-        dec-cond (eqb-dec f g)
+        dec-if (eqb-dec f g)
         (λ e. symbol-dec f g ss ts e h)
         (λ ne.
-        dec-cond (ltb-dec (rank g) (rank f))
+        dec-if (ltb-dec (rank g) (rank f))
         (λ lt. dec-map (by-rank lt) above-args (all-dec (node f ss) ts (omega arith)))
         (λ nlt. dec-map by-arg (above-lower nlt ne) (some-dec ss (node g ts) (omega arith))))
-
-  -- The test by fuel is right where the fuel is more than the sizes.
-  pub fast-dec : (n : ℕ) (s t : Term) → size s + size t < n → Decides (fast? n s t) (Above rank s t)
-  unfolding fast?
-  fast-dec zero s t h = absurd (omega arith)
-  fast-dec (suc n) s t h = step-dec (fast? n) n (fast-dec n) s t (omega arith)
-
-  pub fast-agrees : (n : ℕ) (s t : Term) → size s + size t < n → fast? n s t ≡ above rank s t
-  fast-agrees n s t h = dec-agree (fast? n s t) (above rank s t) (fast-dec n s t h) (above-dec rank s t)
 
   -- The test itself goes by these steps.
   pub step-agrees : (s t : Term) → step? (above rank) s t ≡ above rank s t

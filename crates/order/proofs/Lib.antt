@@ -4,6 +4,5 @@ pub mod Trans
 pub mod Decide
 pub mod Clauses
 pub mod Fast
-pub mod Examples
 pub mod Steps
 pub mod PathOrder

@@ -2,7 +2,7 @@
 -- nothing.
 -- Read first: specs/Order.
 use Prim.Native.Nat.{ℕ, _<_}
-use Rattle.terms.specs.Term.{Term, Terms, node, nil, cons}
+use Rattle.terms.specs.Term.{Term, Terms, var, node, nil, cons}
 
 -- Two argument lists of the same length.
 pub data SameLen : Terms → Terms → Type 0 where
@@ -31,3 +31,10 @@ module _ (rank : ℕ → ℕ) where
     pub data Lex : Terms → Terms → Type 0 where
       first : {s t : Term} {ss ts : Terms} → Above s t → SameLen ss ts → Lex (cons s ss) (cons t ts)
       next : {s : Term} {ss ts : Terms} → Lex ss ts → Lex (cons s ss) (cons s ts)
+
+  -- A variable is above nothing, and so is the empty list.
+  pub var-above : {x : ℕ} {t : Term} → Above (var x) t → ⊥
+  var-above = elim [ ]
+
+  pub lex-nil : {ts : Terms} → Lex nil ts → ⊥
+  lex-nil = elim [ ]

@@ -1,19 +1,20 @@
 -- What each answer of the comparison on bytes says of terms: a lemma for each place where a function returns. Assumes nothing.
 -- Read first: specs/Walk, proofs/Fast, terms/proofs/Starts.
 use mathlib.Core.Path.{_≡_, refl, ap, ap₂, sym, _∙_}
-use mathlib.Core.Bool.{Bool, true, false, _&&_, _||_, cond}
+use mathlib.Core.Bool.{Bool, true, false, _&&_, _||_}
 use mathlib.Core.List.{List}
 use Prim.Native.Nat.{ℕ, _+_, _-_, _<_, _≤_}
 use native.Mathlib.Omega.{arith}
 use lib.ListN.{length, getD, List·getD-eq-default}
 use borrow.Author.Tests.{lt-ltb, le-ltb, eq-eqb, ne-eqb}
 use Rattle.terms.specs.Base.{if_then_else_}
-use Rattle.terms.specs.Term.{Term, var, node, Terms, nil, cons, same}
+use Rattle.terms.specs.Term.{Term, node, Terms, nil, cons, same}
 use Rattle.terms.specs.Scan.{count, owes}
 use Rattle.terms.specs.Flat.{Starts, StartAll, IsSame}
 use Rattle.terms.proofs.Starts.{from, head-var, head-node, first, none-left, starts-some, IsEnd, ended}
-use Rattle.order.specs.Order.{same-length, by-clauses, above, some-reaches, comparison}
+use Rattle.order.specs.Order.{same-length, above, some-reaches, comparison}
 use Rattle.order.specs.Walk.{rank, all-above, walked, IsAbove, IsSome, IsAll, IsWalk, IsCompared}
+use Rattle.order.proofs.Clauses.{clause-variable}
 use Rattle.order.proofs.Fast.{some?, all?, walk?, step?, step-agrees}
 
 pub rank-past : (tab : List ℕ) (f : ℕ) → length tab ≤ f + f + 1 → rank tab f ≡ 0
@@ -26,7 +27,7 @@ unfolding some? some-reaches
 some-is r nil t = refl
 some-is r (cons s ss) t = ap (λ (b : Bool). same s t || above r s t || b) (some-is r ss t)
 
-all-is : (tab : List ℕ) (x : Term) (ts : Terms) → all? (above (rank tab)) x ts ≡ all-above tab x ts
+all-is : (tab : List ℕ) (x : Term) (ts : Terms) → all? (above (rank tab)) x ts ≡ all-above (rank tab) x ts
 unfolding all? all-above
 all-is tab x nil = refl
 all-is tab x (cons t ts) = ap (λ (b : Bool). above (rank tab) x t && b) (all-is tab x ts)
@@ -39,30 +40,26 @@ length-is (cons x xs) nil h = absurd (omega arith)
 length-is (cons x xs) (cons y ys) h = length-is xs ys (omega arith)
 
 walk-is : (tab : List ℕ) (x t : Term) (xs ys : Terms) → count xs ≡ count ys → walk? (above (rank tab)) x t xs ys ≡ walked tab x t xs ys
-unfolding count walk? walked
+unfolding count walk? walked if_then_else_
 walk-is tab x t nil ys h = refl
 walk-is tab x t (cons s xs) nil h = absurd (omega arith)
 walk-is tab x t (cons s xs) (cons y ys) h =
     let k : count xs ≡ count ys = omega arith in
     rw (length-is xs ys k, walk-is tab x t xs ys k, all-is tab x ys, some-is (rank tab) xs t) refl
 
-fast-var : (r : ℕ → ℕ) (f : ℕ) (ss : Terms) (y : ℕ) → above r (node f ss) (var y) ≡ some-reaches r ss (var y)
-unfolding above by-clauses
-fast-var r f ss y = refl
-
 module _ (tab : List ℕ) (f : ℕ) (ss : Terms) (g : ℕ) (ts : Terms) where
-  fast-greater : rank tab g < rank tab f → above (rank tab) (node f ss) (node g ts) ≡ all-above tab (node f ss) ts
-  unfolding step?
+  fast-greater : rank tab g < rank tab f → above (rank tab) (node f ss) (node g ts) ≡ all-above (rank tab) (node f ss) ts
+  unfolding step? if_then_else_
   fast-greater h =
       let ne : f ≡ g → ⊥ = λ e. let k : rank tab f ≡ rank tab g = ap (rank tab) e in omega arith in
       sym (step-agrees (rank tab) (node f ss) (node g ts)) ∙ rw (ne-eqb f g ne, lt-ltb _ _ h) (all-is tab (node f ss) ts)
 
   fast-less : rank tab f ≤ rank tab g → (f ≡ g → ⊥) → above (rank tab) (node f ss) (node g ts) ≡ some-reaches (rank tab) ss (node g ts)
-  unfolding step?
+  unfolding step? if_then_else_
   fast-less h ne = sym (step-agrees (rank tab) (node f ss) (node g ts)) ∙ rw (ne-eqb f g ne, le-ltb _ _ h) (some-is (rank tab) ss (node g ts))
 
   fast-same : f ≡ g → count ss ≡ count ts → above (rank tab) (node f ss) (node g ts) ≡ walked tab (node f ss) (node g ts) ss ts
-  unfolding step?
+  unfolding step? if_then_else_
   fast-same e n = sym (step-agrees (rank tab) (node f ss) (node g ts)) ∙ rw (eq-eqb f g e) (walk-is tab (node f ss) (node g ts) ss ts n)
 
 -- `above` returns
@@ -83,7 +80,7 @@ module _ (tab s t : List ℕ) (n : ℕ) (r : Bool) (h : getD s 0 0 < 16) where
       let (ss, e, a) = head-node tab s x b h in
       let (v, w) = head-var tab t y d k in
       q ss y (rw p a) d
-      ∙ sym (ap₂ (above (rank tab)) e w ∙ fast-var (rank tab) (getD s 0 0) ss v ∙ ap (some-reaches (rank tab) ss) (sym w))
+      ∙ sym (ap₂ (above (rank tab)) e w ∙ clause-variable (rank tab) (getD s 0 0) v ss ∙ ap (some-reaches (rank tab) ss) (sym w))
 
   module _ (k : getD t 0 0 < 16) where
     pub above-5 : n ≡ owes tab (getD s 0 0) → getD s 0 0 ≡ getD t 0 0 → IsWalk tab s t (from s 1) (from t 1) n r → IsAbove tab s t r
@@ -99,7 +96,7 @@ module _ (tab s t : List ℕ) (n : ℕ) (r : Bool) (h : getD s 0 0 < 16) where
     above-6 p l q x y b d =
         let (ss, e, a) = head-node tab s x b h in
         let (ts, f, c) = head-node tab t y d k in
-        q x ts b (rw p c) ∙ ap (λ (v : Term). all-above tab v ts) e
+        q x ts b (rw p c) ∙ ap (λ (v : Term). all-above (rank tab) v ts) e
         ∙ sym (ap₂ (above (rank tab)) e f ∙ fast-greater tab (getD s 0 0) ss (getD t 0 0) ts l)
 
     pub above-7 : n ≡ owes tab (getD s 0 0) → (getD s 0 0 ≡ getD t 0 0 → ⊥) → rank tab (getD s 0 0) ≤ rank tab (getD t 0 0) →
@@ -116,7 +113,7 @@ unfolding walked
 walked-nil tab x y ys = refl
 
 walked-cons : (tab : List ℕ) (x y v w : Term) (us ws : Terms) → walked tab x y (cons v us) (cons w ws) ≡
-    cond (same v w) (walked tab x y us ws) (cond (above (rank tab) v w) (all-above tab x ws) (some-reaches (rank tab) us y))
+    (if same v w then walked tab x y us ws else if above (rank tab) v w then all-above (rank tab) x ws else some-reaches (rank tab) us y)
 unfolding walked
 walked-cons tab x y v w us ws = refl
 
@@ -130,13 +127,14 @@ module _ (tab s t a b : List ℕ) (n : ℕ) where
 
     module _ (q : Bool) (u : IsSame tab a b q) where
       step : (c : Bool) → q ≡ c → (x y v w : Term) (us ws : Terms) → Starts tab a v → Starts tab b w → walked tab x y (cons v us) (cons w ws) ≡
-          cond c (walked tab x y us ws) (cond (above (rank tab) v w) (all-above tab x ws) (some-reaches (rank tab) us y))
+          (if c then walked tab x y us ws else if above (rank tab) v w then all-above (rank tab) x ws else some-reaches (rank tab) us y)
       step c m x y v w us ws f g =
           walked-cons tab x y v w us ws
-          ∙ ap (λ (z : Bool). cond z (walked tab x y us ws) (cond (above (rank tab) v w) (all-above tab x ws) (some-reaches (rank tab) us y)))
+          ∙ ap (λ (z : Bool). if z then walked tab x y us ws else if above (rank tab) v w then all-above (rank tab) x ws else some-reaches (rank tab) us y)
           (sym (u v w f g) ∙ m)
 
       pub walk-3 : q ≡ true → (d e : ℕ) → IsEnd tab a d → IsEnd tab b e → (p : Bool) → IsWalk tab s t (from a d) (from b e) (n - 1) p → IsWalk tab s t a b n p
+      unfolding if_then_else_
       walk-3 m d e dd ee p o x y xs ys i j k l =
           let (v, us, c, f, g) = first tab a n xs k h in
           let (w, ws, c′, f′, g′) = first tab b n ys l h in
@@ -145,17 +143,20 @@ module _ (tab s t a b : List ℕ) (n : ℕ) where
 
       module _ (m : q ≡ false) (r : Bool) (z : IsAbove tab a b r) where
         differ : (c : Bool) → r ≡ c → (x y v w : Term) (us ws : Terms) → Starts tab a v → Starts tab b w →
-            walked tab x y (cons v us) (cons w ws) ≡ cond c (all-above tab x ws) (some-reaches (rank tab) us y)
+            walked tab x y (cons v us) (cons w ws) ≡ (if c then all-above (rank tab) x ws else some-reaches (rank tab) us y)
+        unfolding if_then_else_
         differ c o x y v w us ws f g =
-            step false m x y v w us ws f g ∙ ap (λ (i : Bool). cond i (all-above tab x ws) (some-reaches (rank tab) us y)) (sym (z v w f g) ∙ o)
+            step false m x y v w us ws f g ∙ ap (λ (i : Bool). if i then all-above (rank tab) x ws else some-reaches (rank tab) us y) (sym (z v w f g) ∙ o)
 
         pub walk-4 : r ≡ true → (e : ℕ) → IsEnd tab b e → (p : Bool) → IsAll tab s (from b e) (n - 1) p → IsWalk tab s t a b n p
+        unfolding if_then_else_
         walk-4 o e ee p q x y xs ys i j k l =
             let (v, us, c, f, g) = first tab a n xs k h in
             let (w, ws, c′, f′, g′) = first tab b n ys l h in
             q x ws i (g′ e (ended tab b e w ee f′)) ∙ sym (ap₂ (walked tab x y) c c′ ∙ differ true o x y v w us ws f f′)
 
         pub walk-5 : r ≡ false → (d : ℕ) → IsEnd tab a d → (p : Bool) → IsSome tab (from a d) (n - 1) t p → IsWalk tab s t a b n p
+        unfolding if_then_else_
         walk-5 o d dd p q x y xs ys i j k l =
             let (v, us, c, f, g) = first tab a n xs k h in
             let (w, ws, c′, f′, g′) = first tab b n ys l h in
@@ -203,35 +204,35 @@ module _ (tab s t : List ℕ) (n : ℕ) where
           sym (ap (λ (l : Terms). some-reaches (rank tab) l y) e ∙ reach-2 x ys y f d ∙ rw v (sym (o ys y (g i (ended tab s i x j f)) d)))
 
 -- `above_all` returns
-all-nil : (tab : List ℕ) (x : Term) → all-above tab x nil ≡ true
+all-nil : (tab : List ℕ) (x : Term) → all-above (rank tab) x nil ≡ true
 unfolding all-above
 all-nil tab x = refl
 
-all-cons : (tab : List ℕ) (x y : Term) (us : Terms) → all-above tab x (cons y us) ≡ (above (rank tab) x y && all-above tab x us)
+all-cons : (tab : List ℕ) (x y : Term) (us : Terms) → all-above (rank tab) x (cons y us) ≡ (above (rank tab) x y && all-above (rank tab) x us)
 unfolding all-above
 all-cons tab x y us = refl
 
 module _ (tab s t : List ℕ) (n : ℕ) where
   pub all-1 : n ≡ 0 → IsAll tab s t n true
-  all-1 h x ys b d = sym (ap (all-above tab x) (none-left tab t n ys d h) ∙ all-nil tab x)
+  all-1 h x ys b d = sym (ap (all-above (rank tab) x) (none-left tab t n ys d h) ∙ all-nil tab x)
 
   module _ (h : n ≡ 0 → ⊥) where
     pub all-2 : length t ≡ 0 → IsAll tab s t n false
     all-2 k x ys b d = let (y, us, e, f, g) = first tab t n ys d h in absurd (starts-some tab t y f k)
 
     module _ (r : Bool) (a : IsAbove tab s t r) where
-      every : (x y : Term) (us : Terms) → Starts tab s x → Starts tab t y → all-above tab x (cons y us) ≡ (r && all-above tab x us)
-      every x y us b f = all-cons tab x y us ∙ ap (λ (w : Bool). w && all-above tab x us) (sym (a x y b f))
+      every : (x y : Term) (us : Terms) → Starts tab s x → Starts tab t y → all-above (rank tab) x (cons y us) ≡ (r && all-above (rank tab) x us)
+      every x y us b f = all-cons tab x y us ∙ ap (λ (w : Bool). w && all-above (rank tab) x us) (sym (a x y b f))
 
       pub all-3 : r ≡ true → (e : ℕ) → IsEnd tab t e → (p : Bool) → IsAll tab s (from t e) (n - 1) p → IsAll tab s t n p
       all-3 k i j p o x ys b d =
           let (y, us, e, f, g) = first tab t n ys d h in
-          sym (ap (all-above tab x) e ∙ every x y us b f ∙ rw k (sym (o x us b (g i (ended tab t i y j f)))))
+          sym (ap (all-above (rank tab) x) e ∙ every x y us b f ∙ rw k (sym (o x us b (g i (ended tab t i y j f)))))
 
       pub all-4 : r ≡ false → IsAll tab s t n false
       all-4 k x ys b d =
           let (y, us, e, f, g) = first tab t n ys d h in
-          sym (ap (all-above tab x) e ∙ every x y us b f ∙ rw k refl)
+          sym (ap (all-above (rank tab) x) e ∙ every x y us b f ∙ rw k refl)
 
 -- `comparison` returns
 module _ (tab s t : List ℕ) (p : Bool) (a : IsAbove tab s t p) where

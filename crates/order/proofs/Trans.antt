@@ -7,7 +7,7 @@ use Rattle.order.proofs.PathOrder.{Above, by-arg, by-rank, by-lex, With
 use Rattle.order.proofs.WellFounded.{len-trans, lex-len}
 
 module _ (rank : ℕ → ℕ) where
-  -- what is known of s by-above t where not by an argument of s
+  -- what is known of s above t where not by an argument of s
   abbrev Known : Term → Term → Type 0
   Known s (var x) = ⊥
   Known s (node g ts) =

@@ -1,18 +1,14 @@
 -- Every term is accessible for the inverse of `Above rank`. Assumes nothing.
 -- Read first: proofs/PathOrder.
-use mathlib.Core.WellFounded.{Acc, Acc·intro, Acc·inv, WellFounded}
+use mathlib.Core.WellFounded.{Acc, Acc·intro, Acc·inv}
 use Prim.Native.Nat.{ℕ, _<_}
 use lib.WfN.{Nat·lt-wfRel}
 use Rattle.terms.specs.Term.{Term, Terms, var, node, nil, cons}
-use Rattle.order.proofs.PathOrder.{SameLen, len-nil, len-cons, Above, by-arg, by-rank, by-lex, Within, here, by-above, later, AboveAll, all-nil, all-cons, Lex, first, next}
+use Rattle.order.proofs.PathOrder.{SameLen, len-nil, len-cons, Above, by-arg, by-rank, by-lex, Within, here, by-above, later, AboveAll, all-nil, all-cons, Lex, first, next, var-above, lex-nil}
 
 pub len-refl : (ss : Terms) → SameLen ss ss
 len-refl nil = len-nil
 len-refl (cons s ss) = len-cons (len-refl ss)
-
-pub len-sym : {ss ts : Terms} → SameLen ss ts → SameLen ts ss
-len-sym len-nil = len-nil
-len-sym (len-cons l) = len-cons (len-sym l)
 
 pub len-trans : {ss ts us : Terms} → SameLen ss ts → SameLen ts us → SameLen ss us
 len-trans len-nil len-nil = len-nil
@@ -35,9 +31,6 @@ module _ (rank : ℕ → ℕ) where
   lex-len (first a l) = len-cons l
   lex-len (next x) = len-cons (lex-len x)
 
-  no-lex : {ts : Terms} {A : Type 0} → Lex rank nil ts → A
-  no-lex = elim [ ]
-
   abbrev Outer : Terms → Term → Type 0
   Outer us s = (t : Term) → Above rank s t → (ts : Terms) → SameLen us ts → AllAcc ts → Acc LexBelow (cons t ts)
 
@@ -55,7 +48,7 @@ module _ (rank : ℕ → ℕ) where
   lex-outer ih (Acc·intro s h) ss l a = lex-inner s (λ t b. lex-outer ih (h t b)) (ih ss l a) l
 
   lex-acc : (us ss : Terms) → SameLen us ss → AllAcc ss → Acc LexBelow ss
-  lex-acc nil ss len-nil a = Acc·intro nil (λ ts p. no-lex (p .0))
+  lex-acc nil ss len-nil a = Acc·intro nil (λ ts p. absurd (lex-nil rank (p .0)))
   lex-acc (cons u us) ss (len-cons {ts = ts} l) (acc-cons x xs) = lex-outer (lex-acc us) x ts l xs
 
   -- some term of a list of accessible terms equals t or is above t
@@ -95,20 +88,14 @@ module _ (rank : ℕ → ℕ) where
   node-acc : (f : ℕ) (ss : Terms) → AllAcc ss → Acc Below (node f ss)
   node-acc f ss a = node-inner f (lower-acc (Nat·lt-wfRel .wf .apply (rank f))) a (lex-acc ss ss (len-refl ss) a)
 
-  no-above-var : {x : ℕ} {t : Term} {A : Type 0} → Above rank (var x) t → A
-  no-above-var = elim [ ]
-
   mutual
     pub above-acc : (t : Term) → Acc Below t
-    above-acc (var x) = Acc·intro (var x) (λ t d. no-above-var d)
+    above-acc (var x) = Acc·intro (var x) (λ t d. absurd (var-above rank d))
     above-acc (node f ss) = node-acc f ss (above-accs ss)
 
     pub above-accs : (ts : Terms) → AllAcc ts
     above-accs nil = acc-nil
     above-accs (cons t ts) = acc-cons (above-acc t) (above-accs ts)
-
-  pub above-wf : WellFounded Below
-  above-wf = record { apply = above-acc }
 
   no-loop : {t : Term} → Acc Below t → Above rank t t → ⊥
   no-loop (Acc·intro t h) d = no-loop (h t d) d

@@ -80,6 +80,20 @@ module _ {A : Type 0} {S : A → A → Type 0} where
       let f : _ ≡ j .at = normal-stays m (j .right) in
       cc
 
+-- What steps are mapped to steps, some steps are mapped to some steps.
+module _ {A B : Type 0} {S : A → A → Type 0} {T : B → B → Type 0} (f : A → B) (each : (a b : A) → S a b → T (f a) (f b)) where
+  pub star-map : {a b : A} → Star S a b → Star T (f a) (f b)
+  star-map stop = stop
+  star-map (move x s) = move (each _ _ x) (star-map s)
+
+  pub conv-map : {a b : A} → Conv S a b → Conv T (f a) (f b)
+  conv-map same = same
+  conv-map (ahead x s) = ahead (each _ _ x) (conv-map s)
+  conv-map (back x s) = back (each _ _ x) (conv-map s)
+
+  pub join-map : {a b : A} → Join S a b → Join T (f a) (f b)
+  join-map j = record { at = f (j .at); left = star-map (j .left); right = star-map (j .right) }
+
 -- (d) A normal form of `a`: where rewriting ended.
 pub record Last {A : Type 0} (S : A → A → Type 0) (a : A) : Type 0 where
   pub term : A

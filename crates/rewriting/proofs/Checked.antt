@@ -1,22 +1,17 @@
 -- What a completion engine checks of its rules at the end, and what follows: the rules decide the equations. Assumes nothing.
 -- Read first: proofs/Finite, proofs/Order, proofs/Converge.
-use mathlib.Core.Path.{_≡_, refl, sym, _∙_, ap, ap₂, subst, subst₂}
-use mathlib.Core.Logic.{_⊎_, inl, inr}
+use mathlib.Core.Path.{_≡_, refl, sym, ap, subst, subst₂}
 use mathlib.Core.List.{List, [], _∷_}
 use Prim.Native.Nat.{ℕ, _<_}
 use lib.ListN.{length}
-use Rattle.terms.specs.Term.{Term, size, variables, subst-term, Pair}
-use Rattle.terms.proofs.Shape.{same-term}
-use Rattle.terms.proofs.Subst.{Subst, In, VarsIn}
-use Rattle.terms.proofs.Context.{Ctx, plug, subst-context, subst-plug, agree-plug}
+use Rattle.terms.specs.Term.{Term, size, variables, Pair}
+use Rattle.terms.proofs.Subst.{In, VarsIn}
 use Rattle.terms.proofs.Places.{place}
-use Rattle.terms.proofs.Apart.{up, join, join-up, join-below}
 use Rattle.rewriting.specs.Overlap.{Rule, sides-of}
-use Rattle.rewriting.proofs.Relations.{Join, Conv, Ends, LocallyConfluent, Rules, Step, Of, Solves}
+use Rattle.rewriting.proofs.Relations.{Join, Conv, Ends, LocallyConfluent, Step, Of, Solves}
 use Rattle.rewriting.proofs.Abstract.{Reducible?}
-use Rattle.rewriting.proofs.Steps.{join-subst}
-use Rattle.rewriting.proofs.Critical.{MguOf, Clash, factor}
-use Rattle.rewriting.proofs.Finite.{lhs, rhs, PeakOf, IsNode, stands, finite-critical-pairs}
+use Rattle.rewriting.proofs.Critical.{PairDone, pair-peak}
+use Rattle.rewriting.proofs.Finite.{lhs, rhs, IsNode, stands, finite-critical-pairs}
 use Rattle.rewriting.proofs.Order.{ReductionOrder, order-ends}
 use Rattle.rewriting.proofs.Converge.{solves}
 use Rattle.rewriting.proofs.Stepping.{step-reducible}
@@ -33,50 +28,6 @@ sides-as-rules (e ∷ es) = ap (λ l. e ∷ l) (sides-as-rules es)
 
 pub reducible : (es : List Pair) → Reducible? (Step (Of es))
 reducible es = subst (λ l. Reducible? (Step (Of l))) (sides-as-rules es) (step-reducible (as-rules es))
-
--- Equality by the equations is decided, where rules solve them.
-pub equal? : {E R : Rules} → Solves E R → (s t : Term) → Dec (Conv (Step E) s t)
-equal? {E} v s t = go (same-term (v .final s) (v .final t))
-  where
-    go : Dec (v .final s ≡ v .final t) → Dec (Conv (Step E) s t)
-    go (yes e) = yes (v .same-final s t .0 e)
-    go (no n) = no (λ c. n (v .same-final s t .1 c))
-
--- The rule `l` to `r`, moved up by `k`, at the place `s` with `c` around it of another rule, whose right side is `r′`: nothing unifies, or a most
--- general unifier's pair is joinable.
-abbrev pub PairDone : Rules → (k : ℕ) (l r r′ : Term) (c : Ctx) (s : Term) → Type 0
-PairDone R k l r r′ c s =
-    Clash (subst-term (up k) l) s
-    ⊎ ((u : MguOf (subst-term (up k) l) s) × Join (Step R) (subst-term (u .m) (plug c (subst-term (up k) r))) (subst-term (u .m) r′))
-
-pub pair-peak : (R : Rules) (k : ℕ) (l r l′ r′ : Term) (c : Ctx) (s : Term) → l′ ≡ plug c s → VarsIn (λ (x : ℕ). x < k) l′ → VarsIn (λ (x : ℕ). x < k) r′ → PairDone R k l r r′ c s → PeakOf R l r r′ c s
-pair-peak R k l r l′ r′ c s e bl br done τ σ q = go done
-  where
-    θ : Subst
-    θ = join k σ τ
-
-    high : (t : Term) → subst-term θ (subst-term (up k) t) ≡ subst-term τ t
-    high = join-up k σ τ
-
-    low : (t : Term) → VarsIn (λ (x : ℕ). x < k) t → subst-term θ t ≡ subst-term σ t
-    low = join-below k σ τ
-
-    parts : (subst-context θ c ≡ subst-context σ c) × (subst-term θ s ≡ subst-term σ s)
-    parts = agree-plug θ σ c s (subst (λ z. subst-term θ z ≡ subst-term σ z) e (low l′ bl))
-
-    unified : subst-term θ (subst-term (up k) l) ≡ subst-term θ s
-    unified = high l ∙ (sym q ∙ sym (parts .1))
-
-    go : PairDone R k l r r′ c s → Join (Step R) (plug (subst-context σ c) (subst-term τ r)) (subst-term σ r′)
-    go (inl n) = absurd (n θ unified)
-    go (inr p) =
-        let u : MguOf (subst-term (up k) l) s = p .0 in
-        let δ : Subst = u .general .factors θ unified .0 in
-        let f : (t : Term) → subst-term θ t ≡ subst-term δ (subst-term (u .m) t) = factor θ (u .m) δ (u .general .factors θ unified .1) in
-        let left : subst-term δ (subst-term (u .m) (plug c (subst-term (up k) r))) ≡ plug (subst-context σ c) (subst-term τ r) =
-        sym (f (plug c (subst-term (up k) r))) ∙ (subst-plug θ c (subst-term (up k) r) ∙ ap₂ plug (parts .0) (high r)) in
-        let right : subst-term δ (subst-term (u .m) r′) ≡ subst-term σ r′ = sym (f r′) ∙ low r′ br in
-        subst (λ z. Join (Step R) z (subst-term σ r′)) left (subst (λ z. Join (Step R) (subst-term δ (subst-term (u .m) (plug c (subst-term (up k) r)))) z) right (join-subst δ (p .1)))
 
 -- The rules `rs` for the equations `es`, below the order `gt`, with every variable below `k`.
 pub record Founded (gt : Term → Term → Type 0) (k : ℕ) (es rs : List Pair) : Type 0 where

@@ -7,11 +7,12 @@ use Prim.Native.Nat.{ℕ, suc, zero, _+_, _-_, _≤_, _<_}
 use native.Mathlib.Omega.{arith}
 use lib.ListN.{length, getD}
 use Rattle.terms.specs.Base.{count-from}
-use Rattle.terms.specs.Term.{Term, var, Pair, size}
+use Rattle.terms.specs.Term.{Term, Pair, size}
 use Rattle.terms.proofs.Places.{size-pos}
 use Rattle.terms.proofs.Every.{Every, of-none, of-cons, every-append, every-left, every-right, every-map, every-head, counted}
 use Rattle.rewriting.specs.Overlap.{Rule, sides-of, Place, places, positions, places-with, places-self, all-places}
 use Rattle.rewriting.proofs.Relations.{Of}
+use Rattle.rewriting.proofs.Finite.{none-such}
 
 -- What holds of the rules holds of the two rules of every place; and its position is one of the outer rule's left side.
 module _ (H : Rule → Type 0) where
@@ -44,11 +45,8 @@ module _ (H : Rule → Type 0) where
       (all-places-hold (earlier ++ (rule ∷ [])) later (every-append h (of-cons p of-none)) k)
 
 -- The sides of a rule by its number.
-abbrev no-pair : Pair
-no-pair = record { left = var 0; right = var 0 }
-
 abbrev pub pair-at : List Rule → ℕ → Pair
-pair-at rules i = getD (sides-of rules) i no-pair
+pair-at rules i = getD (sides-of rules) i none-such
 
 pub sides-at : (H : Pair → Type 0) {rules : List Rule} → Every (λ (r : Rule). H (r .sides)) rules → (i : ℕ) → i < length (sides-of rules) → H (pair-at rules i)
 sides-at H of-none i h = absurd (omega arith)

@@ -1,20 +1,21 @@
 -- A list of rules: the critical pair lemma over the numbers of two rules and of a place. Assumes nothing.
--- Read first: proofs/Critical, terms/proofs/Places.
+-- Read first: proofs/Peak, proofs/Critical (`PeakOf`), terms/proofs/Places.
 use mathlib.Core.Path.{_≡_, refl, sym, _∙_, ap, subst}
-use mathlib.Core.List.{List, [], _∷_, List·Memᴰ·head, List·Memᴰ·tail}
-use Prim.Native.Nat.{ℕ, zero, suc, _<_}
+use mathlib.Core.List.{List, List·Memᴰ·head, List·Memᴰ·tail}
+use Prim.Native.Nat.{ℕ, suc, _<_}
 use native.Mathlib.Omega.{arith}
 use native.Mathlib.Decide.{decLt, ℕ-discrete}
 use lib.ListN.{length, getD}
 use Rattle.terms.specs.Term.{Term, Terms, var, node, size, variables, subst-term, Pair}
-use Rattle.terms.proofs.Subst.{Subst, In, VarsIn, subst-agree, at-variables}
+use Rattle.terms.proofs.Subst.{In, VarsIn, subst-agree, at-variables}
 use Rattle.terms.proofs.Context.{Ctx, hole, beneath, plug, subst-context}
 use Rattle.terms.proofs.Places.{number, At, place, place-unique, number-lt}
-use Rattle.rewriting.proofs.Relations.{Join, LocallyConfluent, Rules, Step, Of}
+use Rattle.rewriting.proofs.Relations.{Join, LocallyConfluent, Step, Of}
 use Rattle.rewriting.proofs.Abstract.{join-swap, join-refl}
-use Rattle.rewriting.proofs.Critical.{peaks-confluent}
+use Rattle.rewriting.proofs.Peak.{peaks-local}
+use Rattle.rewriting.proofs.Critical.{PeakOf}
 
-abbrev none-such : Pair
+abbrev pub none-such : Pair
 none-such = record { left = var 0; right = var 0 }
 
 -- The sides of the pair by its number.
@@ -37,15 +38,6 @@ stands l r (List·Memᴰ·tail m) =
     let s = stands l r m in
     let h : s .i < _ = s .below in
     record { i = suc (s .i); below = omega arith; is-l = s .is-l; is-r = s .is-r }
-
-pub of-index : (rs : List Pair) (i : ℕ) → i < length rs → Of rs (lhs rs i) (rhs rs i)
-of-index [] i h = absurd (omega arith)
-of-index (p ∷ rs) zero h = List·Memᴰ·head refl
-of-index (p ∷ rs) (suc i) h = List·Memᴰ·tail (of-index rs i (omega arith))
-
--- Every peak of a rule `l` to `r` at the place `s` of another rule's left side, with `c` around it, is joinable; `r′` is that rule's right side.
-abbrev pub PeakOf : Rules → (l r r′ : Term) (c : Ctx) (s : Term) → Type 0
-PeakOf R l r r′ c s = (τ σ : Subst) → subst-term σ s ≡ subst-term τ l → Join (Step R) (plug (subst-context σ c) (subst-term τ r)) (subst-term σ r′)
 
 -- No variable.
 pub data IsNode : Term → Type 0 where
@@ -92,10 +84,10 @@ module _ (rs : List Pair) (nodes : (i : ℕ) → i < length rs → IsNode (lhs r
   -- The critical pair lemma for a list of rules: two rules by number, a place of the second by number; at the root only the first before the second.
   pub finite-critical-pairs : LocallyConfluent (Step (Of rs))
   finite-critical-pairs =
-      peaks-confluent (Of rs) (λ o.
-      let a = stands (o .l) (o .r) (o .inner) in
-      let b = stands (o .l′) (o .r′) (o .outer) in
-      let h = any-place (a .i) (b .i) (a .below) (b .below) (o .c) (node (o .f) (o .ts)) (is-node (o .f) (o .ts)) (sym (b .is-l) ∙ o .place) (ℕ-discrete (number (o .c)) 0) in
-      subst (λ z. PeakOf (Of rs) z (o .r) (o .r′) (o .c) (node (o .f) (o .ts))) (sym (a .is-l))
-      (subst (λ z. PeakOf (Of rs) (lhs rs (a .i)) z (o .r′) (o .c) (node (o .f) (o .ts))) (sym (a .is-r))
-      (subst (λ z. PeakOf (Of rs) (lhs rs (a .i)) (rhs rs (a .i)) z (o .c) (node (o .f) (o .ts))) (sym (b .is-r)) h)))
+      peaks-local (λ l r l′ r′ inner outer c f ts e.
+      let a = stands l r inner in
+      let b = stands l′ r′ outer in
+      let h = any-place (a .i) (b .i) (a .below) (b .below) c (node f ts) (is-node f ts) (sym (b .is-l) ∙ e) (ℕ-discrete (number c) 0) in
+      subst (λ z. PeakOf (Of rs) z r r′ c (node f ts)) (sym (a .is-l))
+      (subst (λ z. PeakOf (Of rs) (lhs rs (a .i)) z r′ c (node f ts)) (sym (a .is-r))
+      (subst (λ z. PeakOf (Of rs) (lhs rs (a .i)) (rhs rs (a .i)) z c (node f ts)) (sym (b .is-r)) h)))

@@ -5,10 +5,10 @@ use mathlib.Core.Bool.{Bool, true, false}
 use mathlib.Core.Option.{Option, none, some}
 use mathlib.Core.List.{List}
 use Prim.Native.Nat.{ℕ, suc, zero, _≤_, _<_}
-use native.Mathlib.Omega.{arith}
 use lib.Dec.{ltb}
 use borrow.Author.Tests.{ltb-true, ltb-false}
 use Rattle.terms.specs.Base.{if_then_else_}
+use Rattle.terms.proofs.Shape.{zero≢one}
 use Rattle.terms.specs.Term.{Term, Pair, size}
 use Rattle.rewriting.specs.Overlap.{Rule}
 use Rattle.rewriting.specs.Rewrite.{step, End, spent, too-large, Paid, done, stop, Paying, return, end-with, and-then, _>>=_, end-if, pay, hold, normalise, normalise-pair}
@@ -140,4 +140,4 @@ module _ (E : End → ℕ → Type 0) (rules : List Rule) (out-of-units : E spen
 
 -- an end is no answer
 pub stop≢done : {A : Type 0} {a : A} {e : End} {l m : ℕ} → stop e l ≡ done a m → ⊥
-stop≢done q = let z : _≡_ {A = ℕ} 0 1 = cc in omega arith
+stop≢done q = zero≢one (cc)

@@ -12,7 +12,6 @@ pub mod Finite
 pub mod Checked
 pub mod Overlaps
 pub mod PathOrder
-pub mod Example
 pub mod Covers
 pub mod Lower
 pub mod Variables

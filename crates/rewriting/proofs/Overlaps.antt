@@ -21,7 +21,8 @@ use Rattle.rewriting.proofs.Relations.{Join, Conv, same, ahead, back, R
 use Rattle.rewriting.proofs.Steps.{instance, step-plug}
 use Rattle.rewriting.proofs.Finite.{lhs, rhs, IsNode, is-node}
 use Rattle.rewriting.proofs.Order.{ReductionOrder}
-use Rattle.rewriting.proofs.Checked.{PairDone, checked-solves, Founded}
+use Rattle.rewriting.proofs.Critical.{PairDone}
+use Rattle.rewriting.proofs.Checked.{checked-solves, Founded}
 
 -- What an overlap is made of.
 pub record Made (inner outer : Pair) (p : ℕ) (o : Overlap) : Type 0 where

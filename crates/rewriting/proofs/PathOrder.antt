@@ -1,4 +1,4 @@
--- The path order is a reduction order, so rewriting by rules that go down in it ends. Assumes nothing.
+-- The path order is a reduction order, so rules that go down in it and whose overlaps join solve the equations. Assumes nothing.
 -- Read first: proofs/Order, proofs/Overlaps, order/proofs/Closure.
 use mathlib.Core.Path.{_≡_}
 use mathlib.Core.Bool.{true}
@@ -12,16 +12,13 @@ use Rattle.order.specs.Order.{above}
 use Rattle.order.proofs.WellFounded.{above-acc}
 use Rattle.order.proofs.Closure.{above-subst, above-plug, above-vars}
 use Rattle.order.proofs.Decide.{above-dec}
-use Rattle.rewriting.proofs.Relations.{Join, Conv, Ends, Rules, Step, Of, Solves}
-use Rattle.rewriting.proofs.Order.{ReductionOrder, order-ends}
+use Rattle.rewriting.proofs.Relations.{Join, Conv, Step, Of, Solves}
+use Rattle.rewriting.proofs.Order.{ReductionOrder}
 use Rattle.rewriting.proofs.Finite.{lhs, rhs, IsNode, is-node}
 use Rattle.rewriting.proofs.Overlaps.{settled-solves, OverlapsJoin}
 
 pub above-order : (rank : ℕ → ℕ) → ReductionOrder (Above rank)
 above-order rank = record { founded = above-acc rank; on-subst = λ σ t u a. above-subst rank σ a; on-plug = λ c t u a. above-plug rank c a }
-
-pub above-ends : (rank : ℕ → ℕ) (R : Rules) → ((l r : Term) → R l r → above rank l r ≡ true) → Ends (Step R)
-above-ends rank R down = order-ends (above-order rank) (λ l r ρ. above-dec rank l r .0 (down l r ρ))
 
 -- What is above another term is no variable.
 pub above-is-node : (rank : ℕ → ℕ) {s t : Term} → Above rank s t → IsNode s

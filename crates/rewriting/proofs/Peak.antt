@@ -9,10 +9,10 @@ use Rattle.terms.specs.Term.{Term, Terms, var, node, nil, cons, subst-term, sub
 use Rattle.terms.proofs.Subst.{Subst}
 use Rattle.terms.proofs.Context.{Ctx, Ctxs, hole, beneath, first, later, plug, plugs, subst-context, subst-contexts}
 use Rattle.rewriting.proofs.Relations.{Star, stop, Join, LocallyConfluent, Rules, Step, Steps, root, inside, here, there}
-use Rattle.rewriting.proofs.Abstract.{append, one, star-eq, join-swap}
-use Rattle.rewriting.proofs.Steps.{stars-subst, stars-plug, star-node, star-head, star-tail}
+use Rattle.rewriting.proofs.Abstract.{append, one, star-eq, join-swap, join-map}
+use Rattle.rewriting.proofs.Steps.{stars-subst, stars-plug}
 
--- A step from `substT σ t` to `v`, seen from `t`: it is below a variable of `t`, or at a place of `t` that is no variable.
+-- A step from `subst-term σ t` to `v`, seen from `t`: it is below a variable of `t`, or at a place of `t` that is no variable.
 pub data Fall (R : Term → Term → Type 0) (σ : ℕ → Term) : Term → Term → Type 0 where
   at-var : {t v : Term} (c : Ctx) (x : ℕ) (w : Term) → t ≡ plug c (var x) → Step R (σ x) w → v ≡ plug (subst-context σ c) w → Fall R σ t v
   at-node : {t v l r : Term} (c : Ctx) (f : ℕ) (ts : Terms) → t ≡ plug c (node f ts) → R l r → (τ : ℕ → Term) → subst-term σ (node f ts) ≡ subst-term τ l → v ≡ plug (subst-context σ c) (subst-term τ r) → Fall R σ t v
@@ -84,7 +84,7 @@ module _ {R : Rules} where
   put-star σ x w s y (yes e) = one (subst (λ z. Step R (σ z) w) (sym e) s)
   put-star σ x w s y (no n) = stop
 
--- Each peak at a proper overlap is joinable: an instance `substT τ l` of the inner rule's left side stands at a place of the outer rule's left side
+-- Each peak at a proper overlap is joinable: an instance `subst-term τ l` of the inner rule's left side stands at a place of the outer rule's left side
 -- that is no variable.
 abbrev pub PeaksJoin : Rules → Type 0
 PeaksJoin R =
@@ -112,13 +112,13 @@ module _ {R : Rules} (peaks : PeaksJoin R) where
   peak {t} {u} {v} {l} {r} ρ σ e d s = subst (λ z. Join (Step R) v z) (sym d) (peak-fall ρ σ (fall l t v e s))
 
   join-node : {ts us : Terms} (f : ℕ) → Join (Steps R) ts us → Join (Step R) (node f ts) (node f us)
-  join-node f j = record { at = node f (j .at); left = star-node f (j .left); right = star-node f (j .right) }
+  join-node f = join-map (node f) (λ t u. inside)
 
   join-head : {t u : Term} (ts : Terms) → Join (Step R) t u → Join (Steps R) (cons t ts) (cons u ts)
-  join-head ts j = record { at = cons (j .at) ts; left = star-head ts (j .left); right = star-head ts (j .right) }
+  join-head ts = join-map (λ t. cons t ts) (λ t u. here)
 
   join-tail : {ts us : Terms} (t : Term) → Join (Steps R) ts us → Join (Steps R) (cons t ts) (cons t us)
-  join-tail t j = record { at = cons t (j .at); left = star-tail t (j .left); right = star-tail t (j .right) }
+  join-tail t = join-map (cons t) (λ ts us. there)
 
   mutual
     two : {t u v : Term} → Step R t u → Step R t v → Join (Step R) u v

@@ -132,14 +132,6 @@ module _ (rules : List Rule) where
   pub step-none : (t : Term) → step rules t ≡ none → Normal (StepBy rules) t
   step-none t e = rw e at (stepped t)
 
-  -- And at a normal term it answers none.
-  pub normal-none : (t : Term) → Normal (StepBy rules) t → step rules t ≡ none
-  normal-none t n = go (step rules t) refl
-    where
-      go : (o : Option Term) → step rules t ≡ o → step rules t ≡ none
-      go none e = e
-      go (some u) e = absurd (n u (step-sound t u e))
-
   pub step-reducible : Reducible? (StepBy rules)
   step-reducible t = go (step rules t) refl
     where

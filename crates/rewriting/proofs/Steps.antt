@@ -5,8 +5,8 @@ use Prim.Native.Nat.{ℕ}
 use Rattle.terms.specs.Term.{Term, Terms, var, node, nil, cons, subst-term, subst-terms}
 use Rattle.terms.proofs.Subst.{Subst, then, subst-subst}
 use Rattle.terms.proofs.Context.{Ctx, Ctxs, hole, beneath, first, later, plug, plugs, subst-context, subst-contexts}
-use Rattle.rewriting.proofs.Relations.{Star, stop, move, Conv, same, ahead, back, Join, Rules, Step, Steps, root, inside, here, there}
-use Rattle.rewriting.proofs.Abstract.{append, chain}
+use Rattle.rewriting.proofs.Relations.{Star, stop, Conv, Join, Rules, Step, Steps, root, inside, here, there}
+use Rattle.rewriting.proofs.Abstract.{append, chain, star-map, conv-map, join-map}
 
 -- An instance of a rule's left side is rewritten to that of its right side.
 pub instance : (R : Rules) {l r : Term} → R l r → (σ : Subst) → Step R (subst-term σ l) (subst-term σ r)
@@ -37,57 +37,33 @@ module _ {R : Rules} where
     steps-plug (first c ts) s = here (step-plug c s)
     steps-plug (later x cs) s = there (steps-plug cs s)
 
-  pub star-subst : {t u : Term} (δ : Subst) → Star (Step R) t u → Star (Step R) (subst-term δ t) (subst-term δ u)
-  star-subst δ stop = stop
-  star-subst δ (move x s) = move (step-subst δ x) (star-subst δ s)
-
-  pub star-plug : {t u : Term} (c : Ctx) → Star (Step R) t u → Star (Step R) (plug c t) (plug c u)
-  star-plug c stop = stop
-  star-plug c (move x s) = move (step-plug c x) (star-plug c s)
-
-  pub conv-plug : {t u : Term} (c : Ctx) → Conv (Step R) t u → Conv (Step R) (plug c t) (plug c u)
-  conv-plug c same = same
-  conv-plug c (ahead x s) = ahead (step-plug c x) (conv-plug c s)
-  conv-plug c (back x s) = back (step-plug c x) (conv-plug c s)
-
   pub conv-subst : {t u : Term} (δ : Subst) → Conv (Step R) t u → Conv (Step R) (subst-term δ t) (subst-term δ u)
-  conv-subst δ same = same
-  conv-subst δ (ahead x s) = ahead (step-subst δ x) (conv-subst δ s)
-  conv-subst δ (back x s) = back (step-subst δ x) (conv-subst δ s)
+  conv-subst δ = conv-map (subst-term δ) (λ t u. step-subst δ)
 
   pub join-subst : {t u : Term} (δ : Subst) → Join (Step R) t u → Join (Step R) (subst-term δ t) (subst-term δ u)
-  join-subst δ j = record { at = subst-term δ (j .at); left = star-subst δ (j .left); right = star-subst δ (j .right) }
+  join-subst δ = join-map (subst-term δ) (λ t u. step-subst δ)
 
   -- Steps in the arguments.
   pub star-node : {ts us : Terms} (f : ℕ) → Star (Steps R) ts us → Star (Step R) (node f ts) (node f us)
-  star-node f stop = stop
-  star-node f (move x s) = move (inside x) (star-node f s)
+  star-node f = star-map (node f) (λ t u. inside)
 
   pub star-head : {t u : Term} (ts : Terms) → Star (Step R) t u → Star (Steps R) (cons t ts) (cons u ts)
-  star-head ts stop = stop
-  star-head ts (move x s) = move (here x) (star-head ts s)
+  star-head ts = star-map (λ t. cons t ts) (λ t u. here)
 
   pub star-tail : {ts us : Terms} (t : Term) → Star (Steps R) ts us → Star (Steps R) (cons t ts) (cons t us)
-  star-tail t stop = stop
-  star-tail t (move x s) = move (there x) (star-tail t s)
+  star-tail t = star-map (cons t) (λ ts us. there)
 
   pub star-cons : {t u : Term} {ts us : Terms} → Star (Step R) t u → Star (Steps R) ts us → Star (Steps R) (cons t ts) (cons u us)
   star-cons {u = u} {ts = ts} s q = append (star-head ts s) (star-tail u q)
 
   pub conv-node : {ts us : Terms} (f : ℕ) → Conv (Steps R) ts us → Conv (Step R) (node f ts) (node f us)
-  conv-node f same = same
-  conv-node f (ahead x s) = ahead (inside x) (conv-node f s)
-  conv-node f (back x s) = back (inside x) (conv-node f s)
+  conv-node f = conv-map (node f) (λ t u. inside)
 
   pub conv-head : {t u : Term} (ts : Terms) → Conv (Step R) t u → Conv (Steps R) (cons t ts) (cons u ts)
-  conv-head ts same = same
-  conv-head ts (ahead x s) = ahead (here x) (conv-head ts s)
-  conv-head ts (back x s) = back (here x) (conv-head ts s)
+  conv-head ts = conv-map (λ t. cons t ts) (λ t u. here)
 
   pub conv-tail : {ts us : Terms} (t : Term) → Conv (Steps R) ts us → Conv (Steps R) (cons t ts) (cons t us)
-  conv-tail t same = same
-  conv-tail t (ahead x s) = ahead (there x) (conv-tail t s)
-  conv-tail t (back x s) = back (there x) (conv-tail t s)
+  conv-tail t = conv-map (cons t) (λ ts us. there)
 
   pub conv-cons : {t u : Term} {ts us : Terms} → Conv (Step R) t u → Conv (Steps R) ts us → Conv (Steps R) (cons t ts) (cons u us)
   conv-cons {u = u} {ts = ts} s q = chain (conv-head ts s) (conv-tail u q)

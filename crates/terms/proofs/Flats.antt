@@ -1,18 +1,18 @@
--- Well-formed terms: more variables may be allowed, the walk over their bytes stops at their end, their bytes determine them, and their subterms are
--- well-formed. Assumes nothing.
--- Read first: specs/Flat, proofs/Scans.
-use mathlib.Core.Path.{_≡_, refl, ap, ap₂, sym, _∙_, subst}
-use mathlib.Core.Bool.{Bool, true, false}
+-- Well-formed terms: more variables may be allowed, the walk over their bytes stops at their end, their bytes determine them and are below 128 + n, and
+-- their subterms are well-formed. Assumes nothing.
+-- Read first: specs/Flat, proofs/Scans, proofs/Limits (`Made`).
+use mathlib.Core.Path.{_≡_, refl, ap, ap₂, sym, _∙_}
 use mathlib.Core.List.{List, _++_, append-assoc}
 use mathlib.Core.Option.{some}
-use Prim.Native.Nat.{ℕ, zero, suc, _+_, _-_, _≤_}
+use Prim.Native.Nat.{ℕ, _+_, _≤_, _<_}
 use native.Mathlib.Omega.{arith}
-use lib.Dec.{ltb}
-use Rattle.terms.specs.Base.{if_then_else_}
-use Rattle.terms.specs.Term.{Term, var, node, Terms, nil, cons, term-bytes, terms-bytes, size, subterm-at, subterm-in}
+use Rattle.terms.specs.Term.{Term, var, node, Terms, nil, cons, term-bytes, terms-bytes, size, subterm-at}
 use Rattle.terms.specs.Scan.{arity, count, skip}
 use Rattle.terms.specs.Flat.{Wf, Wfs}
-use Rattle.terms.proofs.Shape.{none≢some}
+use Rattle.terms.proofs.Subst.{VarsIn}
+use Rattle.terms.proofs.Every.{Every}
+use Rattle.terms.proofs.Positions.{Inherits, subterm-inherits}
+use Rattle.terms.proofs.Limits.{Made, MadeAll, made-vars, made-bytes}
 use Rattle.terms.proofs.Scans.{skip-bytes, skip-none}
 
 -- more variables may be allowed
@@ -62,22 +62,39 @@ mutual
       (ap₂ cons (i .0) (j .0), j .1)
 
 -- Subterms are well-formed.
-in-part : (b : Bool) (n : ℕ) (tab : List ℕ) (t : Term) (ts : Terms) (p : ℕ) (u : Term) → ltb p (size t) ≡ b → subterm-in (cons t ts) p ≡ some u →
-    (subterm-at t p ≡ some u → Wf n tab u) → (subterm-in ts (p - size t) ≡ some u → Wf n tab u) → Wf n tab u
-unfolding subterm-at if_then_else_
-in-part true n tab t ts p u h e f g = f (rw h at e)
-in-part false n tab t ts p u h e f g = g (rw h at e)
+wf-inherits : (n : ℕ) (tab : List ℕ) → Inherits (Wf n tab) (Wfs n tab)
+unfolding Wf
+wf-inherits n tab = record { arguments = λ f ts w. w .2; head = λ t ts w. w .0; tail = λ t ts w. w .1 }
 
+pub wf-subterm : (n : ℕ) (tab : List ℕ) (t : Term) (p : ℕ) (u : Term) → Wf n tab t → subterm-at t p ≡ some u → Wf n tab u
+wf-subterm n tab t p u w e = subterm-inherits (wf-inherits n tab) t p u e w
+
+-- Their symbols are below 16, and other bounds of the variables are enough.
 mutual
-  unfolding subterm-at Wf
+  unfolding Wf Made
 
-  pub wf-subterm : (n : ℕ) (tab : List ℕ) (t : Term) (p : ℕ) (u : Term) → Wf n tab t → subterm-at t p ≡ some u → Wf n tab u
-  wf-subterm n tab (var x) zero u w e = let q : var x ≡ u = cc in subst (Wf n tab) q w
-  wf-subterm n tab (var x) (suc p) u w e = absurd (none≢some e)
-  wf-subterm n tab (node f ts) zero u w e = let q : node f ts ≡ u = cc in subst (Wf n tab) q w
-  wf-subterm n tab (node f ts) (suc p) u w e = wf-subterm-in n tab ts p u (w .2) e
+  pub wf-made : (n : ℕ) (tab : List ℕ) (t : Term) → Wf n tab t → Made (λ f. f < 16) (λ x. x < n) t
+  wf-made n tab (var x) w = w
+  wf-made n tab (node f ts) w = (w .0, wfs-made n tab ts (w .2))
 
-  pub wf-subterm-in : (n : ℕ) (tab : List ℕ) (ts : Terms) (p : ℕ) (u : Term) → Wfs n tab ts → subterm-in ts p ≡ some u → Wf n tab u
-  wf-subterm-in n tab nil p u w e = absurd (none≢some e)
-  wf-subterm-in n tab (cons t ts) p u w e =
-      in-part (ltb p (size t)) n tab t ts p u refl e (λ h. wf-subterm n tab t p u (w .0) h) (λ h. wf-subterm-in n tab ts (p - size t) u (w .1) h)
+  pub wfs-made : (n : ℕ) (tab : List ℕ) (ts : Terms) → Wfs n tab ts → MadeAll (λ f. f < 16) (λ x. x < n) ts
+  wfs-made n tab nil w = tt
+  wfs-made n tab (cons t ts) w = (wf-made n tab t (w .0), wfs-made n tab ts (w .1))
+
+module _ (S : ℕ → Type 0) where
+  mutual
+    unfolding Wf Made
+
+    pub made-wf : (m n : ℕ) (tab : List ℕ) (t : Term) → Wf m tab t → Made S (λ x. x < n) t → Wf n tab t
+    made-wf m n tab (var x) w h = h
+    made-wf m n tab (node f ts) w h = (w .0, w .1, mades-wf m n tab ts (w .2) (h .1))
+
+    pub mades-wf : (m n : ℕ) (tab : List ℕ) (ts : Terms) → Wfs m tab ts → MadeAll S (λ x. x < n) ts → Wfs n tab ts
+    mades-wf m n tab nil w h = tt
+    mades-wf m n tab (cons t ts) w h = (made-wf m n tab t (w .0) (h .0), mades-wf m n tab ts (w .1) (h .1))
+
+pub wf-below : (n : ℕ) (tab : List ℕ) (t : Term) → Wf n tab t → VarsIn (λ x. x < n) t
+wf-below n tab t w = made-vars (λ f. f < 16) (λ x. x < n) t (wf-made n tab t w)
+
+pub wf-bytes : (n : ℕ) (tab : List ℕ) (t : Term) → Wf n tab t → Every (λ b. b < 128 + n) (term-bytes t)
+wf-bytes n tab t w = made-bytes (λ f. f < 16) (λ x. x < n) (λ b. b < 128 + n) (λ f h. omega arith) (λ x h. omega arith) t (wf-made n tab t w)
