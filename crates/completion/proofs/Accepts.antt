@@ -1,5 +1,5 @@
--- What is read fits: a problem that is accepted has at most 16 symbols and 16 equations, whose sides have at most 120 nodes and variables below 16.
--- Assumes nothing.
+-- What is read fits: a problem that is accepted has at most 16 symbols and 16 equations, whose sides have at most 120 nodes and variables below 16;
+-- also where compare, unify and subterm read it. Assumes nothing.
 -- Read first: problem/proofs/Reading, proofs/Limits.
 use mathlib.Core.Path.{_≡_}
 use mathlib.Core.Bool.{Bool, true, false, _||_}
@@ -11,8 +11,9 @@ use lib.ListN.{length}
 use borrow.Author.Tests.{ltb-false}
 use Rattle.terms.specs.Base.{number-from}
 use Rattle.terms.specs.Term.{Term, size}
-use Rattle.terms.proofs.Every.{Every, of-none, of-cons}
-use Rattle.problem.specs.Problem.{ok, Field, Symbol, read-symbols, symbol-field, budget-field, Part, read-side, Equation, equation-field, equation-fields, Problem, parse}
+use Rattle.terms.proofs.Every.{Every, of-none, of-cons, every-head}
+use Rattle.problem.specs.Problem.{ok, Field, Symbol, read-symbols, symbol-field, budget-field, Part, read-side, Equation, equation-field, equation-fields, Problem, parse, only-equation}
+use Rattle.completion.specs.Calls.{Single, parse-single}
 use Rattle.problem.specs.Over.{Over}
 use Rattle.completion.proofs.Over.{OverPair, OverEquations}
 use Rattle.problem.proofs.Reading.{ReadsTo, reads, from-bind, no-ok, ok-injective, passed}
@@ -111,3 +112,24 @@ accepts bytes P e =
     let q : record { symbols = Σ; budget = budget; equations = es } ≡ P = ok-injective e in
     let k : EquationsFit Σ 16 es = equations-fit Σ 16 (b .end) (b .rest) es d in
     rw (← q) (record { symbols-few = symbols-few s Σ a; budget-few = budget-few b budget c; equations-few = k .few; equations-fit = k .fit; equations-over = k .over })
+
+-- So does the equation of a problem that has exactly one.
+only-fits : (Q : Equation → Type 0) (end : ℕ) (es : List Equation) (e : Equation) → Every Q es → only-equation end es ≡ ok e → Q e
+unfolding only-equation
+only-fits Q end [] e h q = absurd (no-ok q)
+only-fits Q end (d ∷ []) e h q = let r : d ≡ e = cc in rw (← r) (every-head h)
+only-fits Q end (d ∷ d′ ∷ es) e h q = absurd (no-ok q)
+
+-- what compare, unify and subterm read
+pub record SingleFits (S : Single) : Type 0 where
+  pub symbols-few : length (S .symbols) ≤ 16
+  pub fits : HeldPair (length (S .symbols)) 16 (S .equation .sides)
+
+pub single-fits : (bytes : List ℕ) (S : Single) → parse-single bytes ≡ ok S → SingleFits S
+unfolding parse-single
+single-fits bytes S q =
+    from-bind _ _ S q λ P a q.
+    from-bind _ _ S q λ e b q.
+    let r : record { symbols = P .symbols; equation = e } ≡ S = cc in
+    let k : Accepted P = accepts bytes P a in
+    rw (← r) (record { symbols-few = k .symbols-few; fits = only-fits _ (length bytes) (P .equations) e (k .equations-fit) b })

@@ -1,13 +1,13 @@
 -- What a run keeps: a property of rules and one of waiting pairs, closed under the few things that a turn does. Assumes nothing.
 -- Read first: proofs/Ends, proofs/Reachable.
 use mathlib.Core.Path.{_≡_, refl, sym, subst}
-use mathlib.Core.Bool.{Bool, true, false}
+use mathlib.Core.Bool.{true}
 use mathlib.Core.List.{List, [], _∷_, List·Memᴰ, List·Memᴰ·head, List·Memᴰ·tail}
 use mathlib.Core.Option.{some}
 use Prim.Native.Nat.{ℕ, suc, _≤_}
 use native.Mathlib.Omega.{arith}
 use lib.ListN.{length}
-use Rattle.terms.specs.Base.{if_then_else_}
+use Rattle.terms.proofs.Shape.{either-has}
 use Rattle.terms.specs.Term.{Term, Pair, pair-variables, renamed}
 use Rattle.terms.proofs.Below.{swapped, swapped-variables}
 use Rattle.terms.proofs.Every.{Every, of-none, of-cons, every-one, every-in, every-append}
@@ -22,26 +22,18 @@ use Rattle.completion.proofs.Reachable.{Reachable, from-start, by-turn,
 
 -- Every rule is kept or joins the waiting list.
 module _ {Q : Rule → Type 0} (new : Rule) where
-  keep : (b : Bool) (old : Rule) (rest : List Rule) → Q old → Every Q rest → Every Q (if b then rest else (old ∷ rest))
-  unfolding if_then_else_
-  keep true old rest q h = h
-  keep false old rest q h = of-cons q h
-
   pub kept-every : {rules : List Rule} → Every Q rules → Every Q (kept new rules)
   unfolding kept
   kept-every of-none = of-none
-  kept-every (of-cons {x = old} {l = rules} q h) = keep (rewrites new old) old (kept new rules) q (kept-every h)
+  kept-every (of-cons {x = old} {l = rules} q h) =
+      either-has (Every Q) (rewrites new old) (kept new rules) (old ∷ kept new rules) (kept-every h) (of-cons q (kept-every h))
 
 module _ {W : Candidate → Type 0} where
-  join : (b : Bool) (c : Candidate) (rest : List Candidate) → W c → Every W rest → Every W (if b then (c ∷ rest) else rest)
-  unfolding if_then_else_
-  join true c rest q h = of-cons q h
-  join false c rest q h = h
-
   pub removed-every : {Q : Rule → Type 0} (new : Rule) {rules : List Rule} → ((old : Rule) → Q old → W (record { origin = removed-rule (old .number); sides = old .sides })) → Every Q rules → Every W (removed new rules)
   unfolding removed
   removed-every new f of-none = of-none
-  removed-every new f (of-cons {x = old} {l = rules} q h) = join (rewrites new old) _ (removed new rules) (f old q) (removed-every new f h)
+  removed-every new f (of-cons {x = old} {l = rules} q h) =
+      either-has (Every W) (rewrites new old) _ (removed new rules) (of-cons (f old q) (removed-every new f h)) (removed-every new f h)
 
 -- What holds of the equations, renamed, holds of the candidates.
 pub candidates-every : (W : Pair → Type 0) (origin : ℕ → Origin) (n : ℕ) (es : List Equation) → ((e : Equation) → List·Memᴰ e es → W (renamed (e .sides))) →

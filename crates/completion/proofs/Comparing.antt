@@ -3,14 +3,11 @@
 use mathlib.Core.Path.{_≡_, refl, sym, ap}
 use mathlib.Core.Bool.{Bool, true, false}
 use Prim.Native.Nat.{ℕ}
-use native.Mathlib.Omega.{arith}
+use Rattle.rewriting.proofs.Holds.{stop≢done}
 use Rattle.terms.specs.Base.{if_then_else_}
 use Rattle.terms.specs.Term.{Pair, same}
 use Rattle.rewriting.specs.Rewrite.{End, complete, Paid, done, stop, Paying, return, and-then}
 use Rattle.completion.specs.Turn.{Origin, Candidate, if-different}
-
-apart : _≡_ {A = ℕ} 0 1 → ⊥
-apart z = omega arith
 
 done-answer : {A : Type 0} {a b : A} {m n : ℕ} → done a m ≡ done b n → a ≡ b
 done-answer e = cc
@@ -19,7 +16,7 @@ done-left : {A : Type 0} {a b : A} {m n : ℕ} → done a m ≡ done b n → m �
 done-left e = cc
 
 done≢stop : {A : Type 0} {a : A} {e : End} {m n : ℕ} → done a m ≡ stop e n → ⊥
-done≢stop h = apart (cc)
+done≢stop h = stop≢done (sym h)
 
 module _ (o : Origin) where
   abbrev compared : Paid Pair → Paying Candidate → Paid Candidate

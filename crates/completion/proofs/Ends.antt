@@ -1,5 +1,5 @@
 -- What a turn does, and what each of its ends says of the state that it began with. Assumes nothing.
--- Read first: specs/Turn, rewriting/proofs/Holds.
+-- Read first: specs/Turn, rewriting/proofs/Holds, proofs/Turning (`next-state`).
 use mathlib.Core.Path.{_≡_}
 use mathlib.Core.Bool.{true, false}
 use mathlib.Core.Logic.{_⊎_}
@@ -7,6 +7,7 @@ use mathlib.Core.List.{List, [], _∷_, _++_, List·Memᴰ}
 use mathlib.Core.Option.{some}
 use Prim.Native.Nat.{ℕ, suc, _≤_, _<_}
 use lib.ListN.{length}
+use Rattle.completion.proofs.Turning.{new-rule, next-state}
 use Rattle.terms.specs.Term.{Term, Pair, same, size, pair-variables, renamed}
 use Rattle.terms.proofs.Below.{swapped}
 use Rattle.terms.proofs.Every.{Every}
@@ -16,7 +17,7 @@ use Rattle.rewriting.specs.Rewrite.{End, complete, neither-above, spent, too-la
 use Rattle.rewriting.proofs.Covers.{HoldsAt}
 use Rattle.rewriting.proofs.Holds.{Form, Forms, Outgrown}
 use Rattle.problem.specs.Problem.{rank-of, Problem}
-use Rattle.completion.specs.Turn.{overlapping, Candidate, scanned-input, State, Taken, candidates, kept, removed, settled}
+use Rattle.completion.specs.Turn.{overlapping, Candidate, scanned-input, State, Taken, candidates, kept, settled}
 
 -- Step 1: what is taken.
 abbrev pub inputs : Problem → List Candidate
@@ -61,26 +62,15 @@ pub data Rights (new : Rule) (older : List Rule) : List Rule → List Rule → T
   one-more : {before done later : List Rule} {old : Rule} {r : Term} → Rights new older before (old ∷ later) → Form (before ++ (old ∷ later) ++ (new ∷ [])) (old .sides .right) r →
       done ≡ before ++ (with-right old r ∷ []) → Rights new older done later
 
-abbrev pub new-rule : State → Pair → Rule
-new-rule s sides = record { number = suc (s .made); sides = sides }
-
 abbrev pub older-rules : State → Pair → List Rule
 older-rules s sides = kept (new-rule s sides) (s .rules)
-
-abbrev pub with-rule : State → Taken → Pair → List Rule → State
-with-rule s t sides rules = record {
-  rules = rules;
-  made = suc (s .made);
-  waiting = t .waiting ++ removed (new-rule s sides) (s .rules);
-  log = s .log ++ (record { origin = t .pair .origin; made = suc (s .made) } ∷ []);
-}
 
 -- The next state.
 pub data Next (P : Problem) (s : State) : State → Type 0 where
   settles : {s′ : State} (t : Taken) → Takes P s t → length (s .log) < 512 → t .pair .sides .left ≡ t .pair .sides .right → s′ ≡ settled s t → Next P s s′
   makes : {s′ : State} (t : Taken) → Takes P s t → length (s .log) < 512 → same (t .pair .sides .left) (t .pair .sides .right) ≡ false →
       length (pair-variables (t .pair .sides)) ≤ 16 → (sides : Pair) → Oriented P (t .pair .sides) sides → suc (length (older-rules s sides)) ≤ 32 →
-      (done : List Rule) → Rights (new-rule s sides) (older-rules s sides) done [] → s′ ≡ with-rule s t sides (done ++ (new-rule s sides ∷ [])) → Next P s s′
+      (done : List Rule) → Rights (new-rule s sides) (older-rules s sides) done [] → s′ ≡ next-state s t sides (done ++ (new-rule s sides ∷ [])) → Next P s s′
 
 -- 0: nothing waits, the sides of each overlap have one normal form, and so have those of each input equation.
 pub record SameForm (rules : List Rule) (e : Pair) : Type 0 where

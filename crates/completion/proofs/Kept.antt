@@ -2,25 +2,26 @@
 -- Read first: proofs/Limits, proofs/Closed.
 use mathlib.Core.Path.{_≡_, refl, sym, ap, _∙_, subst}
 use mathlib.Core.Bool.{Bool, true, false}
-use mathlib.Core.List.{List, [], _∷_, _++_, append-assoc, append-nil}
+use mathlib.Core.List.{List, [], _∷_, _++_, append-assoc, append-nil, map-append}
 use mathlib.Core.Option.{some}
 use Prim.Native.Nat.{ℕ, suc, _+_, _≤_, _<_}
 use native.Mathlib.Omega.{arith}
-use lib.ListN.{length, length-append}
+use lib.ListN.{length, length-append, length-map}
+use Rattle.completion.proofs.Turning.{new-rule, next-state}
 use Rattle.terms.specs.Base.{if_then_else_}
 use Rattle.terms.specs.Term.{Term, Pair, size, renamed}
-use Rattle.terms.proofs.Every.{Every, of-none, of-cons, every-head, every-tail, every-one, every-in, every-append, every-map, every-both}
+use Rattle.terms.proofs.Every.{Every, of-none, of-cons, every-head, every-tail, every-one, every-in, every-append, every-map, every-both, every-mapped, mapped-every}
 use Rattle.rewriting.specs.Overlap.{Rule, Overlap, overlap, Place, all-places}
-use Rattle.rewriting.specs.Rewrite.{step, log-full}
+use Rattle.rewriting.specs.Rewrite.{step}
 use Rattle.rewriting.proofs.Limits.{step-made, MaybeOverlap, overlap-made}
 use Rattle.rewriting.proofs.Covers.{all-places-hold}
 use Rattle.rewriting.proofs.Holds.{Reached, reached-keeps}
 use Rattle.problem.specs.Problem.{Problem}
 use Rattle.completion.specs.Turn.{Origin, overlapping, scanned-input, Candidate, State, Taken, rewrites, kept, removed, settled, run}
 use Rattle.completion.proofs.Limits.{Held, HeldPair, OriginFits, CandidateFits, RuleFits, EntryFits, Ascending, numbers, Limits, Accepted, later-origin, later-candidate, later-entry, pair-wide, renamed-held, few-variables, candidates-fit, initial-limits}
-use Rattle.completion.proofs.Ends.{inputs, Small, Source, of-waiting, of-overlap, of-input, Takes, Rights, none-yet, one-more, with-right, new-rule, older-rules, with-rule, Next, settles, makes, Neither}
+use Rattle.completion.proofs.Ends.{inputs, Small, Source, of-waiting, of-overlap, of-input, Takes, Rights, none-yet, one-more, with-right, older-rules, Next, settles, makes, Neither}
 use Rattle.completion.proofs.Closed.{Closed, Has, taken-has, next-has, kept-every, removed-every}
-use Rattle.completion.proofs.Reachable.{Reachable, from-start, by-turn, turn-next, run-stops, run-log-full}
+use Rattle.completion.proofs.Reachable.{Reachable, from-start, by-turn, turn-next, run-stops}
 
 -- Places.
 pub record PlaceFits (n made : ℕ) (at : Place) : Type 0 where
@@ -72,22 +73,8 @@ unfolding Ascending
 ascending-last n made lo [] new l m of-none h = (omega arith, tt)
 ascending-last n made lo (r ∷ rules) new l m (of-cons q f) h = (h .0, ascending-last n made (r .number) rules new (q .last) m f (h .1))
 
-pub numbers-append : (a b : List Rule) → numbers (a ++ b) ≡ numbers a ++ numbers b
-numbers-append [] b = refl
-numbers-append (r ∷ a) b = ap (λ l. r .number ∷ l) (numbers-append a b)
-
-pub length-numbers : (a : List Rule) → length (numbers a) ≡ length a
-length-numbers [] = refl
-length-numbers (r ∷ a) = ap suc (length-numbers a)
-
--- Rules by their numbers.
-numbers-every : {Q : ℕ → Type 0} {rules : List Rule} → Every (λ (r : Rule). Q (r .number)) rules → Every Q (numbers rules)
-numbers-every of-none = of-none
-numbers-every (of-cons q h) = of-cons q (numbers-every h)
-
-every-numbers : {Q : ℕ → Type 0} (rules : List Rule) → Every Q (numbers rules) → Every (λ (r : Rule). Q (r .number)) rules
-every-numbers [] h = of-none
-every-numbers (r ∷ rules) (of-cons q h) = of-cons q (every-numbers rules h)
+numbers-append : (a b : List Rule) → numbers (a ++ b) ≡ numbers a ++ numbers b
+numbers-append = map-append (λ (r : Rule). r .number)
 
 -- Normalising right sides keeps the numbers.
 moved : (before later : List Rule) (old old′ : Rule) → old′ .number ≡ old .number → numbers (before ++ (old′ ∷ []) ++ later) ≡ numbers (before ++ (old ∷ later))
@@ -208,13 +195,13 @@ module _ (P : Problem) (ok : Accepted P) where
 
     -- Limits of the state with a new rule, whose rules are numbered like the older ones and it, and are held.
     made-limits : (t : Taken) (sides : Pair) (rules : List Rule) → TakenFits t → length (s .log) < 512 → suc (length (older-rules s sides)) ≤ 32 →
-        numbers rules ≡ numbers (older-rules s sides ++ (new-rule s sides ∷ [])) → Every (λ (r : Rule). HeldPair symbols 16 (r .sides)) rules → Limits symbols (with-rule s t sides rules)
+        numbers rules ≡ numbers (older-rules s sides ++ (new-rule s sides ∷ [])) → Every (λ (r : Rule). HeldPair symbols 16 (r .sides)) rules → Limits symbols (next-state s t sides rules)
     made-limits t sides rules f room live same held =
         let new : Rule = new-rule s sides in
         let m : ℕ = suc (s .made) in
         let older : List Rule = older-rules s sides in
         let older-fit : Every (RuleFits symbols (s .made)) older = kept-every new (lim .rules-fit) in
-        let count : length rules ≡ length older + 1 = sym (length-numbers rules) ∙ ap length same ∙ length-numbers (older ++ (new ∷ [])) ∙ length-append older (new ∷ []) in
+        let count : length rules ≡ length older + 1 = sym (length-map rules (λ (r : Rule). r .number)) ∙ ap length same ∙ length-map (older ++ (new ∷ [])) (λ (r : Rule). r .number) ∙ length-append older (new ∷ []) in
         let all : length older + length (removed new (s .rules)) ≡ length (s .rules) = kept-removed new (s .rules) in
         let waits : length (t .waiting ++ removed new (s .rules)) ≡ length (t .waiting) + length (removed new (s .rules)) = length-append (t .waiting) (removed new (s .rules)) in
         let logs : length (s .log ++ (record { origin = t .pair .origin; made = m } ∷ [])) ≡ length (s .log) + 1 = length-append (s .log) (record { origin = t .pair .origin; made = m } ∷ []) in
@@ -222,10 +209,10 @@ module _ (P : Problem) (ok : Accepted P) where
         let made : s .made ≤ length (s .log) = lim .made-few in
         let numbered : Every (λ k. (1 ≤ k) × (k ≤ m)) (numbers rules) =
         subst (Every (λ k. (1 ≤ k) × (k ≤ m))) (sym same)
-        (numbers-every (every-append (every-map (λ r h. (h .first, (let l : r .number ≤ s .made = h .last in omega arith))) older-fit) (every-one {x = new} (omega arith, omega arith)))) in
+        (every-mapped (λ (r : Rule). r .number) (every-append (every-map (λ r h. (h .first, (let l : r .number ≤ s .made = h .last in omega arith))) older-fit) (every-one {x = new} (omega arith, omega arith)))) in
         record {
           live = omega arith;
-          rules-fit = every-map (λ r h. record { first = h .0 .0; last = h .0 .1; fits = h .1 }) (every-both (every-numbers rules numbered) held);
+          rules-fit = every-map (λ r h. record { first = h .0 .0; last = h .0 .1; fits = h .1 }) (every-both (mapped-every (λ (r : Rule). r .number) rules numbered) held);
           ascending = rw same (ascending-last symbols (s .made) 0 older new (omega arith) (omega arith) older-fit (ascending-kept new 0 (s .rules) (lim .ascending)));
           made-few = omega arith;
           log-few = omega arith;
@@ -252,7 +239,3 @@ module _ (P : Problem) (ok : Accepted P) where
   -- The two forms of end 20 fit.
   pub neither-fits : (e : Pair) → Neither P (run P .state) e → HeldPair symbols 32 e
   neither-fits e h = rw (h .is-taken) (taken-fits (run P .state) run-limits (h .taken) (h .takes) .fits)
-
-  -- 23 for the log comes with exactly 512 entries.
-  pub log-is-full : run P .end ≡ log-full → length (run P .state .log) ≡ 512
-  log-is-full e = omega (arith, run-log-full P e, run-limits .log-few)

@@ -5,6 +5,7 @@ use mathlib.Core.List.{List, [], _∷_}
 use mathlib.Core.Option.{Option, none, some}
 use lib.Dec.{ltb, leb}
 use lib.ListN.{length}
+use Rattle.terms.proofs.Shape.{either-has}
 use Rattle.terms.specs.Base.{if_then_else_}
 use Rattle.terms.specs.Term.{Term, Pair, same, size, renamed}
 use Rattle.rewriting.specs.Overlap.{Rule, Overlap, Place}
@@ -33,11 +34,6 @@ pub record Lawful (L : (A : Type 0) → Paying A → Type 0) : Type 1 where
   pub normalised : (rules : List Rule) (t : Term) → L Term (normalise rules t)
 
 module _ (L : (A : Type 0) → Paying A → Type 0) (k : Lawful L) where
-  if-lawful : (A : Type 0) (b : Bool) (m n : Paying A) → L A m → L A n → L A (if b then m else n)
-  unfolding if_then_else_
-  if-lawful A true m n f g = f
-  if-lawful A false m n f g = g
-
   end-if-lawful : (b : Bool) (e : End) → Other e → L (Unit {0}) (end-if b e)
   unfolding end-if
   end-if-lawful true e o = k .ended _ e o
@@ -66,7 +62,7 @@ module _ (L : (A : Type 0) → Paying A → Type 0) (k : Lawful L) where
 
   different-lawful : (origin : Origin) (forms : Pair) (next : Paying Candidate) → L Candidate next → L Candidate (if-different origin forms next)
   unfolding if-different
-  different-lawful origin forms next f = if-lawful _ _ _ _ f (k .returned _ _)
+  different-lawful origin forms next f = either-has (L _) _ _ _ f (k .returned _ _)
 
   different-overlap-lawful : (at : Place) (o : Option Pair) (next : Paying Candidate) → L Candidate next → L Candidate (if-different-overlap at o next)
   unfolding if-different-overlap
@@ -90,7 +86,7 @@ module _ (L : (A : Type 0) → Paying A → Type 0) (k : Lawful L) where
 
   orient-lawful : (P : Problem) (e : Pair) → L Pair (orient P e)
   unfolding orient
-  orient-lawful P e = if-lawful _ _ _ _ (k .returned _ _) (if-lawful _ _ _ _ (k .returned _ _) (k .ended _ (neither-above e) tt))
+  orient-lawful P e = either-has (L _) _ _ _ (k .returned _ _) (either-has (L _) _ _ _ (k .returned _ _) (k .ended _ (neither-above e) tt))
 
   rights-lawful : (before rules : List Rule) (new : Rule) → L (List Rule) (normalise-rights before rules new)
   unfolding normalise-rights
@@ -114,7 +110,7 @@ module _ (L : (A : Type 0) → Paying A → Type 0) (k : Lawful L) where
   rest-lawful P s =
       k .bound _ _ _ _ (take-lawful P (s .rules) (s .waiting)) λ t.
       k .bound _ _ _ _ (end-if-lawful _ log-full tt) λ _.
-      if-lawful _ _ _ _ (k .returned _ _) (make-lawful P s t)
+      either-has (L _) _ _ _ (k .returned _ _) (make-lawful P s t)
 
   pub turn-lawful : (P : Problem) (s : State) → L State (turn P s)
   unfolding turn

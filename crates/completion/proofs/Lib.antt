@@ -24,7 +24,8 @@ pub mod Capacity
 pub mod Steady
 pub mod Raised
 pub mod Ledger
-pub mod UnifyLimits
+pub mod Ranks
+pub mod Writing
 pub mod ReadBack
 pub mod Promised
 pub mod Computes

@@ -109,6 +109,12 @@ unfolding candidates
 length-candidates origin k [] = refl
 length-candidates origin k (e ∷ es) = ap suc (length-candidates origin (suc k) es)
 
+pub candidates-sides : (origin : ℕ → Origin) (k : ℕ) (es : List Equation) →
+    map (λ (e : Equation). renamed (e .sides)) es ≡ map (λ (c : Candidate). c .sides) (candidates origin k es)
+unfolding candidates
+candidates-sides origin k [] = refl
+candidates-sides origin k (e ∷ es) = ap (λ z. renamed (e .sides) ∷ z) (candidates-sides origin (suc k) es)
+
 pub candidates-fit : (n made : ℕ) (origin : ℕ → Origin) → ((k : ℕ) → 1 ≤ k → k ≤ 16 → OriginFits made (origin k)) →
     (k : ℕ) (es : List Equation) → 1 ≤ k → k + length es ≤ 17 → Every (λ e. HeldPair n 16 (e .sides)) es → Every (CandidateFits n 16 made) (candidates origin k es)
 unfolding candidates

@@ -9,9 +9,10 @@ use Rattle.terms.specs.Term.{Term, Terms, var, node, nil, cons, variables, vari
 use Rattle.terms.proofs.Subst.{Subst, In, VarsIn, count-subst}
 use Rattle.terms.proofs.Every.{Every}
 use Rattle.terms.proofs.Context.{Ctx, Ctxs, hole, beneath, first, later, plug, plugs}
-use Rattle.terms.proofs.Positions.{Found, found}
+use Rattle.terms.proofs.Positions.{Found, found, plug-inherits, subterm-inherits}
 use Rattle.unify.specs.Unify.{single, Binding, under, mgu}
-use Rattle.unify.proofs.Limits.{Replaces, Answers, chosen-keeps, mgu-keeps, under-keeps}
+use Rattle.terms.proofs.Shape.{either-has}
+use Rattle.unify.proofs.Limits.{Replaces, Answers, mgu-keeps, under-keeps}
 use Rattle.rewriting.specs.Overlap.{Overlap, overlap, apart}
 use Rattle.rewriting.proofs.Relations.{Rules, Step, here, Star, stop, move}
 use Rattle.rewriting.proofs.Order.{StepAt, step-at}
@@ -19,7 +20,7 @@ use Rattle.rewriting.proofs.Overlaps.{Made, made}
 use Rattle.problem.specs.Problem.{Symbol, Equation}
 use Rattle.problem.specs.Over.{Over, OverAll}
 use Rattle.terms.specs.Scan.{count}
-use Rattle.completion.proofs.Words.{over-plug, over-at}
+use Rattle.completion.proofs.Words.{over-inherits, over-at}
 
 -- a filled context has as many arguments
 pub count-plugs : (cs : Ctxs) (a b : Term) → count (plugs cs a) ≡ count (plugs cs b)
@@ -74,7 +75,7 @@ module _ (Σ : List Symbol) where
     over-refills (later s cs) a b h o = (h .0, over-refills cs a b (h .1) o)
 
   pub over-subterm : (t : Term) (p : ℕ) (u : Term) → subterm-at t p ≡ some u → Over Σ t → Over Σ u
-  over-subterm t p u e o = let f : Found t p u = found t p u e in over-plug Σ (f .c) u (subst (Over Σ) (f .whole) o)
+  over-subterm t p u e o = subterm-inherits (over-inherits Σ) t p u e o
 
   pub over-replace : (t : Term) (p : ℕ) (u v : Term) → subterm-at t p ≡ some u → Over Σ t → Over Σ v → Over Σ (replace-at t p v)
   over-replace t p u v e o q =
@@ -87,7 +88,7 @@ module _ (Σ : List Symbol) where
   over-step R right vars s t w o =
       let p : StepAt R s t = step-at w in
       let o′ : Over Σ (plug (p .c) (subst-term (p .σ) (p .l))) = subst (Over Σ) (p .before) o in
-      let at-l : Over Σ (subst-term (p .σ) (p .l)) = over-plug Σ (p .c) _ o′ in
+      let at-l : Over Σ (subst-term (p .σ) (p .l)) = plug-inherits (over-inherits Σ) (p .c) _ o′ in
       let at-r : Over Σ (subst-term (p .σ) (p .r)) =
       over-subst (p .σ) (p .r) (λ x i. over-at Σ (p .σ) (p .l) at-l x (vars _ _ (p .rule) x i)) (right _ _ (p .rule)) in
       subst (Over Σ) (sym (p .after)) (over-refill (p .c) _ _ o′ at-r)
@@ -102,10 +103,8 @@ module _ (Σ : List Symbol) where
   unfolding Over single
   over-replaces =
       record {
-        arguments = λ f ts o. o .2;
-        first = λ t ts o. o .0;
-        others = λ t ts o. o .1;
-        replaced = λ x u t o q. over-subst (single x u) t (λ y i. chosen-keeps (Over Σ) (eqb x y) u (var y) o (over-var y)) q;
+        inherits = over-inherits Σ;
+        replaced = λ x u t o q. over-subst (single x u) t (λ y i. either-has (Over Σ) (eqb x y) u (var y) o (over-var y)) q;
       }
 
   -- what a most general unifier of two such terms makes of such a term

@@ -10,6 +10,7 @@ use Prim.Native.Nat.{ℕ, _≤_, _%_}
 use native.Mathlib.Omega.{arith}
 use lib.Dec.{eqb}
 use lib.ListN.{length}
+use Rattle.terms.proofs.Shape.{zero≢one}
 use Rattle.terms.specs.Base.{if_then_else_, number-bytes, Tagged}
 use Rattle.terms.proofs.Every.{Every, of-none, of-cons, every-one, every-append, every-map, every-both}
 use Rattle.rewriting.specs.Overlap.{Rule}
@@ -28,18 +29,15 @@ use Rattle.completion.proofs.Result.{fields-fit}
 use Rattle.completion.proofs.ReadBack.{fields-are, Fits, no-rules, rules-back}
 use Rattle.completion.proofs.Delivered.{delivered}
 
-apart : _≡_ {A = ℕ} 0 1 → ⊥
-apart z = omega arith
-
 -- "0, complete"; the other ends are 20 to 23.
 end-zero : (e : End) → (some (end-number e % 256) ≡ some 0) ↔ (e ≡ complete)
 unfolding end-number
 end-zero complete = (λ h. refl, λ h. refl)
-end-zero (neither-above e) = (λ h. absurd (apart (cc)), λ h. absurd (apart (cc)))
-end-zero spent = (λ h. absurd (apart (cc)), λ h. absurd (apart (cc)))
-end-zero too-large = (λ h. absurd (apart (cc)), λ h. absurd (apart (cc)))
-end-zero rules-full = (λ h. absurd (apart (cc)), λ h. absurd (apart (cc)))
-end-zero log-full = (λ h. absurd (apart (cc)), λ h. absurd (apart (cc)))
+end-zero (neither-above e) = (λ h. absurd (zero≢one (cc)), λ h. absurd (zero≢one (cc)))
+end-zero spent = (λ h. absurd (zero≢one (cc)), λ h. absurd (zero≢one (cc)))
+end-zero too-large = (λ h. absurd (zero≢one (cc)), λ h. absurd (zero≢one (cc)))
+end-zero rules-full = (λ h. absurd (zero≢one (cc)), λ h. absurd (zero≢one (cc)))
+end-zero log-full = (λ h. absurd (zero≢one (cc)), λ h. absurd (zero≢one (cc)))
 
 -- the log and the two normal forms are no rules
 entries-other : (log : List Entry) → Every (λ (f : Tagged). eqb (f .tag) 0x12 ≡ false) (map entry-field log)

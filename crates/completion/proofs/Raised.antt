@@ -4,6 +4,7 @@ use mathlib.Core.Path.{_≡_, refl, sym, ap, subst, _∙_}
 use mathlib.Core.List.{List, [], _∷_}
 use Prim.Native.Nat.{ℕ, zero, suc, _+_, _-_, _<_}
 use native.Mathlib.Omega.{arith}
+use Rattle.completion.proofs.Turning.{turns-on}
 use Rattle.rewriting.specs.Overlap.{Rule}
 use Rattle.rewriting.specs.Rewrite.{End, complete, neither-above, spent, too-large, rules-full, log-full, Paid, done, stop}
 use Rattle.problem.specs.Problem.{Problem}
@@ -93,10 +94,6 @@ run-more P k o =
     ∙ ap (λ s. turns (suc (P .budget + k)) (raised k P) s (P .budget + k)) (initial-same P k)
     ∙ other (run P .end) (Unit {0}) (turns (suc (P .budget + k)) (raised k P) (initial P) (P .budget + k) ≡ run P) o h
 
-one-turn : (n : ℕ) (P : Problem) (s s′ : State) (left left′ : ℕ) → turn P s left ≡ done s′ left′ → turns (suc n) P s left ≡ turns n P s′ left′
-unfolding turns
-one-turn n P s s′ left left′ e = rw (e, turns) refl
-
 -- A run can be taken up again in any state that it came to, also with a greater budget: only the units then left count.
 pub resume : (P : Problem) (k : ℕ) {s : State} {left : ℕ} → Reachable P s left → (m : ℕ) → left + k < m → run (raised k P) ≡ turns m (raised k P) s (left + k)
 unfolding run
@@ -109,5 +106,5 @@ resume P k (by-turn {s} {s′} {left} {left′} r e) m h =
     let less : left′ < left = turn-less P s s′ left left′ e in
     let q : turn (raised k P) s (left + k) ≡ done s′ (left′ + k) = ap (λ f. f (left + k)) (turn-same P k s) ∙ turn-more P s s′ left left′ k e in
     resume P k r (suc (left + k)) (omega arith)
-    ∙ one-turn (left + k) (raised k P) s s′ (left + k) (left′ + k) q
+    ∙ turns-on (left + k) (raised k P) s s′ (left + k) (left′ + k) q
     ∙ turns-enough (left + k) m (raised k P) s′ (left′ + k) (omega arith) h

@@ -5,6 +5,7 @@ use mathlib.Core.List.{[], _∷_}
 use Prim.Native.Nat.{ℕ, zero, suc, _+_, _-_, _≤_, _<_}
 use native.Mathlib.Omega.{arith}
 use lib.ListN.{length, length-append}
+use Rattle.completion.proofs.Turning.{turn-unpaid}
 use Rattle.terms.specs.Term.{Pair}
 use Rattle.rewriting.specs.Rewrite.{End, complete, neither-above, spent, too-large, rules-full, log-full, Paid, done, stop, and-then, _>>=_, pay}
 use Rattle.rewriting.proofs.Holds.{Holds, stop≢done}
@@ -49,13 +50,9 @@ unfolding turn _>>=_ and-then pay left-of Fair
 turn-left P s zero = omega arith
 turn-left P s (suc left) = omega (arith, rest-of-turn P s left)
 
-spent-at-once : (P : Problem) (s : State) → turn P s 0 ≡ stop spent 0
-unfolding turn _>>=_ and-then pay
-spent-at-once P s = refl
-
 pub turn-less : (P : Problem) (s s′ : State) (left left′ : ℕ) → turn P s left ≡ done s′ left′ → left′ < left
 unfolding left-of
-turn-less P s s′ zero left′ e = absurd (stop≢done (sym (spent-at-once P s) ∙ e))
+turn-less P s s′ zero left′ e = absurd (stop≢done (sym (turn-unpaid P s) ∙ e))
 turn-less P s s′ (suc left) left′ e = let h : left-of (turn P s (suc left)) ≤ suc left - 1 = turn-left P s (suc left) in let k : left′ ≤ suc left - 1 = rw e at h in omega arith
 
 pub stop-left : (P : Problem) (s : State) (left left′ : ℕ) (e : End) → turn P s left ≡ stop e left′ → left′ ≤ left

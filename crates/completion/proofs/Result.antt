@@ -1,15 +1,16 @@
 -- The result: at most 13,715 bytes, each below 256, and every field's length below 256. Assumes nothing.
 -- Read first: specs/Calls, proofs/Kept.
-use mathlib.Core.Path.{_≡_, refl, sym, ap, _∙_}
-use mathlib.Core.List.{List, [], _∷_, _++_, map, flatMap, append-assoc}
+use mathlib.Core.Path.{_≡_, refl, ap, _∙_}
+use mathlib.Core.List.{List, [], _∷_, _++_, map, flatMap}
 use Prim.Native.Nat.{ℕ, _+_, _*_, _≤_, _<_}
 use native.Mathlib.Omega.{arith}
 use lib.ListN.{length, length-append}
+use Rattle.terms.proofs.Lists.{flatMap-append}
 use Rattle.terms.specs.Base.{number-bytes, Tagged, field-bytes}
 use Rattle.terms.specs.Term.{Pair, size, term-bytes, renamed}
 use Rattle.terms.proofs.Bytes.{length-bytes}
 use Rattle.terms.proofs.Limits.{Bytes, number-bytes-bytes, length-number-bytes, field-bytes-bytes, length-field-bytes, term-bytes-bytes}
-use Rattle.terms.proofs.Every.{Every, of-none, every-head, every-tail, every-one, of-cons, every-append}
+use Rattle.terms.proofs.Every.{Every, of-none, every-head, every-tail, every-one, of-cons, every-append, every-map, every-mapped, every-of}
 use Rattle.rewriting.specs.Overlap.{Rule}
 use Rattle.rewriting.specs.Rewrite.{End, complete, neither-above, spent, too-large, rules-full, log-full}
 use Rattle.problem.specs.Problem.{Problem}
@@ -28,11 +29,6 @@ pub record FieldFits (most : ℕ) (f : Tagged) : Type 0 where
 
 abbrev flat : List Tagged → List ℕ
 flat fs = flatMap field-bytes fs
-
-flat-append : (a b : List Tagged) → flat (a ++ b) ≡ flat a ++ flat b
-unfolding flatMap
-flat-append [] b = refl
-flat-append (f ∷ a) b = ap (λ l. field-bytes f ++ l) (flat-append a b) ∙ sym (append-assoc (field-bytes f) (flat a) (flat b))
 
 flat-bytes : (most : ℕ) (fs : List Tagged) → Every (FieldFits most) fs → Bytes (flat fs)
 unfolding flatMap
@@ -106,8 +102,7 @@ entry-field-fits e =
     }
 
 rules-fit : (n made : ℕ) → n ≤ 16 → (rules : List Rule) → Every (RuleFits n made) rules → Every (FieldFits 242) (map rule-field rules)
-rules-fit n made l [] h = of-none
-rules-fit n made l (r ∷ rules) h = of-cons (rule-field-fits n made l r (every-head h)) (rules-fit n made l rules (every-tail h))
+rules-fit n made l rules h = every-mapped rule-field (every-map (rule-field-fits n made l) h)
 
 rules-length : (rules : List Rule) → Every (FieldFits 242) (map rule-field rules) → length (flat (map rule-field rules)) ≤ 245 * length rules
 rules-length [] h = unfold flatMap in omega arith
@@ -118,8 +113,7 @@ rules-length (r ∷ rules) h =
     omega (arith, flat-cons (rule-field r) (map rule-field rules))
 
 entries-fit : (log : List Entry) → Every (FieldFits 242) (map entry-field log)
-entries-fit [] = of-none
-entries-fit (e ∷ log) = of-cons (entry-field-fits e) (entries-fit log)
+entries-fit log = every-mapped entry-field (every-of log (λ e i. entry-field-fits e))
 
 entries-length : (log : List Entry) → length (flat (map entry-field log)) ≡ 11 * length log
 entries-length [] = unfold flatMap in refl
@@ -183,8 +177,8 @@ module _ (P : Problem) (a : Accepted P) where
       let lim : Limits (length (P .symbols)) (run P .state) = run-limits P a in
       let c1 = flat-cons (record { tag = 0x10; contents = number-bytes 1 (end-number (run P .end)) }) (record { tag = 0x11; contents = number-bytes 4 (run P .units) } ∷ (rules ++ log ++ forms)) in
       let c2 = flat-cons (record { tag = 0x11; contents = number-bytes 4 (run P .units) }) (rules ++ log ++ forms) in
-      let c3 = ap length (flat-append (rules ++ log) forms) ∙ length-append (flat (rules ++ log)) (flat forms) in
-      let c4 = ap length (flat-append rules log) ∙ length-append (flat rules) (flat log) in
+      let c3 = ap length (flatMap-append field-bytes (rules ++ log) forms) ∙ length-append (flat (rules ++ log)) (flat forms) in
+      let c4 = ap length (flatMap-append field-bytes rules log) ∙ length-append (flat rules) (flat log) in
       let r : length (flat rules) ≤ 245 * length (run P .state .rules) = rules-length (run P .state .rules) (rules-fit (length (P .symbols)) (run P .state .made) (a .symbols-few) (run P .state .rules) (lim .rules-fit)) in
       let l : length (flat log) ≡ 11 * length (run P .state .log) = entries-length (run P .state .log) in
       let f : length (flat forms) + 11 * length (run P .state .log) ≤ 5864 = forms-fit (run P .end) refl .room in

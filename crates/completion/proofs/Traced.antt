@@ -8,6 +8,7 @@ use mathlib.Core.Option.{Option, none, some}
 use Prim.Native.Nat.{ℕ, _≤_, _<_}
 use lib.ListN.{length}
 use borrow.Author.Tests.{ltb-true, ltb-false, leb-true, leb-false}
+use Rattle.completion.proofs.Turning.{new-rule, next-state}
 use Rattle.terms.specs.Term.{Pair, same, pair-variables, renamed}
 use Rattle.terms.proofs.Shape.{none≢some, some-inj, same-dec}
 use Rattle.terms.proofs.Every.{Every, of-none, of-cons, every-of}
@@ -17,7 +18,7 @@ use Rattle.rewriting.proofs.Covers.{HoldsAt}
 use Rattle.rewriting.proofs.Holds.{Form, Forms, Pays, bind-holds, return-holds, end-with-holds, end-if-holds, if-holds, pay-holds, hold-holds, normalise-holds, normalise-pair-holds}
 use Rattle.problem.specs.Problem.{Problem}
 use Rattle.completion.specs.Turn.{overlapping, Candidate, State, Taken, kept, scan-overlap, if-different, if-different-overlap, scan-inputs, scan, take-pair, orient, normalise-rights, make-rule, turn}
-use Rattle.completion.proofs.Ends.{inputs, Scanned, Source, of-waiting, of-overlap, of-input, Takes, Oriented, as-taken, other-way, Rights, none-yet, one-more, new-rule, older-rules, with-rule, Next, settles, makes, SameForm, SameAt, SameCandidate, Certified, Large, in-taking, in-overlap, in-right, variables, Because}
+use Rattle.completion.proofs.Ends.{inputs, Scanned, Source, of-waiting, of-overlap, of-input, Takes, Oriented, as-taken, other-way, Rights, none-yet, one-more, older-rules, Next, settles, makes, SameForm, SameAt, SameCandidate, Certified, Large, in-taking, in-overlap, in-right, variables, Because}
 
 module _ (P : Problem) (s : State) where
   abbrev pub E : End → ℕ → Type 0
@@ -129,7 +130,7 @@ module _ (P : Problem) (s : State) where
       bind-holds _ _ (end-if-holds _ rules-full (λ q left. record { sides = sides; over = ltb-true 32 _ q })) λ _ live.
       bind-holds _ _ (rights-traced (new-rule s sides) [] (older-rules s sides) (none-yet refl refl)) λ rules g.
       return-holds _
-      (makes t h room d (ltb-false 16 _ few) sides o (ltb-false 32 _ live) (g .0) (g .1) (ap (with-rule s t sides) (g .2)))
+      (makes t h room d (ltb-false 16 _ few) sides o (ltb-false 32 _ live) (g .0) (g .1) (ap (next-state s t sides) (g .2)))
 
   pub turn-traced : Pays (Next P s) (Because P s) (turn P s)
   unfolding turn Because

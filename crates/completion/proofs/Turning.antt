@@ -9,7 +9,7 @@ use Prim.Native.Nat.{ℕ, zero, suc, _≤_, _<_, _-_}
 use native.Mathlib.Omega.{arith}
 use lib.Dec.{ltb, leb}
 use lib.ListN.{length}
-use borrow.Author.Tests.{le-leb, lt-ltb, ltb-true, leb-true}
+use borrow.Author.Tests.{le-leb, lt-leb, lt-ltb, le-ltb}
 use Rattle.terms.specs.Base.{if_then_else_}
 use Rattle.terms.specs.Term.{Pair, same, pair-variables}
 use Rattle.rewriting.specs.Overlap.{Rule, overlap, Place, all-places}
@@ -43,16 +43,9 @@ module _ (P : Problem) (s : State) (units : ℕ) where
     unfolding end-if end-with and-then
     turn-log-full full = rest ∙ ap (λ b. and-then (end-if b log-full left) later) (le-leb 512 (length (s .log)) full)
 
-    fits : length (s .log) < 512 → leb 512 (length (s .log)) ≡ false
-    fits few = go (leb 512 (length (s .log))) refl
-      where
-        go : (b : Bool) → leb 512 (length (s .log)) ≡ b → b ≡ false
-        go false e = refl
-        go true e = absurd (omega (arith, leb-true 512 (length (s .log)) e))
-
     past-log : length (s .log) < 512 → turn P s (suc units) ≡ (if same (t .pair .sides .left) (t .pair .sides .right) then return (settled s t) else make-rule P s t) left
     unfolding end-if return and-then
-    past-log few = rest ∙ ap (λ b. and-then (end-if b log-full left) later) (fits few)
+    past-log few = rest ∙ ap (λ b. and-then (end-if b log-full left) later) (lt-leb 512 (length (s .log)) few)
 
     pub turn-settles : length (s .log) < 512 → same (t .pair .sides .left) (t .pair .sides .right) ≡ true → turn P s (suc units) ≡ done (settled s t) left
     unfolding if_then_else_ return
@@ -108,18 +101,11 @@ module _ (P : Problem) (s : State) (t : Taken) (units : ℕ) where
     unfolding _>>=_ and-then end-if end-with
     make-rules-full full = from ∙ ap (λ b. and-then (end-if b rules-full left) (composed sides)) (lt-ltb 32 (suc (length (kept (new-rule s sides) (s .rules)))) full)
 
-    few-false : suc (length (kept (new-rule s sides) (s .rules))) ≤ 32 → ltb 32 (suc (length (kept (new-rule s sides) (s .rules)))) ≡ false
-    few-false few = go (ltb 32 (suc (length (kept (new-rule s sides) (s .rules))))) refl
-      where
-        go : (b : Bool) → ltb 32 (suc (length (kept (new-rule s sides) (s .rules)))) ≡ b → b ≡ false
-        go false e = refl
-        go true e = absurd (omega (arith, ltb-true 32 (suc (length (kept (new-rule s sides) (s .rules)))) e))
-
     past-rules : suc (length (kept (new-rule s sides) (s .rules))) ≤ 32 →
         make-rule P s t units
         ≡ and-then (normalise-rights [] (kept (new-rule s sides) (s .rules)) (new-rule s sides) left) (λ rules. return (next-state s t sides rules))
     unfolding _>>=_ and-then end-if return
-    past-rules few = from ∙ ap (λ b. and-then (end-if b rules-full left) (composed sides)) (few-false few)
+    past-rules few = from ∙ ap (λ b. and-then (end-if b rules-full left) (composed sides)) (le-ltb 32 (suc (length (kept (new-rule s sides) (s .rules)))) few)
 
     pub make-rights-stop : suc (length (kept (new-rule s sides) (s .rules))) ≤ 32 → (e : End) (now : ℕ) →
         normalise-rights [] (kept (new-rule s sides) (s .rules)) (new-rule s sides) left ≡ stop e now → make-rule P s t units ≡ stop e now
@@ -210,11 +196,11 @@ pub run-begins : (P : Problem) → Running P (run P) (initial P) (P .budget)
 unfolding run
 run-begins P = record { more = suc (P .budget); enough = omega arith; comes-to = refl }
 
-module _ (P : Problem) (f : Finished) (s : State) (left : ℕ) where
-  turns-on : (n : ℕ) (s′ : State) (left′ : ℕ) → turn P s left ≡ done s′ left′ → turns (suc n) P s left ≡ turns n P s′ left′
-  unfolding turns
-  turns-on n s′ left′ h = rw (h, turns) refl
+pub turns-on : (n : ℕ) (P : Problem) (s s′ : State) (left left′ : ℕ) → turn P s left ≡ done s′ left′ → turns (suc n) P s left ≡ turns n P s′ left′
+unfolding turns
+turns-on n P s s′ left left′ h = rw (h, turns) refl
 
+module _ (P : Problem) (f : Finished) (s : State) (left : ℕ) where
   turns-end : (n : ℕ) (e : End) (left′ : ℕ) → turn P s left ≡ stop e left′ → turns (suc n) P s left ≡ record { end = e; units = P .budget - left′; state = s }
   unfolding turns
   turns-end n e left′ h = rw (h, turns) refl
@@ -224,7 +210,7 @@ module _ (P : Problem) (f : Finished) (s : State) (left : ℕ) where
     where
       go : (n : ℕ) → left < n → turns n P s left ≡ f → Running P f s′ left′
       go zero l e = absurd (omega arith)
-      go (suc n) l e = record { more = n; enough = omega arith; comes-to = sym (turns-on n s′ left′ h) ∙ e }
+      go (suc n) l e = record { more = n; enough = omega arith; comes-to = sym (turns-on n P s s′ left left′ h) ∙ e }
 
   pub run-ends : Running P f s left → (e : End) (left′ : ℕ) → turn P s left ≡ stop e left′ → f ≡ record { end = e; units = P .budget - left′; state = s }
   run-ends r e left′ h = go (r .more) (r .enough) (r .comes-to)

@@ -11,9 +11,9 @@ use Rattle.terms.specs.Term.{Term, Terms, var, node, nil, cons, variables, vari
 use Rattle.terms.proofs.Shape.{Says}
 use Rattle.terms.proofs.Subst.{Subst, In, VarsIn, subst-agree}
 use Rattle.terms.proofs.Numbers.{member-says}
-use Rattle.terms.proofs.Context.{Ctx, Ctxs, hole, beneath, first, later, plug, plugs}
+use Rattle.terms.proofs.Context.{plug}
 use Rattle.terms.proofs.Places.{number}
-use Rattle.terms.proofs.Positions.{Found, found, subterm-plug, replace-plug}
+use Rattle.terms.proofs.Positions.{Found, found, subterm-plug, replace-plug, Inherits, plug-inherits}
 use Rattle.rewriting.specs.Overlap.{Rule, sides-of}
 use Rattle.rewriting.proofs.Relations
 use Rattle.rewriting.proofs.Relations.{Rules, Of, Star, Conv, ahead, back, Normal}
@@ -94,16 +94,9 @@ word-replacement Σ es s t w =
 
 -- Terms over the symbols: what stands in one is one, and so is what an instance puts at a variable.
 module _ (Σ : List Symbol) where
-  mutual
-    unfolding Over plug plugs
-
-    pub over-plug : (c : Ctx) (t : Term) → Over Σ (plug c t) → Over Σ t
-    over-plug hole t h = h
-    over-plug (beneath f cs) t h = over-plugs cs t (h .2)
-
-    pub over-plugs : (cs : Ctxs) (t : Term) → OverAll Σ (plugs cs t) → Over Σ t
-    over-plugs (first c ts) t h = over-plug c t (h .0)
-    over-plugs (later s cs) t h = over-plugs cs t (h .1)
+  pub over-inherits : Inherits (Over Σ) (OverAll Σ)
+  unfolding Over
+  over-inherits = record { arguments = λ f ts h. h .2; head = λ t ts h. h .0; tail = λ t ts h. h .1 }
 
   mutual
     unfolding Over subst-term variables
@@ -139,7 +132,7 @@ module _ (Σ : List Symbol) where
       let a : ItemOf rule-sides rules (p .l) (p .r) = item-of rule-sides rules (p .l) (p .r) (p .rule) in
       let redex : Term = subst-term (p .σ) (p .l) in
       let contractum : Term = subst-term (p .σ) (p .r) in
-      let h′ : Over Σ redex = over-plug (p .c) redex (subst (Over Σ) (p .before) h) in
+      let h′ : Over Σ redex = plug-inherits over-inherits (p .c) redex (subst (Over Σ) (p .before) h) in
       record {
         rule = a .item;
         is-rule = a .is-item;

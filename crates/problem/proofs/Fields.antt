@@ -5,20 +5,16 @@ use mathlib.Core.Bool.{Bool, true, false, _||_}
 use mathlib.Core.List.{List, [], _∷_}
 use Prim.Native.Nat.{ℕ, zero, suc, _+_, _-_, _*_, _%_, _<_, _≤_}
 use native.Mathlib.Omega.{arith}
-use native.Mathlib.Nat.{zero-add, add-zero, suc-add}
+use native.Mathlib.Nat.{add-zero}
 use native.Mathlib.Numerals.{add-one}
 use lib.Dec.{eqb, ltb}
 use lib.ListN.{length, take, drop, getD, length-take, length-drop, drop-of-length-le}
-use lib.Seq.{take-nil, drop-cons, drop-drop, getD-drop}
+use lib.Seq.{drop-cons, drop-drop, getD-drop}
 use borrow.Author.Tests.{lt-ltb, le-ltb, eq-eqb, ne-eqb}
+use Rattle.terms.proofs.Lists.{take-drop}
 use Rattle.terms.specs.Base.{number-from, member}
 use Rattle.problem.specs.Problem.{Reading, ok, refused, _>>=_, refuse-if, Field, read-field, due, Symbol, read-symbols, symbol-field, budget-field}
 use Rattle.problem.specs.Parser.{field-at, symbols-of, ranks, check-symbols, SymbolsAt, BudgetAt}
-
-pub take-drop : (a n : ℕ) (l : List ℕ) → take n (drop a l) ≡ drop a (take (a + n) l)
-take-drop zero n l = rw (zero-add n) refl
-take-drop (suc a) n [] = take-nil n ∙ sym (ap (drop (suc a)) (take-nil (suc a + n)))
-take-drop (suc a) n (x ∷ l) = rw (suc-add a n) (take-drop a n l)
 
 -- `due` returns: m is what is left at `at`
 module _ (tag at : ℕ) where
@@ -28,9 +24,6 @@ module _ (tag at : ℕ) where
   short (a ∷ []) h k = refl
   short (a ∷ b ∷ []) h k = refl
   short (a ∷ b ∷ d ∷ m) h k = absurd (omega arith)
-
-  size-of : List ℕ → ℕ
-  size-of m = getD m 1 0 * 256 + getD m 2 0
 
   abbrev two : ℕ → ℕ → ℕ
   two high low = number-from 0 (high ∷ low ∷ [])

@@ -5,8 +5,10 @@ use mathlib.Core.Bool.{Bool, true, false, _&&_}
 use mathlib.Core.List.{List, [], _∷_, _++_, append-assoc}
 use Prim.Native.Nat.{ℕ, zero, suc, _+_, _-_, _≤_, _<_}
 use native.Mathlib.Omega.{arith}
-use lib.Dec.{T, ltb, leb, ltb→lt, lt→ltb, leb→le, le→leb}
-use lib.ListN.{length, length-append}
+use lib.Dec.{ltb, leb}
+use lib.ListN.{length}
+use borrow.Author.Tests.{ltb-true, leb-true, lt-ltb, le-ltb, le-leb}
+use Rattle.terms.proofs.Shape.{zero≢one, both-true}
 use Rattle.terms.specs.Base.{if_then_else_}
 use Rattle.terms.specs.Term.{Term, var, node, Terms, nil, cons, size, sizes, term-bytes, terms-bytes}
 use Rattle.terms.proofs.Limits.{Made, MadeAll}
@@ -15,7 +17,7 @@ use Rattle.problem.specs.Over.{Over, OverAll}
 use Rattle.terms.specs.Scan.{count}
 
 pub no-ok : {A : Type 0} {n at : ℕ} {a : A} → refused n at ≡ ok a → ⊥
-no-ok e = let h : _≡_ {A = ℕ} 0 1 = cc in omega arith
+no-ok e = zero≢one (cc)
 
 pub ok-injective : {A : Type 0} {a b : A} → ok a ≡ ok b → a ≡ b
 ok-injective e = cc
@@ -33,13 +35,6 @@ unfolding refuse-if
 passed true n at u e = absurd (no-ok e)
 passed false n at u e = refl
 
-true-is : (b : Bool) → b ≡ true → T b
-true-is b h = subst⁻¹ T h tt
-
-pub both : (a b : Bool) → (a && b) ≡ true → (a ≡ true) × (b ≡ true)
-both true b h = (refl, h)
-both false b h = (cc, cc)
-
 -- What a byte is: a symbol of the table by its number, or a variable from 0 to 15.
 pub ByteIs : List Symbol → ℕ → Byte → Type 0
 ByteIs Σ b (symbol f) = (f ≡ b) × (f < length Σ)
@@ -52,11 +47,11 @@ byte-is Σ b = go (ltb b (length Σ)) (leb 0x80 b && leb b 0x8f) refl refl
   where
     go : (p q : Bool) → ltb b (length Σ) ≡ p → (leb 0x80 b && leb b 0x8f) ≡ q →
         ByteIs Σ b (byte-of Σ b)
-    go true q h k = rw (h, byte-of) (refl, ltb→lt b (length Σ) (true-is _ h))
+    go true q h k = rw (h, byte-of) (refl, ltb-true b (length Σ) h)
     go false true h k =
-        let c = both (leb 0x80 b) (leb b 0x8f) k in
-        let lo : 0x80 ≤ b = leb→le 0x80 b (true-is _ (c .0)) in
-        let hi : b ≤ 0x8f = leb→le b 0x8f (true-is _ (c .1)) in
+        let c = both-true (leb 0x80 b) (leb b 0x8f) k in
+        let lo : 0x80 ≤ b = leb-true 0x80 b (c .0) in
+        let hi : b ≤ 0x8f = leb-true b 0x8f (c .1) in
         rw (h, byte-of) (rw k (omega arith, omega arith))
     go false false h k = rw (h, byte-of) (rw k tt)
 
@@ -128,68 +123,17 @@ module _ (Σ : List Symbol) where
           (subst (ReadsTo at ((0x80 + x) ∷ bytes)) (ok-injective (rw (k, read-term) at e)) (one-variable x at bytes (j .1)))
       go neither k i ih = absurd (no-ok (rw (k, read-term) at e))
 
-  -- What is left behind a term is shorter than what was there.
-  rest-shorter : (at : ℕ) (bytes : List ℕ) (p : Part Term) → ReadsTo at bytes p → length (p .rest) ≤ length bytes
-  rest-shorter at bytes p r = omega (arith, ap length (r .front) ∙ length-append (term-bytes (p .part)) (p .rest))
-
-  agree-all : (one one′ : ℕ → List ℕ → Reading (Part Term)) (bound : ℕ) →
-      ((at : ℕ) (bytes : List ℕ) → length bytes ≤ bound → one at bytes ≡ one′ at bytes) →
-      ((at : ℕ) (bytes : List ℕ) (p : Part Term) → one at bytes ≡ ok p → length (p .rest) ≤ length bytes) →
-      (n at : ℕ) (bytes : List ℕ) → length bytes ≤ bound → read-terms one n at bytes ≡ read-terms one′ n at bytes
-  unfolding read-terms _>>=_
-  agree-all one one′ bound agree shorter zero at bytes h = refl
-  agree-all one one′ bound agree shorter (suc n) at bytes h =
-      rw (← agree at bytes h) (go (one at bytes) refl (λ at bytes h. agree-all one one′ bound agree shorter n at bytes h))
-    where
-      after : (ℕ → List ℕ → Reading (Part Term)) → Part Term → Reading (Part Terms)
-      after f t = read-terms f n (t .end) (t .rest) >>= λ ts. ok (record { part = cons (t .part) (ts .part); end = ts .end; rest = ts .rest })
-
-      go : (m : Reading (Part Term)) → one at bytes ≡ m →
-          ((at : ℕ) (bytes : List ℕ) → length bytes ≤ bound → read-terms one n at bytes ≡ read-terms one′ n at bytes) →
-          (m >>= after one) ≡ (m >>= after one′)
-      go (ok t) e ih =
-          let k = shorter at bytes t e in
-          ap (λ (r : Reading (Part Terms)). r >>= λ ts. ok (record { part = cons (t .part) (ts .part); end = ts .end; rest = ts .rest }))
-          (ih (t .end) (t .rest) (omega arith))
-      go (refused m p) e ih = refl
-
-  -- So a depth above the count of the bytes is enough: the bound of `read-term` is never what refuses.
-  pub depth-enough : (d d′ at : ℕ) (bytes : List ℕ) → length bytes < d → length bytes < d′ → read-term Σ d at bytes ≡ read-term Σ d′ at bytes
-  unfolding read-term
-  depth-enough zero d′ at bytes h k = absurd (omega arith)
-  depth-enough (suc d) zero at bytes h k = absurd (omega arith)
-  depth-enough (suc d) (suc d′) at [] h k = refl
-  depth-enough (suc d) (suc d′) at (b ∷ bytes) h k =
-      ap
-      (λ (m : ℕ → Reading (Part Terms)). elim (byte-of Σ b) as (λ c. Reading (Part Term)) [
-        | symbol f ↦ m f >>= λ ts. ok (record { part = node f (ts .part); end = ts .end; rest = ts .rest })
-        | variable x ↦ ok (record { part = var x; end = at + 1; rest = bytes })
-        | neither ↦ refused 10 at
-      ])
-      (λ j f. agree-all (λ at bytes. read-term Σ d at bytes) (λ at bytes. read-term Σ d′ at bytes) (length bytes)
-      (λ at bs l. depth-enough d d′ at bs (omega arith) (omega arith))
-      (λ at bs p e. rest-shorter at bs p (reads d at bs p e))
-      (arity-of Σ f) (at + 1) bytes (omega arith) j)
-
-is-true : (b : Bool) → T b → b ≡ true
-is-true true t = refl
-is-true false t = absurd t
-
-is-false : (b : Bool) → (T b → ⊥) → b ≡ false
-is-false true f = absurd (f tt)
-is-false false f = refl
-
 module _ (Σ : List Symbol) (few : length Σ ≤ 16) where
   byte-symbol : (f : ℕ) → f < length Σ → byte-of Σ f ≡ symbol f
   unfolding byte-of if_then_else_
-  byte-symbol f h = rw (is-true (ltb f (length Σ)) (lt→ltb f (length Σ) h))
+  byte-symbol f h = rw (lt-ltb f (length Σ) h)
 
   byte-variable : (x : ℕ) → x < 16 → byte-of Σ (0x80 + x) ≡ variable x
   unfolding byte-of if_then_else_
   byte-variable x h =
-      let lo : leb 0x80 (0x80 + x) ≡ true = is-true _ (le→leb 0x80 (0x80 + x) (omega arith)) in
-      let hi : leb (0x80 + x) 0x8f ≡ true = is-true _ (le→leb (0x80 + x) 0x8f (omega arith)) in
-      let no : ltb (0x80 + x) (length Σ) ≡ false = is-false _ (λ t. let l = ltb→lt (0x80 + x) (length Σ) t in omega arith) in
+      let lo : leb 0x80 (0x80 + x) ≡ true = le-leb 0x80 (0x80 + x) (omega arith) in
+      let hi : leb (0x80 + x) 0x8f ≡ true = le-leb (0x80 + x) 0x8f (omega arith) in
+      let no : ltb (0x80 + x) (length Σ) ≡ false = le-ltb (0x80 + x) (length Σ) (omega arith) in
       let back : 0x80 + x - 0x80 ≡ x = omega arith in
       rw no (rw lo (rw hi (ap variable back)))
 

@@ -5,11 +5,12 @@ use mathlib.Core.Bool.{Bool, true, false, _&&_}
 use mathlib.Core.List.{List, [], _∷_}
 use Prim.Native.Nat.{ℕ, zero, suc, _+_, _-_, _<_, _≤_}
 use native.Mathlib.Omega.{arith}
-use native.Mathlib.Nat.{zero-add, suc-add}
+use native.Mathlib.Nat.{zero-add, suc-add, sub-zero}
 use lib.Dec.{ltb, leb}
 use lib.ListN.{length, take, drop, getD, length-take, length-drop, length-append}
 use lib.Seq.{drop-at, drop-drop}
 use borrow.Author.Tests.{lt-ltb, le-ltb, ltb-true, ltb-false, leb-true}
+use Rattle.terms.proofs.Shape.{both-true}
 use Rattle.terms.specs.Base.{if_then_else_}
 use Rattle.terms.specs.Term.{Term, node, Terms, cons, size, term-bytes}
 use Rattle.terms.specs.Scan.{owes, is-node, scan}
@@ -34,10 +35,6 @@ module _ (default : Symbol) where
       let k : suc (suc (f + f)) + 1 ≡ suc (suc (f + f + 1)) = omega arith in
       let i = at-symbol l f (omega arith) in
       rw (e, k) i
-
-both : (a b : Bool) → (a && b) ≡ true → a ≡ true
-both true b h = refl
-both false b h = h
 
 module _ (tab : List ℕ) (T : Table tab) where
   pub arity-is : (f : ℕ) → arity-of (symbols-of tab) f ≡ getD tab (f + f) 0
@@ -73,7 +70,7 @@ module _ (tab : List ℕ) (T : Table tab) where
           (rw (lt-ltb (b + b) (length tab) (omega (arith, T .even))) refl, owes-symbol tab b (omega (arith, T .even, T .small)) ∙ sym (arity-is b))
       go false true h k =
           let le : length (symbols-of tab) ≤ b = ltb-false b _ h in
-          let high : 0x80 ≤ b = leb-true 0x80 b (both (leb 0x80 b) (leb b 0x8f) k) in
+          let high : 0x80 ≤ b = leb-true 0x80 b (both-true (leb 0x80 b) (leb b 0x8f) k .0) in
           rw (h, byte-of) (rw k (is-variable b (omega (arith, T .even)) k, owes-other tab b (omega arith)))
       go false false h k =
           let le : length (symbols-of tab) ≤ b = ltb-false b _ h in
@@ -216,7 +213,7 @@ module _ (tab : List ℕ) (T : Table tab) where
   -- `equation` returns
   module _ (l : List ℕ) (at e : ℕ) (low : at + 3 ≤ e) (inside : e ≤ length l) where
     part-is : take (e - 0) (drop 0 l) ≡ take e l
-    part-is = let z : e - 0 ≡ e = omega arith in rw z refl
+    part-is = ap (λ z. take z l) (sub-zero e)
 
     pub part-long : length (take (e - 0) (drop 0 l)) ≡ e
     part-long = ap length part-is ∙ omega (arith, length-take e l)
