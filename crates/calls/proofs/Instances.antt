@@ -1,11 +1,12 @@
 -- The term that node 0 spells is written, renamed, as a field of tag 15: lemmas for `put_field` and `write_instance`. Assumes nothing.
 -- Read first: specs/Answers (Spelt, WritesSpelt, instance-field), naming/specs/Names (renamed-bytes).
-use mathlib.Core.Path.{_≡_, refl, ap, ap₂, sym, _∙_}
+use mathlib.Core.Path.{_≡_, ap, ap₂, sym, _∙_}
 use mathlib.Core.List.{List, [], _∷_, _++_, append-nil}
 use Prim.Native.Nat.{ℕ, suc, _+_, _-_, _≤_}
 use native.Mathlib.Omega.{arith}
 use lib.ListN.{length, take, drop, set, length-append, length-drop, length-take, length-set}
 use lib.Seq.{take-length, drop-length, take-at, take-all, length-take-le}
+use Rattle.completion.proofs.Writing.{written-length}
 use Rattle.terms.specs.Base.{number-bytes, field-bytes}
 use Rattle.terms.specs.Term.{Term, Terms, nil, cons, size, sizes, term-bytes, terms-bytes}
 use Rattle.terms.proofs.Bytes.{length-bytes}
@@ -50,10 +51,6 @@ field-put bytes (x ∷ y ∷ z ∷ m) q few room e =
     let g : q ++ drop (suc (suc (suc (length m))) - 3) m ≡ bytes ++ drop (length bytes) m =
     ap (λ (n : ℕ). q ++ drop n m) n ∙ ap (λ (k : List ℕ). q ++ k) (drop-length m) ∙ append-nil q ∙ e ∙ ap₂ _++_ (take-length bytes) (ap (drop (length bytes)) t) in
     ap (λ (k : List ℕ). 21 ∷ 0 ∷ length bytes ∷ k) g ∙ sym (ap (λ (f : List ℕ). f ++ drop (length f) (x ∷ y ∷ z ∷ m)) (field-is bytes few))
-
-written-length : (f d : List ℕ) → length f ≤ length d → length (written f d) ≡ length d
-unfolding written
-written-length f d h = omega (arith, length-append f (drop (length f) d), length-drop (length f) d)
 
 pub field-same : (bytes d e : List ℕ) → length bytes ≤ 120 → 123 ≤ length d → e ≡ written (field-bytes (record { tag = 0x15; contents = bytes })) d → length e ≡ length d
 field-same bytes d e few room h = ap length h ∙ written-length _ d (omega (arith, field-length bytes))

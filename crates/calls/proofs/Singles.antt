@@ -1,5 +1,5 @@
 -- A problem with one equation: where its sides start; a lemma for each return of `single`, `named`, `compare`, `subterm_bounds`. Assumes nothing.
--- Read first: specs/Answers (SingleAt, told, PartAt), problem/specs/Parser (ParsedAt), terms/specs/Scan (Starts).
+-- Read first: specs/Answers (SingleAt, told, PartAt), problem/proofs/Laid, terms/specs/Flat (Starts).
 use mathlib.Core.Path.{_≡_, refl, ap, ap₂, sym, _∙_}
 use mathlib.Core.Bool.{Bool, true, false}
 use mathlib.Core.List.{List, [], _∷_}
@@ -8,6 +8,7 @@ use Prim.Native.Nat.{ℕ, _+_, _-_, _<_, _≤_}
 use native.Mathlib.Omega.{arith}
 use lib.Dec.{eqb, leb}
 use borrow.Author.Tests.{ne-eqb, le-leb, lt-leb}
+use Rattle.completion.proofs.Ranks.{ranks-are}
 use Rattle.terms.proofs.Places.{size-pos}
 use lib.ListN.{length, take, drop, length-drop}
 use lib.Seq.{drop-drop, length-take-le}
@@ -18,40 +19,25 @@ use Rattle.terms.proofs.Positions.{subterm-below, subterm-is}
 use Rattle.terms.proofs.Starts.{from, from-drop, starts-inside}
 use Rattle.order.specs.Order.{above, comparison}
 use Rattle.order.specs.Walk.{rank, IsCompared}
-use Rattle.problem.specs.Problem.{ok, refused, _>>=_, Field, read-field, due, Symbol, rank-of, Equation, equation-field, equation-fields, Problem, parse, only-equation}
+use Rattle.problem.specs.Problem.{ok, refused, _>>=_, Field, due, Symbol, rank-of, Equation, Problem, parse, only-equation}
 use Rattle.completion.specs.Calls.{Single, parse-single, compare-call, part-at, subterm-call}
-use Rattle.problem.specs.Parser.{field-at, symbols-of, ParsedAt}
+use Rattle.problem.specs.Parser.{field-at, ParsedAt}
 use Rattle.calls.specs.Answers.{told, SingleAt, Part, part-of, subterm-part, subterm-refused, PartAt}
 use Rattle.calls.specs.declared.Compared.{Compared}
 use Rattle.calls.specs.declared.Compared.the-variants.{LeftAbove, RightAbove, Identical, Neither, Refused as Unread}
-use Rattle.problem.proofs.Reading.{from-bind, no-ok, ok-injective}
-use Rattle.problem.proofs.Sides.{both-sides, First, first-of}
+use Rattle.problem.proofs.Reading.{no-ok, ok-injective}
+use Rattle.problem.proofs.Laid.{Laid, parsed-laid}
 use Rattle.problem.proofs.Fields.{bind-ok, bind-refused}
-use Rattle.problem.proofs.Scanned.{rank-is}
 
--- where a field, and its equation, start
-field-first : (at : ℕ) (m : List ℕ) (f : Field) → read-field at m ≡ ok f → f .first ≡ at
-unfolding read-field
-field-first at [] f h = absurd (no-ok h)
-field-first at (a ∷ []) f h = absurd (no-ok h)
-field-first at (a ∷ b ∷ []) f h = absurd (no-ok h)
-field-first at (a ∷ b ∷ d ∷ m) f h = from-bind _ _ f h λ _ _ k. ap (λ (f : Field). f .first) (sym (ok-injective k))
+-- the table of a problem, and the two sides of its only equation
+abbrev pub table : List ℕ → ℕ → List ℕ
+table l e = take (e - 3) (drop 3 l)
 
-due-first : (at : ℕ) (m : List ℕ) (f : Field) → due 0x03 at m ≡ ok f → f .first ≡ at
-unfolding due
-due-first at [] f h = absurd (no-ok h)
-due-first at (b ∷ m) f h =
-    from-bind _ _ f h λ g e₁ k.
-    from-bind _ _ f k λ _ _ e₂.
-    ap (λ (f : Field). f .first) (sym (ok-injective e₂)) ∙ field-first at (b ∷ m) g e₁
+abbrev pub left-side : Single → Term
+left-side S = S .equation .sides .left
 
-equation-first : (Σ : List Symbol) (f : Field) (q : Equation) → equation-field Σ f ≡ ok q → q .first ≡ f .first
-unfolding equation-field
-equation-first Σ f q h =
-    from-bind _ _ q h λ _ _ k.
-    from-bind _ _ q k λ _ _ k′.
-    from-bind _ _ q k′ λ _ _ e.
-    ap (λ (q : Equation). q .first) (sym (ok-injective e))
+abbrev pub right-side : Single → Term
+right-side S = S .equation .sides .right
 
 -- `single` returns
 module _ (l : List ℕ) where
@@ -60,90 +46,82 @@ module _ (l : List ℕ) where
   unfolding parse-single
   single-is P h = bind-ok _ h
 
-  pub single-1 : (n p : ℕ) → parse l ≡ refused n p → parse-single l ≡ refused n p
+  pub single-unread : (n p : ℕ) → parse l ≡ refused n p → parse-single l ≡ refused n p
   unfolding parse-single
-  single-1 n p h = bind-refused _ h
+  single-unread n p h = bind-refused _ h
 
   module _ (e b n : ℕ) (P : Problem) (A : ParsedAt l e b n P) where
-    abbrev tab : List ℕ
-    tab = take (e - 3) (drop 3 l)
-
-    pub single-2 : n ≡ 0 → parse-single l ≡ refused 12 (length l)
+    pub single-no-equation : n ≡ 0 → parse-single l ≡ refused 12 (length l)
     unfolding only-equation
-    single-2 h = go (P .equations) refl (A .number ∙ h)
+    single-no-equation h = go (P .equations) refl (A .number ∙ h)
       where
         go : (es : List Equation) → P .equations ≡ es → length (P .equations) ≡ 0 → parse-single l ≡ refused 12 (length l)
         go [] q z = single-is P (A .is) ∙ bind-refused _ (rw q refl)
         go (x ∷ es) q z = absurd (let y : length (x ∷ es) ≡ 0 = rw q at z in omega arith)
 
-    some-first : (n ≡ 0 → ⊥) → (es : List Equation) → P .equations ≡ es → (q : Equation) × (qs : List Equation) × (P .equations ≡ q ∷ qs) × First (symbols-of tab) 15 (e + 7) (drop (e + 7) l) q qs
-    some-first z [] h = absurd (z (sym (A .number) ∙ ap length h))
-    some-first z (q ∷ qs) h = (q, qs, h, first-of (symbols-of tab) 15 (e + 7) (drop (e + 7) l) q qs (A .equations-are ∙ ap ok h))
+    -- the equation fields that follow the budget, each where the one before it ends
+    abbrev Follow : List Equation → Type 0
+    Follow es = Laid (table l e) (A .table .table) l (e + 7) es
 
-    module _ (z : n ≡ 0 → ⊥) where
-      pub single-3 : (k p : ℕ) → due 0x03 (e + 7) (drop (e + 7) l) ≡ refused k p → parse-single l ≡ refused k p
-      single-3 k p h = let (q, qs, i, F) = some-first z (P .equations) refl in absurd (no-ok (sym h ∙ F .due-is))
+    pub single-not-due : (n ≡ 0 → ⊥) → (k p : ℕ) → due 0x03 (e + 7) (drop (e + 7) l) ≡ refused k p → parse-single l ≡ refused k p
+    unfolding Laid
+    single-not-due z k p h = go (P .equations) refl (parsed-laid l e b n P A)
+      where
+        go : (es : List Equation) → P .equations ≡ es → Follow es → parse-single l ≡ refused k p
+        go [] i L = absurd (z (sym (A .number) ∙ ap length i))
+        go (q ∷ qs) i L = absurd (no-ok (sym h ∙ L .1))
 
-      module _ (k : ℕ) (d : (due 0x03 (e + 7) (drop (e + 7) l) ≡ ok (field-at 0x03 l (e + 7) k)) × (e + 7 + 3 ≤ k) × (k ≤ length l)) where
-        pub single-4 : n ≡ 1 → (S : Single) × SingleAt l e S
-        unfolding only-equation
-        single-4 h =
-            let (q, qs, i, F) = some-first z (P .equations) refl in
-            let f : F .field ≡ field-at 0x03 l (e + 7) k = ok-injective (sym (F .due-is) ∙ d .0) in
-            let B = both-sides tab (A .table .table) l (e + 7) k (d .1) (d .2) q (ap (equation-field (symbols-of tab)) (sym f) ∙ F .read-is) in
-            let w : e + 7 + 3 ≡ e + 10 = omega arith in
-            let S : Single = record { symbols = P .symbols; equation = q } in
-            let only : only-equation (length l) (P .equations) ≡ ok q = go qs i (ap length (sym i) ∙ A .number ∙ h) in (
-              S,
+    pub single-one : n ≡ 1 → (S : Single) × SingleAt l e S
+    unfolding Laid only-equation
+    single-one h = go (P .equations) refl (parsed-laid l e b n P A)
+      where
+        go : (es : List Equation) → P .equations ≡ es → Follow es → (S : Single) × SingleAt l e S
+        go [] i L = absurd (omega (arith, A .number, ap length i))
+        go (q ∷ []) i L =
+            let w : e + 7 + 3 ≡ e + 10 = omega arith in (
+              record { symbols = P .symbols; equation = q },
               record {
-                is = single-is P (A .is) ∙ bind-ok _ only;
+                is = single-is P (A .is) ∙ bind-ok _ (rw i refl);
                 small = A .small;
                 symbols-are = A .symbols-are;
                 table = A .table .table;
                 low = A .table .low;
                 high = A .table .high;
-                within = omega (arith, d .1, d .2);
-                first-is = B .first-is;
-                left = rw w at (B .left);
-                right = rw w at (B .right);
+                within = omega (arith, L .2, L .3);
+                first-is = L .4 .first-is;
+                left = rw w at (L .4 .left);
+                right = rw w at (L .4 .right);
               },
             )
-          where
-            go : {q : Equation} (qs : List Equation) → P .equations ≡ q ∷ qs → length (q ∷ qs) ≡ 1 → only-equation (length l) (P .equations) ≡ ok q
-            go [] i h = rw i refl
-            go (q′ ∷ qs) i h = absurd (omega arith)
+        go (q ∷ q′ ∷ qs) i L = absurd (omega (arith, A .number, ap length i))
 
-        pub single-5 : (n ≡ 1 → ⊥) → parse-single l ≡ refused 12 k
-        unfolding only-equation field-at
-        single-5 h =
-            let (q, qs, i, F) = some-first z (P .equations) refl in
-            let f : F .field ≡ field-at 0x03 l (e + 7) k = ok-injective (sym (F .due-is) ∙ d .0) in
-            go (F .field .end) (F .field .rest) qs i (λ g. h (sym (A .number) ∙ ap length i ∙ g)) (F .rest-is) (ap (λ (f : Field). f .end) f)
-          where
-            go : {q : Equation} (at : ℕ) (m : List ℕ) (qs : List Equation) → P .equations ≡ q ∷ qs → (length (q ∷ qs) ≡ 1 → ⊥) →
-                equation-fields (symbols-of tab) 15 at m ≡ ok qs → at ≡ k → parse-single l ≡ refused 12 k
-            go at m [] i g r a = absurd (g refl)
-            go at m (q′ ∷ qs) i g r a =
-                let G = first-of (symbols-of tab) 14 at m q′ qs r in
-                let b : q′ .first ≡ k = equation-first (symbols-of tab) (G .field) q′ (G .read-is) ∙ due-first at m (G .field) (G .due-is) ∙ a in
-                single-is P (A .is) ∙ bind-refused _ (rw i (ap (refused 12) b))
+    pub single-more : (n ≡ 0 → ⊥) → (k : ℕ) → due 0x03 (e + 7) (drop (e + 7) l) ≡ ok (field-at 0x03 l (e + 7) k) → (n ≡ 1 → ⊥) → parse-single l ≡ refused 12 k
+    unfolding Laid only-equation field-at
+    single-more z k d h = go (P .equations) refl (parsed-laid l e b n P A)
+      where
+        go : (es : List Equation) → P .equations ≡ es → Follow es → parse-single l ≡ refused 12 k
+        go [] i L = absurd (z (sym (A .number) ∙ ap length i))
+        go (q ∷ []) i L = absurd (h (sym (A .number) ∙ ap length i))
+        go (q ∷ q′ ∷ qs) i L =
+            let f : L .0 ≡ k = ap (λ (f : Field). f .end) (ok-injective (sym (L .1) ∙ d)) in
+            single-is P (A .is) ∙ bind-refused _ (rw i (ap (refused 12) (L .5 .4 .first-is ∙ f)))
 
 -- `named` and `compare`
-pub named-1 : (n : ℕ) → n ≡ 1 → told LeftAbove ≡ ok n
+pub named-left : (n : ℕ) → n ≡ 1 → told LeftAbove ≡ ok n
 unfolding told
-named-1 n h = ap ok (sym h)
+named-left n h = ap ok (sym h)
 
-pub named-2 : (n : ℕ) → n ≡ 2 → told RightAbove ≡ ok n
+pub named-right : (n : ℕ) → n ≡ 2 → told RightAbove ≡ ok n
 unfolding told
-named-2 n h = ap ok (sym h)
+named-right n h = ap ok (sym h)
 
-pub named-3 : (n : ℕ) → n ≡ 3 → told Identical ≡ ok n
+pub named-identical : (n : ℕ) → n ≡ 3 → told Identical ≡ ok n
 unfolding told
-named-3 n h = ap ok (sym h)
+named-identical n h = ap ok (sym h)
 
-pub named-4 : (n : ℕ) → n ≡ 4 → told Neither ≡ ok n
+pub named-neither : (n : ℕ) → n ≡ 4 → told Neither ≡ ok n
 unfolding told
-named-4 n h = ap ok (sym h)
+named-neither n h = ap ok (sym h)
 
 range : (r : ℕ → ℕ) (s t : Term) → (1 ≤ comparison r s t) × (comparison r s t ≤ 4)
 unfolding comparison if_then_else_
@@ -159,47 +137,34 @@ pub part-small : (l : List ℕ) (a : ℕ) → length l ≤ 8192 → length (from
 part-small l a h = omega (arith, ap length (from-drop l a), length-drop a l)
 
 module _ (l : List ℕ) where
-  pub compare-1 : (n p : ℕ) → parse-single l ≡ refused n p → told (Unread n p) ≡ compare-call l
+  pub compare-unread : (n p : ℕ) → parse-single l ≡ refused n p → told (Unread n p) ≡ compare-call l
   unfolding told compare-call
-  compare-1 n p h = sym (bind-refused _ h)
+  compare-unread n p h = sym (bind-refused _ h)
 
   module _ (e : ℕ) (S : Single) (A : SingleAt l e S) where
-    abbrev table : List ℕ
-    table = take (e - 3) (drop 3 l)
-
-    abbrev left : Term
-    left = S .equation .sides .left
-
-    abbrev right : Term
-    right = S .equation .sides .right
-
-    ranks-are : rank-of (symbols-of table) ≡ rank table
-    unfolding rank
-    ranks-are = λ i f. rank-is table (A .table) f i
-
-    module _ (b : ℕ) (end : (x : Term) → Starts table (drop (e + 10) l) x → b ≡ e + 10 + size x) where
-      left-starts : Starts table (from l (e + 10)) left
+    module _ (b : ℕ) (end : (x : Term) → Starts (table l e) (drop (e + 10) l) x → b ≡ e + 10 + size x) where
+      left-starts : Starts (table l e) (from l (e + 10)) (left-side S)
       left-starts = rw (from-drop l (e + 10)) (A .left)
 
-      right-starts : Starts table (from l b) right
-      right-starts = rw (from-drop l b, end left (A .left)) (A .right)
+      right-starts : Starts (table l e) (from l b) (right-side S)
+      right-starts = rw (from-drop l b, end (left-side S) (A .left)) (A .right)
 
-      module _ (n : ℕ) (c : IsCompared table (from l (e + 10)) (from l b) n) where
+      module _ (n : ℕ) (c : IsCompared (table l e) (from l (e + 10)) (from l b) n) where
         pub compare-range : (1 ≤ n) × (n ≤ 4)
-        compare-range = let q = c left right left-starts right-starts in rw q (range (rank table) left right)
+        compare-range = let q = c (left-side S) (right-side S) left-starts right-starts in rw q (range (rank (table l e)) (left-side S) (right-side S))
 
-        pub compare-2 : (r : Compared) → told r ≡ ok n → told r ≡ compare-call l
+        pub compare-read : (r : Compared) → told r ≡ ok n → told r ≡ compare-call l
         unfolding compare-call
-        compare-2 r h =
-            h ∙ ap ok (c left right left-starts right-starts ∙ ap (λ (f : ℕ → ℕ). comparison f left right) (sym ranks-are)
-            ∙ ap (λ (Σ : List Symbol). comparison (rank-of Σ) left right) (sym (A .symbols-are)))
+        compare-read r h =
+            h ∙ ap ok (c (left-side S) (right-side S) left-starts right-starts ∙ ap (λ (f : ℕ → ℕ). comparison f (left-side S) (right-side S)) (sym (ranks-are (table l e) (A .table)))
+            ∙ ap (λ (Σ : List Symbol). comparison (rank-of Σ) (left-side S) (right-side S)) (sym (A .symbols-are)))
             ∙ sym (bind-ok _ (A .is))
 
 -- `subterm_bounds`
 module _ (l : List ℕ) (p : ℕ) where
-  pub bounds-1 : (n q : ℕ) → parse-single l ≡ refused n q → PartAt l p 0 0
+  pub bounds-unread : (n q : ℕ) → parse-single l ≡ refused n q → PartAt l p 0 0
   unfolding subterm-call subterm-part subterm-refused
-  bounds-1 n q h =
+  bounds-unread n q h =
       record {
         start = rw (h, subterm-part) refl;
         bytes = rw (h, subterm-part) refl;
@@ -210,51 +175,45 @@ module _ (l : List ℕ) (p : ℕ) where
       }
 
   module _ (e : ℕ) (S : Single) (A : SingleAt l e S) where
-    abbrev symbol-bytes : List ℕ
-    symbol-bytes = take (e - 3) (drop 3 l)
-
-    abbrev side : Term
-    side = S .equation .sides .left
-
-    call-is : subterm-call l p ≡ part-at l (S .equation .first) p (subterm-at side p)
+    call-is : subterm-call l p ≡ part-at l (S .equation .first) p (subterm-at (left-side S) p)
     unfolding subterm-call
     call-is = rw (A .is, subterm-call) refl
 
-    part-is : subterm-part l p ≡ part-of (S .equation .first) p (subterm-at side p)
+    part-is : subterm-part l p ≡ part-of (S .equation .first) p (subterm-at (left-side S) p)
     unfolding subterm-part
     part-is = rw (A .is, subterm-part) refl
 
-    refusal-is : subterm-refused l p ≡ leb (size side) p
+    refusal-is : subterm-refused l p ≡ leb (size (left-side S)) p
     unfolding subterm-refused
     refusal-is = rw (A .is, subterm-refused) refl
 
-    module _ (b : ℕ) (end : (x : Term) → Starts symbol-bytes (drop (e + 10) l) x → b ≡ e + 10 + size x) where
-      pub bounds-2 : b - (e + 10) ≤ p → PartAt l p 0 0
+    module _ (b : ℕ) (end : (x : Term) → Starts (table l e) (drop (e + 10) l) x → b ≡ e + 10 + size x) where
+      pub bounds-past : b - (e + 10) ≤ p → PartAt l p 0 0
       unfolding part-at part-of
-      bounds-2 h =
-          let n : subterm-at side p ≡ none = go (subterm-at side p) refl in
+      bounds-past h =
+          let n : subterm-at (left-side S) p ≡ none = go (subterm-at (left-side S) p) refl in
           record {
             start = sym (ap (λ (x : Part). x .start) (part-is ∙ ap (part-of (S .equation .first) p) n));
             bytes = sym (ap (λ (x : Part). x .bytes) (part-is ∙ ap (part-of (S .equation .first) p) n));
             is = sym (call-is ∙ ap (part-at l (S .equation .first) p) n);
-            only = sym (refusal-is ∙ le-leb (size side) p (omega (arith, end side (A .left))));
+            only = sym (refusal-is ∙ le-leb (size (left-side S)) p (omega (arith, end (left-side S) (A .left))));
             low = omega arith;
             within = omega arith;
           }
         where
-          go : (o : Option Term) → subterm-at side p ≡ o → subterm-at side p ≡ none
+          go : (o : Option Term) → subterm-at (left-side S) p ≡ o → subterm-at (left-side S) p ≡ none
           go none q = q
-          go (some u) q = absurd (omega (arith, subterm-below side p u q, end side (A .left)))
+          go (some u) q = absurd (omega (arith, subterm-below (left-side S) p u q, end (left-side S) (A .left)))
 
       module _ (h : p < b - (e + 10)) where
-        found : (u : Term) × (subterm-at side p ≡ some u)
-        found = (_, subterm-is side p (omega (arith, end side (A .left))))
+        found : (u : Term) × (subterm-at (left-side S) p ≡ some u)
+        found = (_, subterm-is (left-side S) p (omega (arith, end (left-side S) (A .left))))
 
-        pub bounds-3 : (n : ℕ) → ((x : Term) → Starts symbol-bytes (drop (e + 10 + p) l) x → n ≡ e + 10 + p + size x) → e + 10 + p ≤ n → n ≤ length l → PartAt l p (e + 10 + p) n
+        pub bounds-inside : (n : ℕ) → ((x : Term) → Starts (table l e) (drop (e + 10 + p) l) x → n ≡ e + 10 + p + size x) → e + 10 + p ≤ n → n ≤ length l → PartAt l p (e + 10 + p) n
         unfolding part-at part-of
-        bounds-3 n q low high =
+        bounds-inside n q low high =
             let u = found .0 in
-            let s : Starts symbol-bytes (drop (e + 10 + p) l) u = rw (drop-drop p (e + 10) l) at (starts-inside symbol-bytes (drop (e + 10) l) side p u (A .left) (found .1)) in
+            let s : Starts (table l e) (drop (e + 10 + p) l) u = rw (drop-drop p (e + 10) l) at (starts-inside (table l e) (drop (e + 10) l) (left-side S) p u (A .left) (found .1)) in
             let z : n - (e + 10 + p) ≡ size u = omega (arith, q u s) in
             let w : S .equation .first + 3 + p ≡ e + 10 + p = omega (arith, A .first-is) in
             let f : subterm-part l p ≡ record { start = S .equation .first + 3 + p; bytes = size u } = part-is ∙ ap (part-of (S .equation .first) p) (found .1) in
@@ -262,7 +221,7 @@ module _ (l : List ℕ) (p : ℕ) where
               start = sym (ap (λ (x : Part). x .start) f ∙ w);
               bytes = z ∙ sym (ap (λ (x : Part). x .bytes) f);
               is = sym (call-is ∙ rw (found .1, w, z) refl);
-              only = ne-eqb (n - (e + 10 + p)) 0 (λ y. absurd (omega (arith, size-pos u))) ∙ sym (refusal-is ∙ lt-leb (size side) p (omega (arith, end side (A .left))));
+              only = ne-eqb (n - (e + 10 + p)) 0 (λ y. absurd (omega (arith, size-pos u))) ∙ sym (refusal-is ∙ lt-leb (size (left-side S)) p (omega (arith, end (left-side S) (A .left))));
               low = low;
               within = high;
             }

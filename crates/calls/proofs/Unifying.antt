@@ -3,26 +3,22 @@
 -- Read first: specs/Answers (SidesUnify, Unifies), unifier/proofs/Instance.
 use mathlib.Core.Path.{_≡_, refl, ap, sym, _∙_}
 use mathlib.Core.Bool.{Bool, true, false}
-use mathlib.Core.List.{List, [], _∷_, _++_, append-assoc, append-nil, List·Memᴰ·not-nil, List·Memᴰ·cases-cons}
-use mathlib.Core.Logic.{⊎-elim}
+use mathlib.Core.List.{List, _++_, append-assoc, append-nil}
 use mathlib.Core.Option.{Option, none, some}
-use Prim.Native.Nat.{ℕ, zero, suc, _+_, _-_, _<_, _≤_}
+use Prim.Native.Nat.{ℕ, _+_, _-_, _<_, _≤_}
 use native.Mathlib.Omega.{arith}
-use lib.Dec.{eqb, ltb}
+use lib.Dec.{ltb}
 use lib.ListN.{length, take, drop, length-append}
 use lib.Seq.{drop-drop, drop-at, take-at}
 use borrow.Author.Tests.{lt-ltb, le-ltb}
-use Rattle.terms.specs.Base.{if_then_else_, is-some, field-bytes, distinct, without, place-in}
-use Rattle.terms.specs.Term.{Term, var, node, Terms, nil, cons, size, term-bytes, terms-bytes, subterm-at, subterm-in, subst-term, renamed, pair-variables, variables}
+use Rattle.terms.specs.Base.{if_then_else_, is-some, field-bytes}
+use Rattle.terms.specs.Term.{Term, nil, cons, size, term-bytes, terms-bytes, subterm-in, subst-term}
 use Rattle.terms.specs.Flat.{Wf, Starts}
-use Rattle.terms.proofs.Shape.{Says, eqb-says}
 use Rattle.terms.proofs.Flats.{widen}
-use Rattle.terms.proofs.Numbers.{distinct-in}
-use Rattle.terms.proofs.Subst.{In, subst-agree}
 use Rattle.terms.proofs.Bytes.{length-bytes}
 use Rattle.terms.proofs.Limits.{size-vars}
 use Rattle.terms.proofs.Places.{size-pos}
-use Rattle.terms.proofs.Rename.{rename, numbered}
+use Rattle.terms.proofs.Rename.{rename, renamed-twice}
 use Rattle.unify.specs.Unify.{Binding, mgu, under}
 use Rattle.unifier.specs.Arena.{Spells, same}
 use Rattle.unifier.specs.Steps.{at, arena}
@@ -32,61 +28,13 @@ use Rattle.unifier.proofs.Verdict.{the-mgu, solved-image, solved-renames}
 use Rattle.unifier.proofs.Instance.{small-size, large-size, instance-renamed}
 use Rattle.problem.specs.Problem.{ok, refused, _>>=_, refuse-if}
 use Rattle.problem.proofs.Fields.{bind-ok, bind-refused}
-use Rattle.completion.proofs.UnifyLimits.{single-fits}
+use Rattle.completion.proofs.Accepts.{single-fits}
+use Rattle.calls.proofs.Singles.{table, left-side, right-side}
+use Rattle.terms.proofs.Positions.{in-head, in-later}
 use Rattle.completion.specs.Calls.{Single, parse-single, instance, instance-too-large, unified, enough, unify-call, after-unify}
 use Rattle.calls.specs.Answers.{bytes-written, unified-told, unify-returns, Unifies, Sides, TwoSides, SidesUnify, instance-field, Spelt, WritesSpelt, SingleAt}
 use Rattle.calls.specs.declared.Unified.{Unified}
 use Rattle.calls.specs.declared.Unified.the-variants.{Instance, Nothing, TooLarge, Refused as NotUnified}
-
--- what is seen twice is numbered as what is seen once
-without-append : (x : ℕ) (l m : List ℕ) → without x (l ++ m) ≡ without x l ++ without x m
-unfolding without if_then_else_
-without-append x [] m = refl
-without-append x (y ∷ l) m = go (eqb x y) (without-append x l m)
-  where
-    go : (b : Bool) → without x (l ++ m) ≡ without x l ++ without x m →
-        (if b then without x (l ++ m) else (y ∷ without x (l ++ m))) ≡ (if b then without x l else (y ∷ without x l)) ++ without x m
-    go true h = h
-    go false h = ap (λ (k : List ℕ). y ∷ k) h
-
-distinct-more : (l m : List ℕ) → (r : List ℕ) × (distinct (l ++ m) ≡ distinct l ++ r)
-unfolding distinct
-distinct-more [] m = (distinct m, refl)
-distinct-more (x ∷ l) m =
-    let (r, e) = distinct-more l m in
-    (without x r, ap (λ (k : List ℕ). x ∷ k) (ap (without x) e ∙ without-append x (distinct l) r))
-
-place-more : (x : ℕ) (l r : List ℕ) → In x l → place-in x (l ++ r) ≡ place-in x l
-unfolding place-in if_then_else_
-place-more x [] r i = absurd (List·Memᴰ·not-nil i)
-place-more x (y ∷ l) r i = go (eqb x y) (eqb-says x y) (λ j. place-more x l r j)
-  where
-    go : (b : Bool) → Says (x ≡ y) b → (In x l → place-in x (l ++ r) ≡ place-in x l) → (if b then zero else suc (place-in x (l ++ r))) ≡ (if b then zero else suc (place-in x l))
-    go true e h = refl
-    go false n h = ⊎-elim (λ e. absurd (n e)) (λ j. ap suc (h j)) (List·Memᴰ·cases-cons i)
-
-pub renamed-twice : (t : Term) → renamed (record { left = t; right = t }) .left ≡ rename t
-unfolding renamed pair-variables rename
-renamed-twice t =
-    let (r, e) = distinct-more (variables t) (variables t) in
-    subst-agree (λ x. var (place-in x (distinct (variables t ++ variables t)))) (numbered (variables t)) t
-    (λ x i. ap var (ap (place-in x) e ∙ place-more x (distinct (variables t)) r (distinct-in x (variables t) i)))
-
--- the first of several terms, and the others
-whole : (t : Term) → subterm-at t 0 ≡ some t
-unfolding subterm-at
-whole (var x) = refl
-whole (node f ts) = refl
-
-in-first : (t : Term) (ts : Terms) → subterm-in (cons t ts) 0 ≡ some t
-unfolding subterm-in if_then_else_
-in-first t ts = rw (lt-ltb 0 (size t) (size-pos t)) (whole t)
-
-in-later : (t : Term) (ts : Terms) → subterm-in (cons t ts) (size t) ≡ subterm-in ts 0
-unfolding subterm-in if_then_else_
-in-later t ts =
-    let z : size t - size t ≡ 0 = omega arith in
-    rw (le-ltb (size t) (size t) (omega arith)) (ap (subterm-in ts) z)
 
 -- the two sides as an arena
 module _ (l tab : List ℕ) (s t : Term) (k : Sides l tab s t) where
@@ -95,10 +43,10 @@ module _ (l tab : List ℕ) (s t : Term) (k : Sides l tab s t) where
   sides-laid = record { wf = (k .left, (k .right, tt)); bytes = k .bytes ∙ ap (λ (x : List ℕ). term-bytes s ++ x) (sym (append-nil (term-bytes t))) }
 
   pub first-side : subterm-in (cons s (cons t nil)) 0 ≡ some s
-  first-side = in-first s (cons t nil)
+  first-side = in-head s (cons t nil) 0 refl
 
   pub second-side : subterm-in (cons s (cons t nil)) (size s) ≡ some t
-  second-side = in-later s (cons t nil) ∙ in-first t nil
+  second-side = in-later s (cons t nil) (size s) 0 (omega arith) ∙ in-head t nil 0 refl
 
   pub sides-length : length l ≡ size s + size t
   sides-length = omega (arith, ap length (k .bytes), length-append (term-bytes s) (term-bytes t), length-bytes s, length-bytes t)
@@ -223,45 +171,36 @@ module _ (l d : List ℕ) where
     unify-unread n p h = rw (call-is ∙ bind-refused _ h) (record { told = refl; leaves = refl })
 
     module _ (e : ℕ) (S : Single) (A : SingleAt l e S) where
-      abbrev table : List ℕ
-      table = take (e - 3) (drop 3 l)
+      module _ (b c : ℕ) (first : (x : Term) → Starts (table l e) (drop (e + 10) l) x → b ≡ e + 10 + size x) (second : (x : Term) → Starts (table l e) (drop b l) x → c ≡ b + size x) where
+        second-starts : Starts (table l e) (drop b l) (right-side S)
+        second-starts = rw (first (left-side S) (A .left)) (A .right)
 
-      abbrev left : Term
-      left = S .equation .sides .left
-
-      abbrev right : Term
-      right = S .equation .sides .right
-
-      module _ (b c : ℕ) (first : (x : Term) → Starts table (drop (e + 10) l) x → b ≡ e + 10 + size x) (second : (x : Term) → Starts table (drop b l) x → c ≡ b + size x) where
-        second-starts : Starts table (drop b l) right
-        second-starts = rw (first left (A .left)) (A .right)
-
-        both-bytes : take (c - (e + 10)) (drop (e + 10) l) ≡ term-bytes left ++ term-bytes right
+        both-bytes : take (c - (e + 10)) (drop (e + 10) l) ≡ term-bytes (left-side S) ++ term-bytes (right-side S)
         both-bytes =
-            let n : length (term-bytes left ++ term-bytes right) ≡ c - (e + 10) =
-            omega (arith, length-append (term-bytes left) (term-bytes right), length-bytes left, length-bytes right, first left (A .left), second right second-starts) in
-            let r : A .left .rest ≡ term-bytes right ++ second-starts .rest =
-            sym (drop-at (term-bytes left) (A .left .rest) (size left) (length-bytes left)) ∙ ap (drop (size left)) (sym (A .left .bytes)) ∙ drop-drop (size left) (e + 10) l
-            ∙ ap (λ (n : ℕ). drop n l) (sym (first left (A .left))) ∙ second-starts .bytes in
-            ap (take (c - (e + 10))) (A .left .bytes ∙ ap (λ (x : List ℕ). term-bytes left ++ x) r ∙ sym (append-assoc (term-bytes left) (term-bytes right) (second-starts .rest)))
-            ∙ take-at (term-bytes left ++ term-bytes right) (second-starts .rest) (c - (e + 10)) n
+            let n : length (term-bytes (left-side S) ++ term-bytes (right-side S)) ≡ c - (e + 10) =
+            omega (arith, length-append (term-bytes (left-side S)) (term-bytes (right-side S)), length-bytes (left-side S), length-bytes (right-side S), first (left-side S) (A .left), second (right-side S) second-starts) in
+            let r : A .left .rest ≡ term-bytes (right-side S) ++ second-starts .rest =
+            sym (drop-at (term-bytes (left-side S)) (A .left .rest) (size (left-side S)) (length-bytes (left-side S))) ∙ ap (drop (size (left-side S))) (sym (A .left .bytes)) ∙ drop-drop (size (left-side S)) (e + 10) l
+            ∙ ap (λ (n : ℕ). drop n l) (sym (first (left-side S) (A .left))) ∙ second-starts .bytes in
+            ap (take (c - (e + 10))) (A .left .bytes ∙ ap (λ (x : List ℕ). term-bytes (left-side S) ++ x) r ∙ sym (append-assoc (term-bytes (left-side S)) (term-bytes (right-side S)) (second-starts .rest)))
+            ∙ take-at (term-bytes (left-side S) ++ term-bytes (right-side S)) (second-starts .rest) (c - (e + 10)) n
 
-        unify-sides : Sides (take (c - (e + 10)) (drop (e + 10) l)) table left right
+        unify-sides : Sides (take (c - (e + 10)) (drop (e + 10) l)) (table l e) (left-side S) (right-side S)
         unify-sides =
             let k = single-fits l S (A .is) in
             record {
-              left = widen 32 128 table left (omega arith) (A .left .wf);
-              right = widen 32 128 table right (omega arith) (A .right .wf);
+              left = widen 32 128 (table l e) (left-side S) (omega arith) (A .left .wf);
+              right = widen 32 128 (table l e) (right-side S) (omega arith) (A .right .wf);
               small-left = k .fits .left .small;
               small-right = k .fits .right .small;
               bytes = both-bytes;
             }
 
-        begins-at : b - (e + 10) ≡ size left
-        begins-at = omega (arith, first left (A .left))
+        begins-at : b - (e + 10) ≡ size (left-side S)
+        begins-at = omega (arith, first (left-side S) (A .left))
 
-        pub unify-two : TwoSides (take (c - (e + 10)) (drop (e + 10) l)) table (b - (e + 10))
-        unify-two = record { s = left; t = right; sides = unify-sides; begins = begins-at }
+        pub unify-two : TwoSides (take (c - (e + 10)) (drop (e + 10) l)) (table l e) (b - (e + 10))
+        unify-two = record { s = (left-side S); t = (right-side S); sides = unify-sides; begins = begins-at }
 
-        pub unify-answers : (r : Unified) (d′ : List ℕ) → SidesUnify (take (c - (e + 10)) (drop (e + 10) l)) table (b - (e + 10)) r d d′ → Unifies (unify-call l (length d)) r d d′
-        unify-answers r d′ h = rw (call-is ∙ bind-ok _ (A .is)) (h .unifies left right unify-sides begins-at)
+        pub unify-answers : (r : Unified) (d′ : List ℕ) → SidesUnify (take (c - (e + 10)) (drop (e + 10) l)) (table l e) (b - (e + 10)) r d d′ → Unifies (unify-call l (length d)) r d d′
+        unify-answers r d′ h = rw (call-is ∙ bind-ok _ (A .is)) (h .unifies (left-side S) (right-side S) unify-sides begins-at)

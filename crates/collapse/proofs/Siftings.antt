@@ -8,7 +8,8 @@ use Prim.Native.Nat.{ℕ, suc, _+_, _-_, _*_, _<_, _≤_}
 use native.Mathlib.Omega.{arith}
 use native.Mathlib.Numerals.{add-one}
 use lib.ListN.{length, getD, drop, take, set, length-append, length-set, length-map}
-use lib.Seq.{drop-cons, drop-set-lt}
+use lib.Seq.{drop-cons, drop-set-lt, append-snoc}
+use Rattle.terms.proofs.Lists.{flatMap-append, flatMap-one}
 use Rattle.terms.specs.Base.{if_then_else_}
 use Rattle.terms.specs.Term.{Pair}
 use Rattle.terms.proofs.Flats.{widen}
@@ -18,10 +19,10 @@ use Rattle.completion.specs.Turn.{removed-rule, Candidate, rewrites, kept, remo
 use Rattle.completion.specs.Calls.{origin-bytes}
 use Rattle.completion.proofs.Result.{origin-bytes-length}
 use Rattle.store.specs.Slots.{patched, SlotAs, OnlySlot}
-use Rattle.store.proofs.Patching.{length-patched}
-use Rattle.store.proofs.Listing.{rule-as, short-as, short-at, layout-kept, layout-more, stored-one, stored-first, stored-rest, stored-same}
+use Rattle.store.proofs.Patching.{length-patched, front-more}
+use Rattle.store.proofs.Listing.{rule-as, short-as, short-at, layout-kept, layout-more, stored-one, stored-first, stored-rest, stored-same, stored-behind}
 use Rattle.collapse.specs.Sifting.{pairs-of, origins-bytes, Shelf, shelf, Safe, Removes, Sift, SiftedOne, Sifted}
-use Rattle.collapse.proofs.Lists.{front-more, flatMap-append, flatMap-one, stored-behind, any-table, number-more}
+use Rattle.collapse.proofs.Lists.{any-table, number-more}
 
 -- `rewrites`
 pub removes : (tab new sizes rules lens t : List ℕ) (i : ℕ) (r : Bool) → t ≡ take (getD lens (2 * i) 0) (drop (240 * i) rules) → Reducible tab new sizes 1 t r → Removes tab new sizes rules lens i r
@@ -57,9 +58,6 @@ removed-one x old rest e = rw e
 removed-none : (x old : Rule) (rest : List Rule) → rewrites x old ≡ false → removed x (old ∷ rest) ≡ removed x rest
 unfolding removed if_then_else_
 removed-none x old rest e = rw e
-
-snoc : {A : Type 0} (l : List A) (a : A) (m : List A) → (l ++ (a ∷ [])) ++ m ≡ l ++ (a ∷ m)
-snoc l a m = append-assoc l (a ∷ []) m
 
 -- slots from j on, where another slot was written
 come : (tab b l b′ l′ : List ℕ) (n k j : ℕ) (ps : List Pair) → Layout [] b l n → k < j → j + length ps ≤ n → OnlySlot b l k b′ l′ → Stored tab b l j ps → Stored tab b′ l′ j ps
@@ -109,7 +107,7 @@ module _ (tab new sizes : List ℕ) (a : Shelf) (n i k w : ℕ) (safe : Safe a n
           w-is = ap (λ z. z + 1) (g .w-is) ∙ sym (length-append (cs ++ g .rm) (c ∷ [])) ∙ ap length (sym all);
           n-is = let z = g .n-is in omega (arith, ap length q);
           kept-is = ap (λ z. g .ks ++ z) (sym (kept-none x old rest rw-old) ∙ ap (kept x) (sym q)) ∙ g .kept-is;
-          removed-is = snoc (g .rm) c (removed x rest) ∙ ap (λ z. g .rm ++ z) (sym (removed-one x old rest rw-old) ∙ ap (removed x) (sym q)) ∙ g .removed-is;
+          removed-is = append-snoc (g .rm) c (removed x rest) ∙ ap (λ z. g .rm ++ z) (sym (removed-one x old rest rw-old) ∙ ap (removed x) (sym q)) ∙ g .removed-is;
         }
 
     pub sift-removed : SiftedOne tab new sizes a n i k w after-removed k
@@ -170,7 +168,7 @@ module _ (tab new sizes : List ℕ) (a : Shelf) (n i k w : ℕ) (safe : Safe a n
           k-is = ap (λ z. z + 1) (g .k-is) ∙ sym (length-append (g .ks) (old ∷ []));
           w-is = g .w-is;
           n-is = let z = g .n-is in omega (arith, ap length q);
-          kept-is = snoc (g .ks) old (kept x rest) ∙ ap (λ z. g .ks ++ z) (sym (kept-one x old rest rw-old) ∙ ap (kept x) (sym q)) ∙ g .kept-is;
+          kept-is = append-snoc (g .ks) old (kept x rest) ∙ ap (λ z. g .ks ++ z) (sym (kept-one x old rest rw-old) ∙ ap (kept x) (sym q)) ∙ g .kept-is;
           removed-is = ap (λ z. g .rm ++ z) (sym (removed-none x old rest rw-old) ∙ ap (removed x) (sym q)) ∙ g .removed-is;
         }
 
@@ -192,14 +190,14 @@ module _ (tab new sizes : List ℕ) (a : Shelf) (n i k w : ℕ) (safe : Safe a n
     }
 
 -- the loop
-pub record Going (tab new sizes : List ℕ) (a : Shelf) (n w : ℕ) (a′ : Shelf) (k i : ℕ) : Type 0 where
+pub record SiftedTo (tab new sizes : List ℕ) (a : Shelf) (n w : ℕ) (a′ : Shelf) (k i : ℕ) : Type 0 where
   pub within : i ≤ n
   pub low : k ≤ i
   pub safe : Safe a′ n (w + (i - k))
   pub sifted : (x : Rule) (rs : List Rule) (cs : List Candidate) → RuleAt tab new sizes 0 (x .sides) → Sift tab x rs cs n a 0 0 w → Sift tab x rs cs n a′ i k (w + (i - k))
 
-pub going-start : (tab new sizes : List ℕ) (a : Shelf) (n w : ℕ) → Safe a n w → Going tab new sizes a n w a 0 0
-going-start tab new sizes a n w s =
+pub sifting-start : (tab new sizes : List ℕ) (a : Shelf) (n w : ℕ) → Safe a n w → SiftedTo tab new sizes a n w a 0 0
+sifting-start tab new sizes a n w s =
     let e : w ≡ w + (0 - 0) = omega arith in
     record {
       within = omega arith;
@@ -208,8 +206,8 @@ going-start tab new sizes a n w s =
       sifted = λ x rs cs h g. subst (λ z. Sift tab x rs cs n a 0 0 z) e g;
     }
 
-pub going-more : (tab new sizes : List ℕ) (a : Shelf) (n w : ℕ) (a′ a″ : Shelf) (k i r : ℕ) → Going tab new sizes a n w a′ k i → i < n → SiftedOne tab new sizes a′ n i k (w + (i - k)) a″ r → Going tab new sizes a n w a″ r (i + 1)
-going-more tab new sizes a n w a′ a″ k i r g h s =
+pub sifting-more : (tab new sizes : List ℕ) (a : Shelf) (n w : ℕ) (a′ a″ : Shelf) (k i r : ℕ) → SiftedTo tab new sizes a n w a′ k i → i < n → SiftedOne tab new sizes a′ n i k (w + (i - k)) a″ r → SiftedTo tab new sizes a n w a″ r (i + 1)
+sifting-more tab new sizes a n w a′ a″ k i r g h s =
     let p = g .low in
     let u = s .low in
     let v = s .high in
@@ -221,8 +219,8 @@ going-more tab new sizes a n w a′ a″ k i r g h s =
       sifted = λ x rs cs y f. subst (λ z. Sift tab x rs cs n a″ (i + 1) r z) e (s .sifted x rs cs y (g .sifted x rs cs y f));
     }
 
-pub going-end : (tab new sizes : List ℕ) (a : Shelf) (n w : ℕ) (a′ : Shelf) (k i : ℕ) → Going tab new sizes a n w a′ k i → n ≤ i → Sifted tab new sizes a n w a′ k
-going-end tab new sizes a n w a′ k i g h =
+pub sifting-end : (tab new sizes : List ℕ) (a : Shelf) (n w : ℕ) (a′ : Shelf) (k i : ℕ) → SiftedTo tab new sizes a n w a′ k i → n ≤ i → Sifted tab new sizes a n w a′ k
+sifting-end tab new sizes a n w a′ k i g h =
     let p = g .low in
     let q = g .within in
     let e : i ≡ n = omega arith in

@@ -2,9 +2,10 @@
 -- Read first: rewriting/specs/Rewrite (normalise), rewriting/proofs/Holds, normaliser/specs/Stored (Stored).
 use mathlib.Core.List.{List, [], _∷_}
 use Prim.Native.Nat.{ℕ, suc, _<_}
-use Rattle.terms.specs.Term.{Term, var, node, Terms, nil, cons}
-use Rattle.terms.specs.Flat.{Wf, Wfs}
-use Rattle.terms.proofs.Limits.{Made, MadeAll}
+use Rattle.terms.proofs.Flats.{wf-made}
+use Rattle.terms.specs.Term.{Term}
+use Rattle.terms.specs.Flat.{Wf}
+use Rattle.terms.proofs.Limits.{Made}
 use Rattle.terms.proofs.Every.{Every, of-none, of-cons}
 use Rattle.rewriting.specs.Overlap.{Rule, sides-of}
 use Rattle.rewriting.specs.Rewrite.{normalise}
@@ -15,42 +16,16 @@ use Rattle.normaliser.specs.Stored.{Stored}
 abbrev pub Below : ℕ → Term → Type 0
 Below n t = Made (λ f. f < 16) (λ x. x < n) t
 
-abbrev BelowAll : ℕ → Terms → Type 0
-BelowAll n ts = MadeAll (λ f. f < 16) (λ x. x < n) ts
-
-mutual
-  unfolding Wf Made
-
-  pub below : (n : ℕ) (tab : List ℕ) (t : Term) → Wf n tab t → Below n t
-  below n tab (var x) w = w
-  below n tab (node f ts) w = (w .0, below-all n tab ts (w .2))
-
-  below-all : (n : ℕ) (tab : List ℕ) (ts : Terms) → Wfs n tab ts → BelowAll n ts
-  below-all n tab nil w = tt
-  below-all n tab (cons t ts) w = (below n tab t (w .0), below-all n tab ts (w .1))
-
--- fewer variables are enough
-mutual
-  unfolding Wf Made
-
-  pub narrow : (m n : ℕ) (tab : List ℕ) (t : Term) → Wf m tab t → Below n t → Wf n tab t
-  narrow m n tab (var x) w h = h
-  narrow m n tab (node f ts) w h = (w .0, w .1, narrow-all m n tab ts (w .2) (h .1))
-
-  narrow-all : (m n : ℕ) (tab : List ℕ) (ts : Terms) → Wfs m tab ts → BelowAll n ts → Wfs n tab ts
-  narrow-all m n tab nil w h = tt
-  narrow-all m n tab (cons t ts) w h = (narrow m n tab t (w .0) (h .0), narrow-all m n tab ts (w .1) (h .1))
-
 rights-below : (tab rules lens : List ℕ) (k : ℕ) (rs : List Rule) → Stored tab rules lens k (sides-of rs) → Every (λ rule. Below 16 (rule .sides .right)) rs
 unfolding Stored
 rights-below tab rules lens k [] h = of-none
-rights-below tab rules lens k (r ∷ rs) h = of-cons (below 16 tab (r .sides .right) (h .0 .right-wf)) (rights-below tab rules lens (suc k) rs (h .1))
+rights-below tab rules lens k (r ∷ rs) h = of-cons (wf-made 16 tab (r .sides .right) (h .0 .right-wf)) (rights-below tab rules lens (suc k) rs (h .1))
 
 -- by stored rules, whose variables are below 16
 pub normal-below : (tab rules lens : List ℕ) (rs : List Rule) → Stored tab rules lens 0 (sides-of rs) → (x : Term) → Wf 16 tab x → (units : ℕ) →
     Holds (Below 16) (λ e n. Unit {0}) (normalise rs x units)
 normal-below tab rules lens rs h x w units =
     pays-weaker (normalise rs x)
-    (λ y (f : Form rs x y). reached-keeps (Below 16) (λ a b e l q. step-made (λ f. f < 16) (λ v. v < 16) (λ v. v < 16) (λ v z. z) rs (rights-below tab rules lens 0 rs h) a b q e) (f .reached) (below 16 tab x w))
+    (λ y (f : Form rs x y). reached-keeps (Below 16) (λ a b e l q. step-made (λ f. f < 16) (λ v. v < 16) (λ v. v < 16) (λ v z. z) rs (rights-below tab rules lens 0 rs h) a b q e) (f .reached) (wf-made 16 tab x w))
     (normalise-holds (λ e n. Unit {0}) rs tt x (λ o n. tt))
     .out units

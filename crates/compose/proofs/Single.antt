@@ -1,42 +1,31 @@
 -- The right side of one rule, normalised by all live rules: written back (`composed`), or the end and the units left (`stopped`). Assumes nothing.
 -- Read first: specs/Rights (Amid, One), proofs/Narrow, store/proofs/Listing.
 use mathlib.Core.Path.{_≡_, refl, sym, ap, _∙_, subst}
-use mathlib.Core.List.{List, [], _∷_, _++_, map-append}
-use Prim.Native.Nat.{ℕ, suc, _+_, _-_, _*_, _<_, _≤_}
+use mathlib.Core.List.{List, _∷_, _++_, map-append}
+use Prim.Native.Nat.{ℕ, _+_, _-_, _*_, _<_, _≤_}
 use native.Mathlib.Omega.{arith}
-use lib.ListN.{length, getD, drop, take, length-append, length-drop, length-take}
+use native.Mathlib.Nat.{sub-zero}
+use lib.ListN.{length, getD, drop, take, length-append, length-drop, length-take, length-map}
 use lib.Seq.{length-take-le}
 use Rattle.terms.specs.Term.{Term}
-use Rattle.terms.proofs.Flats.{widen}
+use Rattle.terms.proofs.Flats.{widen, made-wf}
+use Rattle.normaliser.proofs.Parts.{zero≢code}
 use Rattle.rewriting.specs.Overlap.{Rule, sides-of}
-use Rattle.rewriting.specs.Rewrite.{Paid, done, stop, End, complete, neither-above, spent, too-large, rules-full, log-full, normalise}
+use Rattle.rewriting.specs.Rewrite.{Paid, done, stop, normalise}
 use Rattle.rewriting.proofs.Holds.{Holds}
-use Rattle.normaliser.specs.Stored.{Layout, RuleAt, Stored, code, NormalIs, Normalised}
+use Rattle.normaliser.specs.Stored.{Layout, RuleAt, Stored, NormalIs, Normalised}
 use Rattle.normaliser.specs.declared.Normal.{Normal}
 use Rattle.store.specs.Slots.{patched, OnlySlot, RightIs}
 use Rattle.store.proofs.Patching.{patched-here}
-use Rattle.store.proofs.Listing.{short-at, short-right, stored-split, stored-first, stored-right, layout-kept}
+use Rattle.store.proofs.Listing.{slot-kept, short-at, short-right, stored-split, stored-first, stored-right, layout-kept}
 use Rattle.compose.specs.Rights.{Amid, OneIs, One}
-use Rattle.compose.proofs.Narrow.{Below, narrow, normal-below}
-
-pub slot-kept : (rules lens : List ℕ) (k : ℕ) → OnlySlot rules lens k rules lens
-slot-kept rules lens k = record { same-bytes = refl; same-lengths = refl; others = λ i n. record { left-length = refl; right-length = refl; content = refl } }
-
--- an end is not the verdict of an answer
-pub code-above : (e : End) → 1 ≤ code e
-code-above complete = omega arith
-code-above (neither-above p) = omega arith
-code-above spent = omega arith
-code-above too-large = omega arith
-code-above rules-full = omega arith
-code-above log-full = omega arith
+use Rattle.compose.proofs.Narrow.{Below, normal-below}
 
 pub sides-append : (a b : List Rule) → sides-of (a ++ b) ≡ sides-of a ++ sides-of b
 sides-append = map-append (λ r. r .sides)
 
 length-sides : (a : List Rule) → length (sides-of a) ≡ length a
-length-sides [] = refl
-length-sides (r ∷ a) = ap suc (length-sides a)
+length-sides a = length-map a (λ r. r .sides)
 
 rule-here : (tab rules lens : List ℕ) (k older : ℕ) (before : List Rule) (old : Rule) (after : List Rule) → Amid tab rules lens k older before old after → RuleAt tab rules lens k (old .sides)
 rule-here tab rules lens k older before old after h =
@@ -100,8 +89,8 @@ module _ (tab rules lens : List ℕ) (k older count units n : ℕ) (t₀ t t′ 
               stored-right tab rules lens rules′ lens′ (take (o .len - 0) (drop 0 t′)) (older + 1) (sides-of before) (old .sides) (sides-of after) x y (omega (arith, h .place))
                   (subst (λ z. OnlySlot rules lens z rules′ lens′) (sym a) only)
                   (subst (λ z. RightIs rules lens z (take (o .len - 0) (drop 0 t′)) rules′ lens′) (sym a) written)
-                  (narrow 32 16 tab x (e .4) b)
-                  (ap (λ z. take z t′) (let q : o .len - 0 ≡ o .len = omega arith in q) ∙ e .3)
+                  (made-wf (λ f. f < 16) 32 16 tab x (e .4) b)
+                  (ap (λ z. take z t′) (sub-zero (o .len)) ∙ e .3)
                   (subst (λ z. Stored tab rules lens 0 z) (sides-append before (old ∷ after)) (h .stored)),
             )
-        go before old after h (stop c left) e b = let z : o .verdict ≡ code c = e .0 in absurd (omega (arith, code-above c))
+        go before old after h (stop c left) e b = absurd (zero≢code c (sym v ∙ e .0))

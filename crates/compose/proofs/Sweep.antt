@@ -1,21 +1,22 @@
 -- All right sides, ascending: the definition's `normalise-rights` is that of the rules to come with the units left. Assumes nothing.
 -- Read first: specs/Rights (One, All), completion/specs/Turn (normalise-rights), proofs/Single.
 use mathlib.Core.Path.{_≡_, refl, sym, ap, _∙_, subst}
-use mathlib.Core.List.{List, [], _∷_, _++_, append-assoc, append-nil}
+use mathlib.Core.List.{List, [], _∷_, _++_, append-assoc, append-nil, map-append}
 use Prim.Native.Nat.{ℕ, _+_, _<_, _≤_}
 use native.Mathlib.Omega.{arith}
 use lib.ListN.{length, length-append}
+use Rattle.normaliser.proofs.Parts.{zero≢code}
+use Rattle.store.proofs.Listing.{slot-same, slot-trans}
 use Rattle.terms.specs.Term.{Term}
 use Rattle.rewriting.specs.Overlap.{Rule, sides-of}
 use Rattle.rewriting.specs.Rewrite.{Paid, done, stop, and-then, _>>=_, return, normalise}
-use Rattle.normaliser.specs.Stored.{Layout, Stored, code}
+use Rattle.normaliser.specs.Stored.{Layout, Stored}
 use Rattle.completion.specs.Turn.{normalise-rights}
 use Rattle.completion.proofs.Ends.{with-right}
 use Rattle.completion.proofs.Limits.{numbers}
-use Rattle.store.specs.Slots.{SameSlot}
 use Rattle.compose.specs.Rights.{OneIs, One, Kept, AllIs, All}
 use Rattle.compose.specs.declared.Composed.{Composed}
-use Rattle.compose.proofs.Single.{code-above, sides-append}
+use Rattle.compose.proofs.Single.{sides-append}
 
 -- The rules `before` are done and the rules `later` are to come.
 pub record Midway (tab rules lens : List ℕ) (rs : List Rule) (new : Rule) (k units left : ℕ) (before later : List Rule) : Type 0 where
@@ -25,25 +26,22 @@ pub record Midway (tab rules lens : List ℕ) (rs : List Rule) (new : Rule) (k u
   pub run : normalise-rights [] rs new units ≡ normalise-rights before later new left
   pub same-numbers : numbers (before ++ later ++ (new ∷ [])) ≡ numbers (rs ++ (new ∷ []))
 
-pub record Going (tab rules lens rules′ lens′ : List ℕ) (older units k left : ℕ) : Type 0 where
+-- the first k right sides are done
+pub record SweptTo (tab rules lens rules′ lens′ : List ℕ) (older units k left : ℕ) : Type 0 where
   pub within : k ≤ older
   pub kept : Kept tab rules lens rules′ lens′ older units left
   pub answer : (rs : List Rule) (new : Rule) → length rs ≡ older → Stored tab rules lens 0 (sides-of (rs ++ (new ∷ []))) →
       (before : List Rule) × (later : List Rule) × Midway tab rules′ lens′ rs new k units left before later
 
-pub going-start : (tab rules lens : List ℕ) (older units : ℕ) → Layout tab rules lens (older + 1) → Going tab rules lens rules lens older units 0 units
-going-start tab rules lens older units y = record {
+pub sweep-start : (tab rules lens : List ℕ) (older units : ℕ) → Layout tab rules lens (older + 1) → SweptTo tab rules lens rules lens older units 0 units
+sweep-start tab rules lens older units y = record {
   within = omega arith;
-  kept = record { same-bytes = refl; same-lengths = refl; layout = y; others = λ i h. record { left-length = refl; right-length = refl; content = refl }; left-over = omega arith };
+  kept = record { same-bytes = refl; same-lengths = refl; layout = y; others = λ i h. slot-same rules lens i; left-over = omega arith };
   answer = λ rs new e h. ([], rs, record { place = refl; total = omega arith; stored = h; run = refl; same-numbers = refl });
 }
 
-same-trans : {b l b₁ l₁ b₂ l₂ : List ℕ} {i : ℕ} → SameSlot b l b₁ l₁ i → SameSlot b₁ l₁ b₂ l₂ i → SameSlot b l b₂ l₂ i
-same-trans p q = record { left-length = q .left-length ∙ p .left-length; right-length = q .right-length ∙ p .right-length; content = q .content ∙ p .content }
-
 numbers-with : (before : List Rule) (old : Rule) (x : Term) (after : List Rule) → numbers (before ++ (with-right old x ∷ after)) ≡ numbers (before ++ (old ∷ after))
-numbers-with [] old x after = refl
-numbers-with (r ∷ before) old x after = ap (λ l. r .number ∷ l) (numbers-with before old x after)
+numbers-with before old x after = map-append (λ r. r .number) before (with-right old x ∷ after) ∙ sym (map-append (λ r. r .number) before (old ∷ after))
 
 -- the definition's two cases
 abbrev then-rest : List Rule → Rule → List Rule → Rule → Paid Term → Paid (List Rule)
@@ -58,7 +56,7 @@ last-right : (before : List Rule) (new : Rule) (left : ℕ) → normalise-rights
 unfolding normalise-rights return
 last-right before new left = refl
 
-module _ (tab rules lens rules₁ lens₁ : List ℕ) (older units k left : ℕ) (g : Going tab rules lens rules₁ lens₁ older units k left) where
+module _ (tab rules lens rules₁ lens₁ : List ℕ) (older units k left : ℕ) (g : SweptTo tab rules lens rules₁ lens₁ older units k left) where
   module _ (more : k < older) (rules₂ lens₂ : List ℕ) (o : Composed) (one : One tab rules₁ lens₁ rules₂ lens₂ k older left o) where
     still-kept : Kept tab rules lens rules₂ lens₂ older units (o .units)
     still-kept =
@@ -68,7 +66,7 @@ module _ (tab rules lens rules₁ lens₁ : List ℕ) (older units k left : ℕ)
           same-bytes = one .only .same-bytes ∙ g .kept .same-bytes;
           same-lengths = one .only .same-lengths ∙ g .kept .same-lengths;
           layout = one .layout;
-          others = λ i h. same-trans (g .kept .others i h) (one .only .others i (λ e. omega arith));
+          others = λ i h. slot-trans (g .kept .others i h) (one .only .others i (λ e. omega arith));
           left-over = omega arith;
         }
 
@@ -109,7 +107,7 @@ module _ (tab rules lens rules₁ lens₁ : List ℕ) (older units k left : ℕ)
               same-numbers = ap numbers (behind before later old m x) ∙ numbers-with before old x (later ++ (new ∷ [])) ∙ ap numbers (sym (append-assoc before (old ∷ later) (new ∷ []))) ∙ m .same-numbers;
             },
           )
-      further v before later old m (stop c n) e f = let z : o .verdict ≡ code c = e .0 in absurd (omega (arith, code-above c))
+      further v before later old m (stop c n) e f = absurd (zero≢code c (sym v ∙ e .0))
 
       ended : 0 < o .verdict → (before later : List Rule) (old : Rule) (p : Paid Term) → OneIs tab rules₂ lens₂ before old (later ++ (new ∷ [])) o p →
           normalise-rights [] rs new units ≡ then-rest before old later new p → AllIs tab rules₂ lens₂ older (rs ++ (new ∷ [])) o (normalise-rights [] rs new units)
@@ -127,22 +125,22 @@ module _ (tab rules lens rules₁ lens₁ : List ℕ) (older units k left : ℕ)
       next-ended v before [] m = absurd (omega (arith, m .place, m .total))
       next-ended v before (old ∷ later) m = ended v before later old _ (said before later old m) (runs before later old m)
 
-    pub going-on : o .verdict ≡ 0 → Going tab rules lens rules₂ lens₂ older units (k + 1) (o .units)
-    going-on v = record {
+    pub sweep-on : o .verdict ≡ 0 → SweptTo tab rules lens rules₂ lens₂ older units (k + 1) (o .units)
+    sweep-on v = record {
       within = omega arith;
       kept = still-kept;
       answer = λ rs new number h. let m = g .answer rs new number h in next-midway rs new number v (m .0) (m .1) (m .2);
     }
 
-    pub going-stop : 0 < o .verdict → All tab rules lens rules₂ lens₂ older units o
-    going-stop v = record {
+    pub sweep-stop : 0 < o .verdict → All tab rules lens rules₂ lens₂ older units o
+    sweep-stop v = record {
       kept = still-kept;
       known = one .known;
       answer = λ rs new number h. let m = g .answer rs new number h in next-ended rs new number v (m .0) (m .1) (m .2);
     }
 
-  pub going-end : older ≤ k → All tab rules lens rules₁ lens₁ older units (record { verdict = 0; units = left })
-  going-end over = record {
+  pub sweep-end : older ≤ k → All tab rules lens rules₁ lens₁ older units (record { verdict = 0; units = left })
+  sweep-end over = record {
     kept = g .kept;
     known = omega arith;
     answer = λ rs new number h. let m = g .answer rs new number h in last rs new number (m .0) (m .1) (m .2);

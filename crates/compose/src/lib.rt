@@ -1,7 +1,5 @@
 // Step 7 of a turn: the older rules' right sides, ascending, each normalised by all live rules as they then read.
-ghost use mathlib.Core.Path.{_≡_};
-ghost use Prim.Native.Nat.{ℕ, _+_, _<_, _≤_};
-ghost use lib.ListN.{length};
+ghost use Prim.Native.Nat.{_+_, _<_};
 ghost use Rattle.normaliser.specs.Stored.{Layout};
 ghost use Rattle.compose.specs.Rights.{One, All};
 

@@ -4,6 +4,7 @@ use mathlib.Core.Path.{_≡_, refl, sym, ap, ap₂, _∙_, subst}
 use mathlib.Core.List.{List, [], _∷_, _++_, append-assoc, append-nil, map, flatMap}
 use Prim.Native.Nat.{ℕ, zero, suc, _+_, _-_, _*_, _/_, _%_, _<_, _≤_}
 use native.Mathlib.Omega.{arith}
+use native.Mathlib.Nat.{sub-zero}
 use native.Mathlib.Numerals.{add-one}
 use lib.ListN.{length, getD, drop, take, length-map, List·getD-append}
 use lib.Seq.{length-take-le, getD-take, take-append-le, drop-append-le}
@@ -13,13 +14,13 @@ use Rattle.normaliser.specs.Stored.{Layout, Stored}
 use Rattle.problem.specs.Problem.{Equation, Problem}
 use Rattle.completion.specs.Turn.{waiting-input, candidates, initial}
 use Rattle.completion.specs.Calls.{origin-bytes}
-use Rattle.completion.proofs.Limits.{length-candidates}
+use Rattle.completion.proofs.Limits.{length-candidates, candidates-sides}
 use Rattle.completion.proofs.Result.{origin-bytes-length}
 use Rattle.store.specs.Slots.{patched, SameSlot}
-use Rattle.store.proofs.Patching.{length-patched}
+use Rattle.store.proofs.Patching.{length-patched, front-more, patched-zero}
 use Rattle.store.proofs.Listing.{part-in, stored-same, stored-none, layout-of, short-at, short-as}
-use Rattle.collapse.specs.Sifting.{pairs-of, origins-bytes}
-use Rattle.collapse.proofs.Lists.{front-more, any-table}
+use Rattle.collapse.specs.Sifting.{origins-bytes}
+use Rattle.collapse.proofs.Lists.{any-table}
 use Rattle.engine.specs.State.{Whole, Represents}
 use Rattle.engine.specs.Steps.{numbered, Begun}
 
@@ -40,17 +41,17 @@ numbered-more k (suc n) =
     ap (λ z. origin-bytes (waiting-input k) ++ z) (numbered-more (suc k) n ∙ ap (λ z. numbered (suc k) n ++ origin-bytes (waiting-input z)) e)
     ∙ sym (append-assoc (origin-bytes (waiting-input k)) (numbered (suc k) n) (origin-bytes (waiting-input (k + suc n))))
 
-pub record Numbering (os₀ os : List ℕ) (n i : ℕ) : Type 0 where
+pub record OriginsTo (os₀ os : List ℕ) (n i : ℕ) : Type 0 where
   pub within : i ≤ n
   pub same : length os ≡ length os₀
   pub so-far : take (6 * i) os ≡ numbered 1 i
 
-pub numbering-start : (os : List ℕ) (n : ℕ) → Numbering os os n 0
+pub origins-start : (os : List ℕ) (n : ℕ) → OriginsTo os os n 0
 unfolding numbered
-numbering-start os n = record { within = omega arith; same = refl; so-far = refl }
+origins-start os n = record { within = omega arith; same = refl; so-far = refl }
 
-pub numbering-more : (os₀ os os′ : List ℕ) (n i : ℕ) → Numbering os₀ os n i → i < n → 6 * n ≤ length os₀ → os′ ≡ patched (6 * i) (origin-bytes (waiting-input (i + 1))) os → Numbering os₀ os′ n (i + 1)
-numbering-more os₀ os os′ n i g h room e =
+pub origins-more : (os₀ os os′ : List ℕ) (n i : ℕ) → OriginsTo os₀ os n i → i < n → 6 * n ≤ length os₀ → os′ ≡ patched (6 * i) (origin-bytes (waiting-input (i + 1))) os → OriginsTo os₀ os′ n (i + 1)
+origins-more os₀ os os′ n i g h room e =
     let m = g .same in
     let l = origin-bytes-length (waiting-input (i + 1)) in
     let f : i + 1 ≡ 1 + i = omega arith in
@@ -65,32 +66,23 @@ numbering-more os₀ os os′ n i g h room e =
           ∙ ap (numbered 1) (sym (add-one i));
     }
 
-pub numbering-end : (os₀ os : List ℕ) (n i : ℕ) → Numbering os₀ os n i → n ≤ i → (length os ≡ length os₀) × (take (6 * n) os ≡ numbered 1 n)
-numbering-end os₀ os n i g h = let w = g .within in let e : i ≡ n = omega arith in (g .same, subst (λ z. take (6 * z) os ≡ numbered 1 z) e (g .so-far))
+pub origins-end : (os₀ os : List ℕ) (n i : ℕ) → OriginsTo os₀ os n i → n ≤ i → (length os ≡ length os₀) × (take (6 * n) os ≡ numbered 1 n)
+origins-end os₀ os n i g h = let w = g .within in let e : i ≡ n = omega arith in (g .same, subst (λ z. take (6 * z) os ≡ numbered 1 z) e (g .so-far))
 
 -- the inputs as candidates
-candidates-pairs : (k : ℕ) (es : List Equation) → map (λ e. renamed (e .sides)) es ≡ pairs-of (candidates waiting-input k es)
-unfolding candidates
-candidates-pairs k [] = refl
-candidates-pairs k (e ∷ es) = ap (λ z. renamed (e .sides) ∷ z) (candidates-pairs (suc k) es)
-
 candidates-origins : (k : ℕ) (es : List Equation) → numbered k (length es) ≡ origins-bytes (candidates waiting-input k es)
 unfolding candidates numbered flatMap
 candidates-origins k [] = refl
 candidates-origins k (e ∷ es) = ap (λ z. origin-bytes (waiting-input k) ++ z) (candidates-origins (suc k) es)
 
 -- `begin`
-patched-zero : (p d : List ℕ) → patched 0 p d ≡ p ++ drop (0 + length p) d
-unfolding patched
-patched-zero p d = refl
-
 module _ (inputs lens : List ℕ) (number : ℕ) (y : Layout [] inputs lens number) (few : number ≤ 16) (d₁ d₂ wb wl : List ℕ)
     (e : wb ≡ patched 0 (take (240 * number - 0) (drop 0 inputs)) d₁) (f : wl ≡ patched 0 (take (2 * number - 0) (drop 0 lens)) d₂) where
   front-bytes : wb ≡ take (240 * number) inputs ++ drop (0 + length (take (240 * number) inputs)) d₁
-  front-bytes = let z : 240 * number - 0 ≡ 240 * number = omega arith in e ∙ ap (λ k. patched 0 (take k inputs) d₁) z ∙ patched-zero (take (240 * number) inputs) d₁
+  front-bytes = e ∙ ap (λ k. patched 0 (take k inputs) d₁) (sub-zero (240 * number)) ∙ patched-zero (take (240 * number) inputs) d₁
 
   front-lens : wl ≡ take (2 * number) lens ++ drop (0 + length (take (2 * number) lens)) d₂
-  front-lens = let z : 2 * number - 0 ≡ 2 * number = omega arith in f ∙ ap (λ k. patched 0 (take k lens) d₂) z ∙ patched-zero (take (2 * number) lens) d₂
+  front-lens = f ∙ ap (λ k. patched 0 (take k lens) d₂) (sub-zero (2 * number)) ∙ patched-zero (take (2 * number) lens) d₂
 
   same-length-at : (j : ℕ) → j < 2 * number → getD wl j 0 ≡ getD lens j 0
   same-length-at j h =
@@ -142,7 +134,7 @@ module _ (inputs lens : List ℕ) (number : ℕ) (y : Layout [] inputs lens numb
           count = refl;
           made = refl;
           waiting =
-              subst (λ z. Stored tab wb wl 0 z) (candidates-pairs 1 (P .equations))
+              subst (λ z. Stored tab wb wl 0 z) (candidates-sides waiting-input 1 (P .equations))
               (stored-same tab inputs lens wb wl 0 number ps (any-table tab [] inputs lens number y) (omega arith) (λ i j h. same-slot i (omega arith)) s);
           origins = g ∙ ap (numbered 1) n ∙ candidates-origins 1 (P .equations);
           waits = n ∙ sym (length-candidates waiting-input 1 (P .equations));

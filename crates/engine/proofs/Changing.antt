@@ -5,6 +5,7 @@ use mathlib.Core.List.{List, [], _∷_, _++_, append-nil, map, map-append, flatM
 use Prim.Native.Nat.{ℕ, suc, _+_, _-_, _*_, _/_, _%_, _<_, _≤_}
 use native.Mathlib.Omega.{arith}
 use lib.ListN.{length, getD, drop, take, set, length-append}
+use Rattle.terms.proofs.Lists.{flatMap-append, flatMap-one}
 use Rattle.terms.specs.Base.{number-bytes, field-bytes}
 use Rattle.terms.specs.Term.{Pair}
 use Rattle.rewriting.specs.Overlap.{Rule, sides-of}
@@ -13,13 +14,13 @@ use Rattle.completion.specs.Turn.{Origin, waiting-input, removed-rule, scanned-
 use Rattle.completion.specs.Calls.{origin-bytes, entry-field}
 use Rattle.completion.proofs.Result.{origin-bytes-length}
 use Rattle.store.specs.Slots.{patched, SlotAs, OnlySlot, Dropped}
-use Rattle.store.proofs.Patching.{length-patched}
-use Rattle.store.proofs.Listing.{rule-as, short-as, short-at, layout-dropped, layout-more, stored-dropped, stored-none}
+use Rattle.store.proofs.Patching.{length-patched, front-more}
+use Rattle.store.proofs.Listing.{rule-as, short-as, short-at, layout-dropped, layout-more, stored-dropped, stored-none, stored-behind}
 use Rattle.collapse.specs.Sifting.{pairs-of, origins-bytes, Shelf, shelf, Sift, Sifted}
 use Rattle.engine.specs.State.{Whole, FineBut, Fine, Represents}
 use Rattle.engine.specs.Steps.{entry-bytes, TakenState, CollapsedState, OrientedState, LoggedState}
 use Rattle.normaliser.proofs.Choosing.{layout-front}
-use Rattle.collapse.proofs.Lists.{front-more, front-less, flatMap-append, flatMap-one, stored-behind, any-table, number-more}
+use Rattle.collapse.proofs.Lists.{front-less, any-table, number-more}
 
 -- an entry's bytes
 pub entry-is : (o : Origin) (n : ℕ) → field-bytes (entry-field (record { origin = o; made = n })) ≡ entry-bytes (origin-bytes o) n

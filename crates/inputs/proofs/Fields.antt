@@ -1,7 +1,7 @@
 -- The equation fields of a problem that is accepted stand one behind the other, and the loop puts the first k into slots 0 to k - 1. Assumes nothing.
 -- Read first: specs/Inputs (SidesAt, Filled), problem/proofs/Laid, store/proofs/Listing.
 use mathlib.Core.Path.{_≡_, refl, sym, ap, _∙_, subst}
-use mathlib.Core.List.{List, [], _∷_, _++_, map, map-map, append-assoc, append-nil}
+use mathlib.Core.List.{List, [], _∷_, _++_, map, map-map, map-append, append-assoc, append-nil}
 use Prim.Native.Nat.{ℕ, _+_, _-_, _*_, _<_, _≤_}
 use native.Mathlib.Omega.{arith}
 use lib.ListN.{length, drop, take, length-append, length-map}
@@ -17,7 +17,7 @@ use Rattle.problem.proofs.Laid.{Laid, parsed-laid}
 use Rattle.completion.proofs.Limits.{HeldPair}
 use Rattle.completion.proofs.Accepts.{accepts}
 use Rattle.store.specs.Slots.{Room}
-use Rattle.store.proofs.Listing.{layout-of, layout-more, stored-none, stored-more}
+use Rattle.store.proofs.Listing.{layout-of, layout-more, stored-none, stored-behind}
 use Rattle.inputs.specs.Inputs.{SidesAt, PutEquation, Filled}
 
 sides-at : (n : ℕ) (tab : List ℕ) (T : Table tab) (l : List ℕ) (at : ℕ) (q : Equation) → Both tab T l at q → HeldPair n 16 (q .sides) → SidesAt tab l (at + 3) (q .sides)
@@ -80,10 +80,6 @@ fill-start tab l at b₀ l₀ = record {
 pub fill-room : (tab l : List ℕ) (at : ℕ) (b₀ l₀ bytes lens : List ℕ) (k i count : ℕ) → SoFar tab l at b₀ l₀ bytes lens k i → k < count → 240 * count ≤ length b₀ → 2 * count ≤ length l₀ → Room bytes lens k
 fill-room tab l at b₀ l₀ bytes lens k i count s h m n = record { slots = omega (arith, s .same-bytes); lengths = omega (arith, s .same-lengths) }
 
-map-snoc : (ps : List Pair) (p : Pair) → map renamed (ps ++ (p ∷ [])) ≡ map renamed ps ++ (renamed p ∷ [])
-map-snoc [] p = refl
-map-snoc (q ∷ ps) p = ap (_∷_ (renamed q)) (map-snoc ps p)
-
 module _ (tab l : List ℕ) (bytes lens bytes′ lens′ : List ℕ) (k i r : ℕ) (y : Layout tab bytes lens k) (q : PutEquation tab l i bytes lens k bytes′ lens′ r) where
   next : (ps first rest : List Pair) → ps ≡ first ++ rest → length first ≡ k → Stored tab bytes lens 0 (map renamed first) → InFields tab l i rest → k + 1 ≤ length ps → Split tab l bytes′ lens′ (k + 1) r ps
   unfolding InFields
@@ -95,7 +91,7 @@ module _ (tab l : List ℕ) (bytes lens bytes′ lens′ : List ℕ) (k i r : �
         rest = rest;
         is = e ∙ sym (append-assoc first (p ∷ []) rest);
         number = length-append first (p ∷ []) ∙ omega (arith, n);
-        stored = subst (Stored tab bytes′ lens′ 0) (sym (map-snoc first p)) (stored-more tab bytes lens bytes′ lens′ k (map renamed first) (renamed p) y (omega (arith, n, length-map first renamed)) (q .only) (a .1) s);
+        stored = subst (Stored tab bytes′ lens′ 0) (sym (map-append renamed first (p ∷ []))) (stored-behind tab bytes lens bytes′ lens′ k k (map renamed first) (renamed p) y (omega arith) (omega (arith, n, length-map first renamed)) (q .only) (a .1) s);
         more = subst (λ z. InFields tab l z rest) (sym (a .0)) (f .3);
       }
 

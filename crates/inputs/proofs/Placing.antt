@@ -5,6 +5,7 @@ use mathlib.Core.Path.{_≡_, refl, sym, ap, ap₂, _∙_, subst, subst₂}
 use mathlib.Core.List.{List, [], _++_, append-assoc}
 use Prim.Native.Nat.{ℕ, _+_, _-_, _≤_}
 use native.Mathlib.Omega.{arith}
+use native.Mathlib.Nat.{sub-zero}
 use lib.ListN.{length, drop, take, length-drop, length-take, length-append}
 use lib.Seq.{take-all, take-at, drop-at, take-add, drop-drop, take-length, length-take-le}
 use Rattle.terms.specs.Term.{Pair, size, term-bytes, renamed}
@@ -25,15 +26,13 @@ use Rattle.inputs.specs.Inputs.{Known, SidesAt, SideEnd, PutSides, PutEq
 -- `put_run`
 pub run-holds : (b l : List ℕ) (k : ℕ) (run : List ℕ) (m : ℕ) → Holds b l k (take (m - 0) run) (take (length run - m) (drop m run)) → Holds b l k (take m run) (drop m run)
 run-holds b l k run m h =
-    let z : m - 0 ≡ m = omega arith in
-    subst₂ (λ x y. Holds b l k x y) (ap (λ n. take n run) z) (take-all (length run - m) (drop m run) (omega (arith, length-drop m run))) h
+    subst₂ (λ x y. Holds b l k x y) (ap (λ n. take n run) (sub-zero m)) (take-all (length run - m) (drop m run) (omega (arith, length-drop m run))) h
 
 -- `put_renamed`: the run is copied to the front of a buffer
 module _ (s h h₁ : List ℕ) (c : h₁ ≡ take (length s) s ++ drop (length s) h) where
   pub copied-front : take (length s - 0) h₁ ≡ s
   copied-front =
-      let z : length s - 0 ≡ length s = omega arith in
-      ap₂ take z c ∙ ap (λ y. take (length s) (y ++ drop (length s) h)) (take-length s) ∙ take-at s (drop (length s) h) (length s) refl
+      ap₂ take (sub-zero (length s)) c ∙ ap (λ y. take (length s) (y ++ drop (length s) h)) (take-length s) ∙ take-at s (drop (length s) h) (length s) refl
 
   pub names-few : Known s → length (collect [] (take (length s - 0) h₁)) ≤ 127
   names-few k = subst (λ y. length (collect [] y) ≤ 127) (sym copied-front) (omega (arith, few-names 16 s (λ b i. every-in k i)))
@@ -45,8 +44,7 @@ module _ (s h h₁ : List ℕ) (c : h₁ ≡ take (length s) s ++ drop (length s
 
     pub renamed-front : take (length s - 0) (q ++ drop (length s - 0) h₁) ≡ renamed-bytes s
     renamed-front =
-        let z : length s - 0 ≡ length s = omega arith in
-        ap₂ (λ n y. take n (y ++ drop (length s - 0) h₁)) z q-is ∙ take-at (renamed-bytes s) (drop (length s - 0) h₁) (length s) (length-renamed s)
+        ap₂ (λ n y. take n (y ++ drop (length s - 0) h₁)) (sub-zero (length s)) q-is ∙ take-at (renamed-bytes s) (drop (length s - 0) h₁) (length s) (length-renamed s)
 
     pub renamed-long : length s ≤ length (q ++ drop (length s - 0) h₁)
     renamed-long = omega (arith, length-append q (drop (length s - 0) h₁), ap length q-is, length-renamed s)

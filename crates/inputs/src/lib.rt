@@ -1,6 +1,5 @@
 // The input equations of a problem, each renamed as a pair, in slots.
-ghost use mathlib.Core.Path.{_≡_};
-ghost use Prim.Native.Nat.{ℕ, _+_, _-_, _*_, _<_, _≤_};
+ghost use Prim.Native.Nat.{_+_, _-_, _*_, _<_, _≤_};
 ghost use lib.ListN.{length, drop, take};
 ghost use Rattle.naming.specs.Names.{renamed-bytes};
 ghost use Rattle.store.specs.Slots.{Room, Holds, OnlySlot};

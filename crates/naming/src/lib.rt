@@ -1,7 +1,7 @@
 // Numbers the variables in the bytes of terms 0, 1, 2 .. in order of first occurrence.
 ghost use mathlib.Core.Path.{_≡_};
 ghost use mathlib.Core.List.{map, [], _++_};
-ghost use Prim.Native.Nat.{ℕ, _+_, _<_, _≤_};
+ghost use Prim.Native.Nat.{_+_, _<_, _≤_};
 ghost use lib.ListN.{length, take, drop};
 ghost use Rattle.terms.specs.Base.{place-in};
 ghost use Rattle.naming.specs.Names.{added, collect, named, renamed-bytes};

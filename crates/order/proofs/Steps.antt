@@ -64,27 +64,27 @@ module _ (tab : List ℕ) (f : ℕ) (ss : Terms) (g : ℕ) (ts : Terms) where
 
 -- `above` returns
 module _ (tab s t : List ℕ) where
-  pub above-1 : length s ≡ 0 → IsAbove tab s t false
-  above-1 h x y b d = absurd (starts-some tab s x b h)
+  pub above-no-left : length s ≡ 0 → IsAbove tab s t false
+  above-no-left h x y b d = absurd (starts-some tab s x b h)
 
-  pub above-2 : length t ≡ 0 → IsAbove tab s t false
-  above-2 h x y b d = absurd (starts-some tab t y d h)
+  pub above-no-right : length t ≡ 0 → IsAbove tab s t false
+  above-no-right h x y b d = absurd (starts-some tab t y d h)
 
-  pub above-3 : 16 ≤ getD s 0 0 → IsAbove tab s t false
+  pub above-left-variable : 16 ≤ getD s 0 0 → IsAbove tab s t false
   unfolding above
-  above-3 h x y b d = rw (head-var tab s x b h .1)
+  above-left-variable h x y b d = rw (head-var tab s x b h .1)
 
 module _ (tab s t : List ℕ) (n : ℕ) (r : Bool) (h : getD s 0 0 < 16) where
-  pub above-4 : n ≡ owes tab (getD s 0 0) → 16 ≤ getD t 0 0 → IsSome tab (from s 1) n t r → IsAbove tab s t r
-  above-4 p k q x y b d =
+  pub above-right-variable : n ≡ owes tab (getD s 0 0) → 16 ≤ getD t 0 0 → IsSome tab (from s 1) n t r → IsAbove tab s t r
+  above-right-variable p k q x y b d =
       let (ss, e, a) = head-node tab s x b h in
       let (v, w) = head-var tab t y d k in
       q ss y (rw p a) d
       ∙ sym (ap₂ (above (rank tab)) e w ∙ clause-variable (rank tab) (getD s 0 0) v ss ∙ ap (some-reaches (rank tab) ss) (sym w))
 
   module _ (k : getD t 0 0 < 16) where
-    pub above-5 : n ≡ owes tab (getD s 0 0) → getD s 0 0 ≡ getD t 0 0 → IsWalk tab s t (from s 1) (from t 1) n r → IsAbove tab s t r
-    above-5 p u q x y b d =
+    pub above-same-symbol : n ≡ owes tab (getD s 0 0) → getD s 0 0 ≡ getD t 0 0 → IsWalk tab s t (from s 1) (from t 1) n r → IsAbove tab s t r
+    above-same-symbol p u q x y b d =
         let (ss, e, a) = head-node tab s x b h in
         let (ts, f, c) = head-node tab t y d k in
         let i : StartAll tab (from s 1) n ss = rw p a in
@@ -92,16 +92,16 @@ module _ (tab s t : List ℕ) (n : ℕ) (r : Bool) (h : getD s 0 0 < 16) where
         q x y ss ts b d i j ∙ ap₂ (λ (v w : Term). walked tab v w ss ts) e f
         ∙ sym (ap₂ (above (rank tab)) e f ∙ fast-same tab (getD s 0 0) ss (getD t 0 0) ts u (i .number ∙ sym (j .number)))
 
-    pub above-6 : n ≡ owes tab (getD t 0 0) → rank tab (getD t 0 0) < rank tab (getD s 0 0) → IsAll tab s (from t 1) n r → IsAbove tab s t r
-    above-6 p l q x y b d =
+    pub above-greater-rank : n ≡ owes tab (getD t 0 0) → rank tab (getD t 0 0) < rank tab (getD s 0 0) → IsAll tab s (from t 1) n r → IsAbove tab s t r
+    above-greater-rank p l q x y b d =
         let (ss, e, a) = head-node tab s x b h in
         let (ts, f, c) = head-node tab t y d k in
         q x ts b (rw p c) ∙ ap (λ (v : Term). all-above (rank tab) v ts) e
         ∙ sym (ap₂ (above (rank tab)) e f ∙ fast-greater tab (getD s 0 0) ss (getD t 0 0) ts l)
 
-    pub above-7 : n ≡ owes tab (getD s 0 0) → (getD s 0 0 ≡ getD t 0 0 → ⊥) → rank tab (getD s 0 0) ≤ rank tab (getD t 0 0) →
+    pub above-no-greater-rank : n ≡ owes tab (getD s 0 0) → (getD s 0 0 ≡ getD t 0 0 → ⊥) → rank tab (getD s 0 0) ≤ rank tab (getD t 0 0) →
         IsSome tab (from s 1) n t r → IsAbove tab s t r
-    above-7 p u l q x y b d =
+    above-no-greater-rank p u l q x y b d =
         let (ss, e, a) = head-node tab s x b h in
         let (ts, f, c) = head-node tab t y d k in
         q ss y (rw p a) d ∙ ap (some-reaches (rank tab) ss) f
@@ -118,12 +118,12 @@ unfolding walked
 walked-cons tab x y v w us ws = refl
 
 module _ (tab s t a b : List ℕ) (n : ℕ) where
-  pub walk-1 : n ≡ 0 → IsWalk tab s t a b n false
-  walk-1 h x y xs ys i j k l = sym (ap (λ (v : Terms). walked tab x y v ys) (none-left tab a n xs k h) ∙ walked-nil tab x y ys)
+  pub walk-end : n ≡ 0 → IsWalk tab s t a b n false
+  walk-end h x y xs ys i j k l = sym (ap (λ (v : Terms). walked tab x y v ys) (none-left tab a n xs k h) ∙ walked-nil tab x y ys)
 
   module _ (h : n ≡ 0 → ⊥) where
-    pub walk-2 : length a ≡ 0 → IsWalk tab s t a b n false
-    walk-2 m x y xs ys i j k l = let (v, us, e, f, g) = first tab a n xs k h in absurd (starts-some tab a v f m)
+    pub walk-cut : length a ≡ 0 → IsWalk tab s t a b n false
+    walk-cut m x y xs ys i j k l = let (v, us, e, f, g) = first tab a n xs k h in absurd (starts-some tab a v f m)
 
     module _ (q : Bool) (u : IsSame tab a b q) where
       step : (c : Bool) → q ≡ c → (x y v w : Term) (us ws : Terms) → Starts tab a v → Starts tab b w → walked tab x y (cons v us) (cons w ws) ≡
@@ -133,9 +133,9 @@ module _ (tab s t a b : List ℕ) (n : ℕ) where
           ∙ ap (λ (z : Bool). if z then walked tab x y us ws else if above (rank tab) v w then all-above (rank tab) x ws else some-reaches (rank tab) us y)
           (sym (u v w f g) ∙ m)
 
-      pub walk-3 : q ≡ true → (d e : ℕ) → IsEnd tab a d → IsEnd tab b e → (p : Bool) → IsWalk tab s t (from a d) (from b e) (n - 1) p → IsWalk tab s t a b n p
+      pub walk-equal : q ≡ true → (d e : ℕ) → IsEnd tab a d → IsEnd tab b e → (p : Bool) → IsWalk tab s t (from a d) (from b e) (n - 1) p → IsWalk tab s t a b n p
       unfolding if_then_else_
-      walk-3 m d e dd ee p o x y xs ys i j k l =
+      walk-equal m d e dd ee p o x y xs ys i j k l =
           let (v, us, c, f, g) = first tab a n xs k h in
           let (w, ws, c′, f′, g′) = first tab b n ys l h in
           o x y us ws i j (g d (ended tab a d v dd f)) (g′ e (ended tab b e w ee f′))
@@ -148,16 +148,16 @@ module _ (tab s t a b : List ℕ) (n : ℕ) where
         differ c o x y v w us ws f g =
             step false m x y v w us ws f g ∙ ap (λ (i : Bool). if i then all-above (rank tab) x ws else some-reaches (rank tab) us y) (sym (z v w f g) ∙ o)
 
-        pub walk-4 : r ≡ true → (e : ℕ) → IsEnd tab b e → (p : Bool) → IsAll tab s (from b e) (n - 1) p → IsWalk tab s t a b n p
+        pub walk-above : r ≡ true → (e : ℕ) → IsEnd tab b e → (p : Bool) → IsAll tab s (from b e) (n - 1) p → IsWalk tab s t a b n p
         unfolding if_then_else_
-        walk-4 o e ee p q x y xs ys i j k l =
+        walk-above o e ee p q x y xs ys i j k l =
             let (v, us, c, f, g) = first tab a n xs k h in
             let (w, ws, c′, f′, g′) = first tab b n ys l h in
             q x ws i (g′ e (ended tab b e w ee f′)) ∙ sym (ap₂ (walked tab x y) c c′ ∙ differ true o x y v w us ws f f′)
 
-        pub walk-5 : r ≡ false → (d : ℕ) → IsEnd tab a d → (p : Bool) → IsSome tab (from a d) (n - 1) t p → IsWalk tab s t a b n p
+        pub walk-not-above : r ≡ false → (d : ℕ) → IsEnd tab a d → (p : Bool) → IsSome tab (from a d) (n - 1) t p → IsWalk tab s t a b n p
         unfolding if_then_else_
-        walk-5 o d dd p q x y xs ys i j k l =
+        walk-not-above o d dd p q x y xs ys i j k l =
             let (v, us, c, f, g) = first tab a n xs k h in
             let (w, ws, c′, f′, g′) = first tab b n ys l h in
             q us y (g d (ended tab a d v dd f)) j ∙ sym (ap₂ (walked tab x y) c c′ ∙ differ false o x y v w us ws f f′)
@@ -172,19 +172,19 @@ unfolding some-reaches
 reach-cons r x ys y = refl
 
 module _ (tab s t : List ℕ) (n : ℕ) where
-  pub some-1 : n ≡ 0 → IsSome tab s n t false
-  some-1 h xs y b d = sym (ap (λ (l : Terms). some-reaches (rank tab) l y) (none-left tab s n xs b h) ∙ reach-nil (rank tab) y)
+  pub some-end : n ≡ 0 → IsSome tab s n t false
+  some-end h xs y b d = sym (ap (λ (l : Terms). some-reaches (rank tab) l y) (none-left tab s n xs b h) ∙ reach-nil (rank tab) y)
 
   module _ (h : n ≡ 0 → ⊥) where
-    pub some-2 : length s ≡ 0 → IsSome tab s n t false
-    some-2 k xs y b d = let (x, ys, e, f, g) = first tab s n xs b h in absurd (starts-some tab s x f k)
+    pub some-cut : length s ≡ 0 → IsSome tab s n t false
+    some-cut k xs y b d = let (x, ys, e, f, g) = first tab s n xs b h in absurd (starts-some tab s x f k)
 
     reach : (q : Bool) → IsSame tab s t q → (x : Term) (ys : Terms) (y : Term) → Starts tab s x → Starts tab t y →
         some-reaches (rank tab) (cons x ys) y ≡ (q || above (rank tab) x y || some-reaches (rank tab) ys y)
     reach q u x ys y f d = reach-cons (rank tab) x ys y ∙ ap (λ (w : Bool). w || above (rank tab) x y || some-reaches (rank tab) ys y) (sym (u x y f d))
 
-    pub some-3 : (q : Bool) → IsSame tab s t q → q ≡ true → IsSome tab s n t true
-    some-3 q u k xs y b d =
+    pub some-equal : (q : Bool) → IsSame tab s t q → q ≡ true → IsSome tab s n t true
+    some-equal q u k xs y b d =
         let (x, ys, e, f, g) = first tab s n xs b h in
         sym (ap (λ (l : Terms). some-reaches (rank tab) l y) e ∙ reach q u x ys y f d ∙ rw k refl)
 
@@ -193,13 +193,13 @@ module _ (tab s t : List ℕ) (n : ℕ) where
           some-reaches (rank tab) (cons x ys) y ≡ (r || some-reaches (rank tab) ys y)
       reach-2 x ys y f d = reach q u x ys y f d ∙ rw k (ap (λ (w : Bool). w || some-reaches (rank tab) ys y) (sym (a x y f d)))
 
-      pub some-4 : r ≡ true → IsSome tab s n t true
-      some-4 v xs y b d =
+      pub some-above : r ≡ true → IsSome tab s n t true
+      some-above v xs y b d =
           let (x, ys, e, f, g) = first tab s n xs b h in
           sym (ap (λ (l : Terms). some-reaches (rank tab) l y) e ∙ reach-2 x ys y f d ∙ rw v refl)
 
-      pub some-5 : r ≡ false → (e : ℕ) → IsEnd tab s e → (p : Bool) → IsSome tab (from s e) (n - 1) t p → IsSome tab s n t p
-      some-5 v i j p o xs y b d =
+      pub some-next : r ≡ false → (e : ℕ) → IsEnd tab s e → (p : Bool) → IsSome tab (from s e) (n - 1) t p → IsSome tab s n t p
+      some-next v i j p o xs y b d =
           let (x, ys, e, f, g) = first tab s n xs b h in
           sym (ap (λ (l : Terms). some-reaches (rank tab) l y) e ∙ reach-2 x ys y f d ∙ rw v (sym (o ys y (g i (ended tab s i x j f)) d)))
 
@@ -213,43 +213,43 @@ unfolding all-above
 all-cons tab x y us = refl
 
 module _ (tab s t : List ℕ) (n : ℕ) where
-  pub all-1 : n ≡ 0 → IsAll tab s t n true
-  all-1 h x ys b d = sym (ap (all-above (rank tab) x) (none-left tab t n ys d h) ∙ all-nil tab x)
+  pub all-end : n ≡ 0 → IsAll tab s t n true
+  all-end h x ys b d = sym (ap (all-above (rank tab) x) (none-left tab t n ys d h) ∙ all-nil tab x)
 
   module _ (h : n ≡ 0 → ⊥) where
-    pub all-2 : length t ≡ 0 → IsAll tab s t n false
-    all-2 k x ys b d = let (y, us, e, f, g) = first tab t n ys d h in absurd (starts-some tab t y f k)
+    pub all-cut : length t ≡ 0 → IsAll tab s t n false
+    all-cut k x ys b d = let (y, us, e, f, g) = first tab t n ys d h in absurd (starts-some tab t y f k)
 
     module _ (r : Bool) (a : IsAbove tab s t r) where
       every : (x y : Term) (us : Terms) → Starts tab s x → Starts tab t y → all-above (rank tab) x (cons y us) ≡ (r && all-above (rank tab) x us)
       every x y us b f = all-cons tab x y us ∙ ap (λ (w : Bool). w && all-above (rank tab) x us) (sym (a x y b f))
 
-      pub all-3 : r ≡ true → (e : ℕ) → IsEnd tab t e → (p : Bool) → IsAll tab s (from t e) (n - 1) p → IsAll tab s t n p
-      all-3 k i j p o x ys b d =
+      pub all-next : r ≡ true → (e : ℕ) → IsEnd tab t e → (p : Bool) → IsAll tab s (from t e) (n - 1) p → IsAll tab s t n p
+      all-next k i j p o x ys b d =
           let (y, us, e, f, g) = first tab t n ys d h in
           sym (ap (all-above (rank tab) x) e ∙ every x y us b f ∙ rw k (sym (o x us b (g i (ended tab t i y j f)))))
 
-      pub all-4 : r ≡ false → IsAll tab s t n false
-      all-4 k x ys b d =
+      pub all-not-above : r ≡ false → IsAll tab s t n false
+      all-not-above k x ys b d =
           let (y, us, e, f, g) = first tab t n ys d h in
           sym (ap (all-above (rank tab) x) e ∙ every x y us b f ∙ rw k refl)
 
 -- `comparison` returns
 module _ (tab s t : List ℕ) (p : Bool) (a : IsAbove tab s t p) where
-  pub compared-1 : p ≡ true → IsCompared tab s t 1
+  pub compared-left : p ≡ true → IsCompared tab s t 1
   unfolding comparison if_then_else_
-  compared-1 h x y b d = rw (sym (a x y b d) ∙ h) refl
+  compared-left h x y b d = rw (sym (a x y b d) ∙ h) refl
 
   module _ (h : p ≡ false) (q : Bool) (c : IsAbove tab t s q) where
-    pub compared-2 : q ≡ true → IsCompared tab s t 2
+    pub compared-right : q ≡ true → IsCompared tab s t 2
     unfolding comparison if_then_else_
-    compared-2 k x y b d = rw (sym (a x y b d) ∙ h, sym (c y x d b) ∙ k) refl
+    compared-right k x y b d = rw (sym (a x y b d) ∙ h, sym (c y x d b) ∙ k) refl
 
     module _ (k : q ≡ false) (r : Bool) (u : IsSame tab s t r) where
-      pub compared-3 : r ≡ true → IsCompared tab s t 3
+      pub compared-same : r ≡ true → IsCompared tab s t 3
       unfolding comparison if_then_else_
-      compared-3 l x y b d = rw (sym (a x y b d) ∙ h, sym (c y x d b) ∙ k, sym (u x y b d) ∙ l) refl
+      compared-same l x y b d = rw (sym (a x y b d) ∙ h, sym (c y x d b) ∙ k, sym (u x y b d) ∙ l) refl
 
-      pub compared-4 : r ≡ false → IsCompared tab s t 4
+      pub compared-neither : r ≡ false → IsCompared tab s t 4
       unfolding comparison if_then_else_
-      compared-4 l x y b d = rw (sym (a x y b d) ∙ h, sym (c y x d b) ∙ k, sym (u x y b d) ∙ l) refl
+      compared-neither l x y b d = rw (sym (a x y b d) ∙ h, sym (c y x d b) ∙ k, sym (u x y b d) ∙ l) refl

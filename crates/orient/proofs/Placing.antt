@@ -6,13 +6,13 @@ use mathlib.Core.Logic.{inl, inr, ⊎-elim}
 use mathlib.Core.List.{List, [], _++_, append-assoc, append-nil, Memᴰ·append-left, Memᴰ·append-right, List·Memᴰ·append-cases}
 use Prim.Native.Nat.{ℕ, _+_, _-_, _<_, _≤_}
 use native.Mathlib.Omega.{arith}
+use native.Mathlib.Nat.{sub-zero}
 use borrow.Author.Tests.{lt-ltb, le-ltb}
 use lib.ListN.{length, drop, take, length-append, length-take}
 use lib.Seq.{take-at, drop-at}
 use Rattle.terms.specs.Base.{if_then_else_}
-use Rattle.terms.specs.Term.{Term, Terms, var, node, nil, cons, Pair, term-bytes, terms-bytes, variables, variables-of, subst-term, subst-terms, pair-variables, renamed}
-use Rattle.terms.specs.Flat.{Wf, Wfs, Starts}
-use Rattle.terms.specs.Scan.{count}
+use Rattle.terms.specs.Term.{Term, Pair, term-bytes, pair-variables, renamed}
+use Rattle.terms.specs.Flat.{Wf, Starts}
 use Rattle.terms.proofs.Subst.{In}
 use Rattle.terms.proofs.Bytes.{length-bytes}
 use Rattle.terms.proofs.Limits.{renamed-left-size, renamed-right-size}
@@ -28,7 +28,7 @@ use Rattle.problem.specs.Problem.{rank-of, Problem}
 use Rattle.completion.specs.Turn.{orient}
 use Rattle.completion.specs.Calls.{end-number}
 use Rattle.store.specs.Slots.{patched, Holds, OnlySlot}
-use Rattle.store.proofs.Listing.{rule-put, short-put}
+use Rattle.store.proofs.Listing.{rule-put, short-put, slot-kept}
 use Rattle.orient.specs.Seen.{Counted}
 use Rattle.normaliser.specs.Stored.{Sides}
 use Rattle.orient.specs.Oriented.{oriented, PutRenamed, Placed}
@@ -68,17 +68,13 @@ put-renamed left right d₂ d₃ b l k n e b′ l′ p q en ee sl sr f g hp hq h
           let w : d₃ ≡ a ++ (c ++ drop e d₂) = g′ ∙ ap (λ z. z ++ drop e d₂) (renamed-sides tab left right x s) ∙ append-assoc a c (drop e d₂) in
           let la : length a ≡ n = length-bytes (renamed x .left) ∙ renamed-left-size x ∙ sym (length-bytes (x .left)) ∙ ap length (sym (s .left-bytes)) ∙ sym en in
           let lc : length c ≡ length right = length-bytes (renamed x .right) ∙ renamed-right-size x ∙ sym (length-bytes (x .right)) ∙ ap length (sym (s .right-bytes)) in
-          let z : n - 0 ≡ n = omega arith in
           let y : e - n ≡ length right = omega arith in
-          let pa : p ≡ a = hp ∙ ap (λ v. take v d₃) z ∙ ap (take n) w ∙ take-at a (c ++ drop e d₂) n la in
+          let pa : p ≡ a = hp ∙ ap (λ v. take v d₃) (sub-zero n) ∙ ap (take n) w ∙ take-at a (c ++ drop e d₂) n la in
           let qc : q ≡ c = hq ∙ ap (λ v. take v (drop n d₃)) y ∙ ap (λ v. take (length right) (drop n v)) w ∙ ap (take (length right)) (drop-at a (c ++ drop e d₂) n la) ∙ take-at c (drop e d₂) (length right) lc in
           rule-put (renamed x) (renamed-left-wf 16 32 tab x few (s .left-wf)) (renamed-right-wf 16 32 tab x few (s .right-wf)) pa qc h;
     }
 
 -- `place`
-no-slot : (b l : List ℕ) (k : ℕ) → OnlySlot b l k b l
-no-slot b l k = record { same-bytes = refl; same-lengths = refl; others = λ i n. record { left-length = refl; right-length = refl; content = refl } }
-
 starts : (tab left : List ℕ) (t : Term) → Wf 32 tab t → left ≡ term-bytes t → Starts tab left t
 starts tab left t w e = record { wf = w; rest = []; bytes = e ∙ sym (append-nil (term-bytes t)) }
 
@@ -86,7 +82,7 @@ module _ (tab left right b l : List ℕ) (k r : ℕ) (c : Counted left right r) 
   pub place-many : 16 < r → Placed tab left right b l k 22 b l
   unfolding oriented end-if end-with and-then _>>=_ end-number
   place-many h = record {
-    only = no-slot b l k;
+    only = slot-kept b l k;
     short = λ z. absurd (omega arith);
     answer = λ P q e s units.
         let n = c .counts tab e (s .left-wf) (s .right-wf) (s .left-bytes) (s .right-bytes) in
@@ -131,7 +127,7 @@ module _ (tab left right b l : List ℕ) (k r : ℕ) (c : Counted left right r) 
     pub place-neither : (t u : Bool) → t ≡ false → u ≡ false → IsAbove tab left right t → IsAbove tab right left u → Placed tab left right b l k 20 b l
     unfolding orient if_then_else_ end-with end-number
     place-neither t u y z g h = record {
-      only = no-slot b l k;
+      only = slot-kept b l k;
       short = λ z. absurd (omega arith);
       answer = λ P q e s units. rw (start P e s units, above-is P q e s t g ∙ y, below-is P q e s u h ∙ z) (refl, refl, inr refl);
     }

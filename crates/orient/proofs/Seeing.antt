@@ -13,6 +13,8 @@ use lib.Seq.{take-suc, take-all}
 use lib.Bits.{bitOr, or-lt}
 use lib.Count.{ones}
 use lib.Pow.{pow-lt}
+use Rattle.terms.proofs.Every.{every-in}
+use Rattle.terms.proofs.Flats.{wf-below, wf-bytes}
 use Rattle.terms.specs.Term.{Term, Terms, var, node, nil, cons, Pair, term-bytes, terms-bytes, variables, variables-of, pair-variables}
 use Rattle.terms.specs.Flat.{Wf, Wfs}
 use Rattle.terms.proofs.Subst.{In}
@@ -121,20 +123,6 @@ mutual
   in-bytes-all (cons t ts) x i =
       ⊎-elim (λ j. Memᴰ·append-left (terms-bytes ts) (in-bytes t x j)) (λ j. Memᴰ·append-right (term-bytes t) (in-bytes-all ts x j)) (List·Memᴰ·append-cases (variables t) i)
 
-mutual
-  unfolding term-bytes terms-bytes Wf Wfs
-
-  bytes-low : (tab : List ℕ) (t : Term) → Wf 32 tab t → (b : ℕ) → In b (term-bytes t) → b < 160
-  bytes-low tab (var y) w b i = let e = one-in i in omega arith
-  bytes-low tab (node f ts) w b i = ⊎-elim (λ e. let h = w .0 in omega arith) (λ j. bytes-low-all tab ts (w .2) b j) (List·Memᴰ·cases-cons i)
-
-  bytes-low-all : (tab : List ℕ) (ts : Terms) → Wfs 32 tab ts → (b : ℕ) → In b (terms-bytes ts) → b < 160
-  bytes-low-all tab nil w b i = absurd (List·Memᴰ·not-nil i)
-  bytes-low-all tab (cons t ts) w b i = ⊎-elim (λ j. bytes-low tab t (w .0) b j) (λ j. bytes-low-all tab ts (w .1) b j) (List·Memᴰ·append-cases (term-bytes t) i)
-
-vars-below : (tab : List ℕ) (t : Term) → Wf 32 tab t → (x : ℕ) → In x (variables t) → x < 32
-vars-below tab t w x i = let h = bytes-low tab t w (128 + x) (in-bytes t x i) in omega arith
-
 -- `variable_count`
 has-none : (i : ℕ) → Has 0 i → ⊥
 unfolding bit
@@ -158,7 +146,7 @@ module _ (left right : List ℕ) (m : ℕ) (s : Seen (left ++ right) 0 m) where
       go : (tab : List ℕ) (e : Pair) → Wf 32 tab (e .left) → Wf 32 tab (e .right) → left ≡ term-bytes (e .left) → right ≡ term-bytes (e .right) → ones m ≡ length (pair-variables e)
       go tab e v w p q =
           let all-low : (b : ℕ) → In b (left ++ right) → b < 160 =
-          λ b i. ⊎-elim (λ j. bytes-low tab (e .left) v b (subst (λ z. In b z) p j)) (λ j. bytes-low tab (e .right) w b (subst (λ z. In b z) q j)) (List·Memᴰ·append-cases left i) in
+          λ b i. ⊎-elim (λ j. every-in (wf-bytes 32 tab (e .left) v) (subst (λ z. In b z) p j)) (λ j. every-in (wf-bytes 32 tab (e .right) w) (subst (λ z. In b z) q j)) (List·Memᴰ·append-cases left i) in
           le-antisymm
           (ones-most 32 m (s .small) (pair-variables e)
           (λ x l h.
@@ -168,6 +156,6 @@ module _ (left right : List ℕ) (m : ℕ) (s : Seen (left ++ right) 0 m) where
           (ones-least 32 m (s .small) (pair-variables e) (pair-distinct e)
           (λ x i.
           ⊎-elim
-          (λ j. let l = vars-below tab (e .left) v x j in (l, s .seen x l (Memᴰ·append-left right (subst (λ z. In (128 + x) z) (sym p) (in-bytes (e .left) x j)))))
-          (λ j. let l = vars-below tab (e .right) w x j in (l, s .seen x l (Memᴰ·append-right left (subst (λ z. In (128 + x) z) (sym q) (in-bytes (e .right) x j)))))
+          (λ j. let l = wf-below 32 tab (e .left) v x j in (l, s .seen x l (Memᴰ·append-left right (subst (λ z. In (128 + x) z) (sym p) (in-bytes (e .left) x j)))))
+          (λ j. let l = wf-below 32 tab (e .right) w x j in (l, s .seen x l (Memᴰ·append-right left (subst (λ z. In (128 + x) z) (sym q) (in-bytes (e .right) x j)))))
           (pair-in e x i)))

@@ -1,5 +1,4 @@
 // Steps 4 and 5 of a turn: the taken pair's variables are counted, and its upper side becomes the left side of a new rule.
-ghost use mathlib.Core.Path.{_≡_};
 ghost use mathlib.Core.List.{[], _∷_, _++_, List·Memᴰ};
 ghost use Prim.Native.Nat.{ℕ, _+_, _-_, _<_, _≤_};
 ghost use lib.ListN.{length, take, drop};

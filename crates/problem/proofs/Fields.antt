@@ -65,12 +65,12 @@ module _ (tag : ℕ) (l : List ℕ) (at : ℕ) where
   at-0 : getD (drop at l) 0 0 ≡ getD l at 0
   at-0 = getD-drop at l 0 0 ∙ rw (add-zero at) refl
 
-  pub due-1 : length l ≤ at → due tag at (drop at l) ≡ refused 4 at
+  pub due-ended : length l ≤ at → due tag at (drop at l) ≡ refused 4 at
   unfolding due
-  due-1 h = rw (drop-of-length-le l h) refl
+  due-ended h = rw (drop-of-length-le l h) refl
 
-  pub due-2 : at < length l → length l - at < 3 → due tag at (drop at l) ≡ refused 3 at
-  due-2 h k = short tag at (drop at l) (λ e. omega (arith, length-drop at l)) (omega (arith, length-drop at l))
+  pub due-short : at < length l → length l - at < 3 → due tag at (drop at l) ≡ refused 3 at
+  due-short h k = short tag at (drop at l) (λ e. omega (arith, length-drop at l)) (omega (arith, length-drop at l))
 
   module _ (a b n : ℕ) (h : 3 ≤ length l - at) (p : a ≡ getD l (at + 1) 0) (q : b ≡ getD l (at + 2) 0) (i : n ≡ a * 256 + b) where
     left-over : 3 ≤ length (drop at l)
@@ -79,16 +79,16 @@ module _ (tag : ℕ) (l : List ℕ) (at : ℕ) where
     size-is : n ≡ getD (drop at l) 1 0 * 256 + getD (drop at l) 2 0
     size-is = i ∙ ap₂ (λ (x y : ℕ). x * 256 + y) (p ∙ sym (getD-drop at l 1 0)) (q ∙ sym (getD-drop at l 2 0))
 
-    pub due-3 : length l - at - 3 < n → due tag at (drop at l) ≡ refused 3 at
-    due-3 k = over tag at (drop at l) left-over (omega (arith, length-drop at l, size-is))
+    pub due-past-end : length l - at - 3 < n → due tag at (drop at l) ≡ refused 3 at
+    due-past-end k = over tag at (drop at l) left-over (omega (arith, length-drop at l, size-is))
 
     module _ (k : n ≤ length l - at - 3) where
-      pub due-4 : (getD l at 0 ≡ tag → ⊥) → due tag at (drop at l) ≡ refused 4 at
-      due-4 t = other tag at (drop at l) left-over (omega (arith, length-drop at l, size-is)) (λ e. t (sym at-0 ∙ e))
+      pub due-other-tag : (getD l at 0 ≡ tag → ⊥) → due tag at (drop at l) ≡ refused 4 at
+      due-other-tag t = other tag at (drop at l) left-over (omega (arith, length-drop at l, size-is)) (λ e. t (sym at-0 ∙ e))
 
-      pub due-5 : getD l at 0 ≡ tag → (due tag at (drop at l) ≡ ok (field-at tag l at (at + 3 + n))) × (at + 3 ≤ at + 3 + n) × (at + 3 + n ≤ length l)
+      pub due-fine : getD l at 0 ≡ tag → (due tag at (drop at l) ≡ ok (field-at tag l at (at + 3 + n))) × (at + 3 ≤ at + 3 + n) × (at + 3 + n ≤ length l)
       unfolding field-at
-      due-5 t = (
+      due-fine t = (
         fine tag at (drop at l) n left-over size-is (omega (arith, length-drop at l)) (at-0 ∙ t)
             ∙ rw (drop-drop 3 at l, take-drop (at + 3) n l, drop-drop n (at + 3) l) refl,
         omega arith,
@@ -130,23 +130,23 @@ two-bytes tab i h =
     drop-cons tab i 0 (omega arith) ∙ ap (λ (m : List ℕ). getD tab i 0 ∷ m) (rw (← add-one i) (drop-cons tab (i + 1) 0 h ∙ rw k refl))
 
 module _ (tab seen : List ℕ) (at i : ℕ) (h : i + 1 < length tab) where
-  pub table-1 : 4 < getD tab i 0 → check-symbols seen at (drop i tab) ≡ refused 6 at
+  pub table-arity : 4 < getD tab i 0 → check-symbols seen at (drop i tab) ≡ refused 6 at
   unfolding check-symbols _>>=_ refuse-if
-  table-1 k = rw (two-bytes tab i h, lt-ltb 4 _ k) refl
+  table-arity k = rw (two-bytes tab i h, lt-ltb 4 _ k) refl
 
   module _ (k : getD tab i 0 ≤ 4) where
-    pub table-2 : 15 < getD tab (i + 1) 0 → check-symbols seen at (drop i tab) ≡ refused 6 (at + 1)
+    pub table-rank : 15 < getD tab (i + 1) 0 → check-symbols seen at (drop i tab) ≡ refused 6 (at + 1)
     unfolding check-symbols _>>=_ refuse-if
-    table-2 j = rw (two-bytes tab i h, le-ltb 4 _ k, lt-ltb 15 _ j) refl
+    table-rank j = rw (two-bytes tab i h, le-ltb 4 _ k, lt-ltb 15 _ j) refl
 
     module _ (j : getD tab (i + 1) 0 ≤ 15) where
-      pub table-3 : true ≡ member (getD tab (i + 1) 0) seen → check-symbols seen at (drop i tab) ≡ refused 7 (at + 1)
+      pub table-same-rank : true ≡ member (getD tab (i + 1) 0) seen → check-symbols seen at (drop i tab) ≡ refused 7 (at + 1)
       unfolding check-symbols _>>=_ refuse-if
-      table-3 m = rw (two-bytes tab i h, le-ltb 4 _ k, le-ltb 15 _ j, ← m) refl
+      table-same-rank m = rw (two-bytes tab i h, le-ltb 4 _ k, le-ltb 15 _ j, ← m) refl
 
-      pub table-4 : false ≡ member (getD tab (i + 1) 0) seen → check-symbols seen at (drop i tab) ≡ check-symbols (getD tab (i + 1) 0 ∷ seen) (at + 2) (drop (i + 2) tab)
+      pub table-symbol : false ≡ member (getD tab (i + 1) 0) seen → check-symbols seen at (drop i tab) ≡ check-symbols (getD tab (i + 1) 0 ∷ seen) (at + 2) (drop (i + 2) tab)
       unfolding check-symbols _>>=_ refuse-if
-      table-4 m = rw (two-bytes tab i h, le-ltb 4 _ k, le-ltb 15 _ j, ← m) refl
+      table-symbol m = rw (two-bytes tab i h, le-ltb 4 _ k, le-ltb 15 _ j, ← m) refl
 
 table-nil : (seen : List ℕ) (at : ℕ) → check-symbols seen at [] ≡ ok tt
 unfolding check-symbols
@@ -156,8 +156,8 @@ table-one : (seen : List ℕ) (at a : ℕ) → check-symbols seen at (a ∷ []) 
 unfolding check-symbols
 table-one seen at a = refl
 
-pub table-5 : (tab seen : List ℕ) (at i : ℕ) → length tab ≤ i + 1 → check-symbols seen at (drop i tab) ≡ ok tt
-table-5 tab seen at i h = go (drop i tab) (omega (arith, length-drop i tab))
+pub table-end : (tab seen : List ℕ) (at i : ℕ) → length tab ≤ i + 1 → check-symbols seen at (drop i tab) ≡ ok tt
+table-end tab seen at i h = go (drop i tab) (omega (arith, length-drop i tab))
   where
     go : (m : List ℕ) → length m ≤ 1 → check-symbols seen at m ≡ ok tt
     go [] k = table-nil seen at
@@ -171,7 +171,7 @@ unfolding ranks
 table-turn tab k h a b m =
     let p : k + 1 + (k + 1) ≡ k + k + 2 = omega arith in
     let q : k + k + 2 + 3 ≡ k + k + 3 + 2 = omega arith in
-    rw (p, q, add-one k) (sym (table-4 tab (ranks tab k) (k + k + 3) (k + k) h a b m))
+    rw (p, q, add-one k) (sym (table-symbol tab (ranks tab k) (k + k + 3) (k + k) h a b m))
 
 -- a reading that goes on, and one that does not
 pub bind-ok : {A B : Type 0} {m : Reading A} {a : A} (f : A → Reading B) → m ≡ ok a → (m >>= f) ≡ f a
@@ -239,16 +239,16 @@ module _ (l : List ℕ) (e : ℕ) (d : (due 0x01 0 l ≡ ok (field-at 0x01 l 0 e
   unfolding field-at
   is-bad h = bind-ok symbol-field (d .0) ∙ bad-length (field-at 0x01 l 0 e) (e - 3) long h
 
-  pub symbols-1 : e - 3 ≡ 0 → (due 0x01 0 l >>= symbol-field) ≡ refused 5 0
-  symbols-1 h = is-bad (rw (eq-eqb (e - 3) 0 h) refl)
+  pub symbols-empty : e - 3 ≡ 0 → (due 0x01 0 l >>= symbol-field) ≡ refused 5 0
+  symbols-empty h = is-bad (rw (eq-eqb (e - 3) 0 h) refl)
 
   module _ (h : e - 3 ≡ 0 → ⊥) where
-    pub symbols-2 : (e - 3) % 2 ≡ 1 → (due 0x01 0 l >>= symbol-field) ≡ refused 5 0
-    symbols-2 k = is-bad (rw (ne-eqb (e - 3) 0 h, eq-eqb ((e - 3) % 2) 1 k) refl)
+    pub symbols-odd : (e - 3) % 2 ≡ 1 → (due 0x01 0 l >>= symbol-field) ≡ refused 5 0
+    symbols-odd k = is-bad (rw (ne-eqb (e - 3) 0 h, eq-eqb ((e - 3) % 2) 1 k) refl)
 
     module _ (k : (e - 3) % 2 ≡ 1 → ⊥) where
-      pub symbols-3 : 32 < e - 3 → (due 0x01 0 l >>= symbol-field) ≡ refused 5 0
-      symbols-3 j = is-bad (rw (ne-eqb (e - 3) 0 h, ne-eqb ((e - 3) % 2) 1 k, lt-ltb 32 (e - 3) j) refl)
+      pub symbols-many : 32 < e - 3 → (due 0x01 0 l >>= symbol-field) ≡ refused 5 0
+      symbols-many j = is-bad (rw (ne-eqb (e - 3) 0 h, ne-eqb ((e - 3) % 2) 1 k, lt-ltb 32 (e - 3) j) refl)
 
       module _ (j : e - 3 ≤ 32) where
         reads : symbol-field (field-at 0x01 l 0 e) ≡ (check-symbols [] 3 (take (e - 3) (drop 3 l)) >>= λ _. ok (symbols-of (take (e - 3) (drop 3 l))))
@@ -258,11 +258,11 @@ module _ (l : List ℕ) (e : ℕ) (d : (due 0x01 0 l ≡ ok (field-at 0x01 l 0 e
             ∙ ap (λ (m : List ℕ). read-symbols [] 3 m) table-is
             ∙ read-is [] 3 (take (e - 3) (drop 3 l))
 
-        pub symbols-4 : (n p : ℕ) → check-symbols [] 3 (take (e - 3) (drop 3 l)) ≡ refused n p → (due 0x01 0 l >>= symbol-field) ≡ refused n p
-        symbols-4 n p q = bind-ok symbol-field (d .0) ∙ reads ∙ bind-refused (λ _. ok (symbols-of (take (e - 3) (drop 3 l)))) q
+        pub symbols-refused : (n p : ℕ) → check-symbols [] 3 (take (e - 3) (drop 3 l)) ≡ refused n p → (due 0x01 0 l >>= symbol-field) ≡ refused n p
+        symbols-refused n p q = bind-ok symbol-field (d .0) ∙ reads ∙ bind-refused (λ _. ok (symbols-of (take (e - 3) (drop 3 l)))) q
 
-        pub symbols-5 : check-symbols [] 3 (take (e - 3) (drop 3 l)) ≡ ok tt → SymbolsAt l e
-        symbols-5 q =
+        pub symbols-fine : check-symbols [] 3 (take (e - 3) (drop 3 l)) ≡ ok tt → SymbolsAt l e
+        symbols-fine q =
             let n : length (take (e - 3) (drop 3 l)) ≡ e - 3 = ap length (sym table-is) ∙ long in
             record {
               field = d .0;
@@ -285,9 +285,9 @@ unfolding number-from
 number-is a b c d = omega arith
 
 module _ (l : List ℕ) (at e : ℕ) (d : (due 0x02 at (drop at l) ≡ ok (field-at 0x02 l at e)) × (at + 3 ≤ e) × (e ≤ length l)) where
-  pub budget-1 : (e - at ≡ 7 → ⊥) → (due 0x02 at (drop at l) >>= budget-field) ≡ refused 8 at
+  pub budget-length : (e - at ≡ 7 → ⊥) → (due 0x02 at (drop at l) >>= budget-field) ≡ refused 8 at
   unfolding budget-field field-at _>>=_ refuse-if
-  budget-1 h =
+  budget-length h =
       let n : length (drop (at + 3) (take e l)) ≡ e - (at + 3) = contents-length 0x02 l at e (d .2) in
       let k : e - (at + 3) ≡ 4 → ⊥ = λ q. h (omega (arith, d .1)) in
       bind-ok budget-field (d .0) ∙ rw (n, ne-eqb (e - (at + 3)) 4 k) refl
@@ -309,12 +309,12 @@ module _ (l : List ℕ) (at e : ℕ) (d : (due 0x02 at (drop at l) ≡ ok (field
     unfolding budget-field field-at _>>=_ refuse-if
     budget-is = rw (contents-is, number-is a b c x, ← pn) refl
 
-    pub budget-2 : 1_000_000 < n → (due 0x02 at (drop at l) >>= budget-field) ≡ refused 8 at
+    pub budget-large : 1_000_000 < n → (due 0x02 at (drop at l) >>= budget-field) ≡ refused 8 at
     unfolding _>>=_ refuse-if
-    budget-2 k = bind-ok budget-field (d .0) ∙ budget-is ∙ rw (lt-ltb 1_000_000 n k) refl
+    budget-large k = bind-ok budget-field (d .0) ∙ budget-is ∙ rw (lt-ltb 1_000_000 n k) refl
 
-    pub budget-3 : n ≤ 1_000_000 → BudgetAt l at n
+    pub budget-fine : n ≤ 1_000_000 → BudgetAt l at n
     unfolding _>>=_ refuse-if
-    budget-3 k =
+    budget-fine k =
         let r : budget-field (field-at 0x02 l at e) ≡ ok n = budget-is ∙ rw (le-ltb 1_000_000 n k) refl in
         record { field = d .0 ∙ ap (λ (e : ℕ). ok (field-at 0x02 l at e)) end-is; read = rw (← end-is) r; small = k; within = omega (arith, d .2, end-is) }

@@ -11,7 +11,7 @@ use borrow.Author.Tests.{ltb-true, ltb-false, eqb-true, eqb-false}
 use Rattle.problem.specs.Problem.{ok, Field, due, Equation, equation-field, equation-fields, Problem}
 use Rattle.problem.specs.Parser.{field-at, symbols-of, Table, ParsedAt}
 use Rattle.problem.proofs.Reading.{from-bind, no-ok, ok-injective}
-use Rattle.problem.proofs.Fields.{due-1, due-2, due-3, due-4, due-5}
+use Rattle.problem.proofs.Fields.{due-ended, due-short, due-past-end, due-other-tag, due-fine}
 use Rattle.problem.proofs.Sides.{Both, both-sides, first-of}
 
 -- A field that is due and read is the field of its bytes from its first place to its end.
@@ -31,21 +31,21 @@ module _ (tag : ℕ) (l : List ℕ) (at : ℕ) (f : Field) (h : due tag at (drop
     where
       four : 3 ≤ length l - at → n ≤ length l - at - 3 → (b : Bool) → eqb (getD l at 0) tag ≡ b → DueAt tag l at f
       four p q true e =
-          let d = due-5 tag l at (getD l (at + 1) 0) (getD l (at + 2) 0) n p refl refl refl q (eqb-true _ _ e) in
+          let d = due-fine tag l at (getD l (at + 1) 0) (getD l (at + 2) 0) n p refl refl refl q (eqb-true _ _ e) in
           record { end = at + 3 + n; is = ok-injective (sym h ∙ d .0); low = d .1; within = d .2 }
-      four p q false e = absurd (no-ok (sym (due-4 tag l at (getD l (at + 1) 0) (getD l (at + 2) 0) n p refl refl refl q (eqb-false _ _ e)) ∙ h))
+      four p q false e = absurd (no-ok (sym (due-other-tag tag l at (getD l (at + 1) 0) (getD l (at + 2) 0) n p refl refl refl q (eqb-false _ _ e)) ∙ h))
 
       three : 3 ≤ length l - at → (b : Bool) → ltb (length l - at - 3) n ≡ b → DueAt tag l at f
-      three p true e = absurd (no-ok (sym (due-3 tag l at (getD l (at + 1) 0) (getD l (at + 2) 0) n p refl refl refl (ltb-true _ _ e)) ∙ h))
+      three p true e = absurd (no-ok (sym (due-past-end tag l at (getD l (at + 1) 0) (getD l (at + 2) 0) n p refl refl refl (ltb-true _ _ e)) ∙ h))
       three p false e = four p (ltb-false _ _ e) (eqb (getD l at 0) tag) refl
 
       two : at < length l → (b : Bool) → ltb (length l - at) 3 ≡ b → DueAt tag l at f
-      two p true e = absurd (no-ok (sym (due-2 tag l at p (ltb-true _ _ e)) ∙ h))
+      two p true e = absurd (no-ok (sym (due-short tag l at p (ltb-true _ _ e)) ∙ h))
       two p false e = three (ltb-false _ _ e) (ltb (length l - at - 3) n) refl
 
       one : (b : Bool) → ltb at (length l) ≡ b → DueAt tag l at f
       one true e = two (ltb-true _ _ e) (ltb (length l - at) 3) refl
-      one false e = absurd (no-ok (sym (due-1 tag l at (ltb-false _ _ e)) ∙ h))
+      one false e = absurd (no-ok (sym (due-ended tag l at (ltb-false _ _ e)) ∙ h))
 
 module _ (tab : List ℕ) (T : Table tab) (l : List ℕ) where
   -- The equations from `at` on: each field starts where the one before it ends.

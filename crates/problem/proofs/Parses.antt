@@ -84,9 +84,9 @@ module _ (l : List ℕ) where
   answer-bad : (n p : ℕ) → parse l ≡ refused n p → Answer l (Bad n p)
   answer-bad n p h = (equal-bad l n p h, h)
 
-  pub parse-1 : 8192 < length l → Answer l (Bad 2 8192)
+  pub parse-long : 8192 < length l → Answer l (Bad 2 8192)
   unfolding parse _>>=_ refuse-if
-  parse-1 h = answer-bad 2 8192 (rw (lt-ltb 8192 (length l) h) refl)
+  parse-long h = answer-bad 2 8192 (rw (lt-ltb 8192 (length l) h) refl)
 
   module _ (h : length l ≤ 8192) where
     rest-of : List Symbol → Field → Reading Problem
@@ -96,8 +96,8 @@ module _ (l : List ℕ) where
     unfolding parse _>>=_ refuse-if rest-of
     parse-is = rw (le-ltb 8192 (length l) h) refl
 
-    pub parse-2 : (n p : ℕ) → (due 0x01 0 l >>= symbol-field) ≡ refused n p → Answer l (Bad n p)
-    parse-2 n p e = answer-bad n p (parse-is ∙ bind-both (due 0x01 0 l) symbol-field (λ s Σ. rest-of Σ s) n p e)
+    pub parse-symbols-refused : (n p : ℕ) → (due 0x01 0 l >>= symbol-field) ≡ refused n p → Answer l (Bad n p)
+    parse-symbols-refused n p e = answer-bad n p (parse-is ∙ bind-both (due 0x01 0 l) symbol-field (λ s Σ. rest-of Σ s) n p e)
 
     module _ (e : ℕ) (S : SymbolsAt l e) where
       abbrev tab : List ℕ
@@ -111,8 +111,8 @@ module _ (l : List ℕ) where
       unfolding rest-of field-at
       rest-is = refl
 
-      pub parse-3 : (n p : ℕ) → (due 0x02 e (drop e l) >>= budget-field) ≡ refused n p → Answer l (Bad n p)
-      parse-3 n p q =
+      pub parse-budget-refused : (n p : ℕ) → (due 0x02 e (drop e l) >>= budget-field) ≡ refused n p → Answer l (Bad n p)
+      parse-budget-refused n p q =
           answer-bad n p (budget-then n p (rest-is ∙ bind-both (due 0x02 e (drop e l)) budget-field
           (λ b budget. equation-fields (symbols-of tab) 16 (b .end) (b .rest) >>= λ es. ok (record { symbols = symbols-of tab; budget = budget; equations = es })) n p q))
 
@@ -122,12 +122,12 @@ module _ (l : List ℕ) where
         unfolding field-at
         behind = rest-is ∙ bind-ok _ (B .field) ∙ bind-ok _ (B .read)
 
-        pub parse-4 : (n p : ℕ) → equation-fields (symbols-of tab) 16 (e + 7) (drop (e + 7) l) ≡ refused n p → Answer l (Bad n p)
-        parse-4 n p q = answer-bad n p (budget-then n p (behind ∙ bind-refused _ q))
+        pub parse-equations-refused : (n p : ℕ) → equation-fields (symbols-of tab) 16 (e + 7) (drop (e + 7) l) ≡ refused n p → Answer l (Bad n p)
+        parse-equations-refused n p q = answer-bad n p (budget-then n p (behind ∙ bind-refused _ q))
 
-        pub parse-5 : (n : ℕ) → ((es : List Equation) × (equation-fields (symbols-of tab) 16 (e + 7) (drop (e + 7) l) ≡ ok es) × (length es ≡ n)) → Answer l (Fine e b n)
+        pub parse-fine : (n : ℕ) → ((es : List Equation) × (equation-fields (symbols-of tab) 16 (e + 7) (drop (e + 7) l) ≡ ok es) × (length es ≡ n)) → Answer l (Fine e b n)
         unfolding parsed-of
-        parse-5 n q =
+        parse-fine n q =
             let P : Problem = record { symbols = symbols-of tab; budget = b; equations = q .0 } in
             let is : parse l ≡ ok P = parse-is ∙ bind-ok _ (S .field) ∙ bind-ok _ (S .read) ∙ behind ∙ bind-ok _ (q .1) in
             let z : 3 + (length (symbols-of tab) + length (symbols-of tab)) ≡ e =

@@ -157,9 +157,9 @@ module _ (tab : List ℕ) (T : Table tab) where
     bad (ok q) p f e = absurd (let g : At (q .end) ≡ Bad p = sym (scan-none tab (q .rest) (q .end)) ∙ sym f ∙ sym e in let z : _≡_ {A = ℕ} 0 1 = cc in omega arith)
     bad (refused k q) p f e = let g : Bad q ≡ Bad p = sym (f .1) ∙ sym e in let h : q ≡ p = cc in ap₂ refused (f .0) h
 
-    pub side-1 : (p : ℕ) → Bad p ≡ scan tab (drop at t) at 1 → read-side (symbols-of tab) at (drop at t) ≡ refused 10 p
+    pub side-refused : (p : ℕ) → Bad p ≡ scan tab (drop at t) at 1 → read-side (symbols-of tab) at (drop at t) ≡ refused 10 p
     unfolding read-side
-    side-1 p e = bind-refused _ (bad reading p followed e)
+    side-refused p e = bind-refused _ (bad reading p followed e)
 
     -- what is read: a term, the place behind it and the bytes there
     pub record Ended (e : ℕ) : Type 0 where
@@ -189,15 +189,15 @@ module _ (tab : List ℕ) (T : Table tab) where
     pub ended : (e : ℕ) → At e ≡ scan tab (drop at t) at 1 → Ended e
     ended e s = good reading e refl followed s
 
-    pub side-2 : (e : ℕ) → At e ≡ scan tab (drop at t) at 1 → 120 < e - at → read-side (symbols-of tab) at (drop at t) ≡ refused 11 at
+    pub side-large : (e : ℕ) → At e ≡ scan tab (drop at t) at 1 → 120 < e - at → read-side (symbols-of tab) at (drop at t) ≡ refused 11 at
     unfolding read-side _>>=_ refuse-if
-    side-2 e s h =
+    side-large e s h =
         let E = ended e s in
         bind-ok _ (E .is) ∙ rw (lt-ltb 120 (size (E .term)) (omega (arith, E .ends))) refl
 
-    pub side-3 : (e : ℕ) → At e ≡ scan tab (drop at t) at 1 → e - at ≤ 120 → (x : Term) × SideAt tab t at e x
+    pub side-fine : (e : ℕ) → At e ≡ scan tab (drop at t) at 1 → e - at ≤ 120 → (x : Term) × SideAt tab t at e x
     unfolding read-side _>>=_ refuse-if
-    side-3 e s h =
+    side-fine e s h =
         let E = ended e s in (
           E .term,
           record {
@@ -232,23 +232,23 @@ module _ (tab : List ℕ) (T : Table tab) where
     unfolding equation-field field-at
     equation-is = rw part-is refl
 
-    pub equation-1 : (n p : ℕ) → read-side (symbols-of tab) (at + 3) (drop (at + 3) (take (e - 0) (drop 0 l))) ≡ refused n p → EqResult (refused n p)
-    equation-1 n p h = equation-is ∙ bind-refused _ h
+    pub equation-left-refused : (n p : ℕ) → read-side (symbols-of tab) (at + 3) (drop (at + 3) (take (e - 0) (drop 0 l))) ≡ refused n p → EqResult (refused n p)
+    equation-left-refused n p h = equation-is ∙ bind-refused _ h
 
     module _ (m : ℕ) (x : Term) (X : SideAt tab (take (e - 0) (drop 0 l)) (at + 3) m x) where
-      pub equation-2 : (n p : ℕ) → read-side (symbols-of tab) m (drop m (take (e - 0) (drop 0 l))) ≡ refused n p → EqResult (refused n p)
-      equation-2 n p h = equation-is ∙ bind-ok _ (X .read) ∙ bind-refused _ h
+      pub equation-right-refused : (n p : ℕ) → read-side (symbols-of tab) m (drop m (take (e - 0) (drop 0 l))) ≡ refused n p → EqResult (refused n p)
+      equation-right-refused n p h = equation-is ∙ bind-ok _ (X .read) ∙ bind-refused _ h
 
       module _ (k : ℕ) (y : Term) (Y : SideAt tab (take (e - 0) (drop 0 l)) m k y) where
-        pub equation-3 : k < e → EqResult (refused 10 k)
+        pub equation-more : k < e → EqResult (refused 10 k)
         unfolding _>>=_ refuse-if
-        equation-3 h =
+        equation-more h =
             let n : 0 < length (drop k (take (e - 0) (drop 0 l))) = omega (arith, length-drop k (take (e - 0) (drop 0 l)), part-long) in
             equation-is ∙ bind-ok _ (X .read) ∙ bind-ok _ (Y .read) ∙ rw (lt-ltb 0 (length (drop k (take (e - 0) (drop 0 l)))) n) refl
 
-        pub equation-4 : e ≤ k → (q : Equation) × EqResult (ok q)
+        pub equation-fine : e ≤ k → (q : Equation) × EqResult (ok q)
         unfolding _>>=_ refuse-if
-        equation-4 h =
+        equation-fine h =
             let n : length (drop k (take (e - 0) (drop 0 l))) ≤ 0 = omega (arith, length-drop k (take (e - 0) (drop 0 l)), part-long) in (
               record { first = at; sides = record { left = x; right = y } },
               equation-is ∙ bind-ok _ (X .read) ∙ bind-ok _ (Y .read) ∙ rw (le-ltb 0 (length (drop k (take (e - 0) (drop 0 l)))) n) refl,
@@ -277,18 +277,18 @@ module _ (tab l : List ℕ) (at count : ℕ) (h : at < length l) where
   some-left : length (drop at l) ≡ 0 → ⊥
   some-left z = omega (arith, length-drop at l)
 
-  pub field-1 : (n p : ℕ) → due 0x03 at (drop at l) ≡ refused n p → equation-fields (symbols-of tab) (16 - count) at (drop at l) ≡ refused n p
-  field-1 n p e = due-fails (symbols-of tab) at (16 - count) (drop at l) n p some-left e
+  pub field-not-due : (n p : ℕ) → due 0x03 at (drop at l) ≡ refused n p → equation-fields (symbols-of tab) (16 - count) at (drop at l) ≡ refused n p
+  field-not-due n p e = due-fails (symbols-of tab) at (16 - count) (drop at l) n p some-left e
 
   module _ (e : ℕ) (d : (due 0x03 at (drop at l) ≡ ok (field-at 0x03 l at e)) × (at + 3 ≤ e) × (e ≤ length l)) where
-    pub field-2 : count ≡ 16 → equation-fields (symbols-of tab) (16 - count) at (drop at l) ≡ refused 9 at
-    field-2 k = let z : 16 - count ≡ 0 = omega arith in rw z (seventeenth (symbols-of tab) at (drop at l) (field-at 0x03 l at e) some-left (d .0))
+    pub field-seventeenth : count ≡ 16 → equation-fields (symbols-of tab) (16 - count) at (drop at l) ≡ refused 9 at
+    field-seventeenth k = let z : 16 - count ≡ 0 = omega arith in rw z (seventeenth (symbols-of tab) at (drop at l) (field-at 0x03 l at e) some-left (d .0))
 
     module _ (k : count ≡ 16 → ⊥) (s : count ≤ 16) where
-      pub field-3 : (n p : ℕ) → equation-field (symbols-of tab) (field-at 0x03 l at e) ≡ refused n p → equation-fields (symbols-of tab) (16 - count) at (drop at l) ≡ refused n p
-      field-3 n p q =
+      pub field-refused : (n p : ℕ) → equation-field (symbols-of tab) (field-at 0x03 l at e) ≡ refused n p → equation-fields (symbols-of tab) (16 - count) at (drop at l) ≡ refused n p
+      field-refused n p q =
           let z : 16 - count ≡ suc (15 - count) = omega (arith, k) in
           rw z (one-more (symbols-of tab) at (15 - count) (drop at l) (field-at 0x03 l at e) some-left (d .0) ∙ bind-refused _ q)
 
-      pub field-4 : ((q : Equation) × (equation-field (symbols-of tab) (field-at 0x03 l at e) ≡ ok q)) → FieldAt tab l at count e
-      field-4 q = record { equation = q .0; field = d .0; read = q .1; more = omega (arith, k); low = d .1; within = d .2 }
+      pub field-fine : ((q : Equation) × (equation-field (symbols-of tab) (field-at 0x03 l at e) ≡ ok q)) → FieldAt tab l at count e
+      field-fine q = record { equation = q .0; field = d .0; read = q .1; more = omega (arith, k); low = d .1; within = d .2 }

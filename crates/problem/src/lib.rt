@@ -1,8 +1,7 @@
 // Completion: the problem's bytes, read front to back.
 ghost use mathlib.Core.Path.{_≡_};
-ghost use mathlib.Core.List.{List};
-ghost use Prim.Native.Nat.{ℕ, _+_, _<_, _≤_};
-ghost use lib.ListN.{length, drop};
+ghost use Prim.Native.Nat.{_+_, _<_, _≤_};
+ghost use lib.ListN.{length};
 ghost use Rattle.terms.specs.Base.{member};
 ghost use Rattle.problem.specs.Parser.{IsDue, ranks, IsTable, IsSymbols, IsBudget, Table, IsSide, IsEquation, IsField, IsFields, IsParsed, parsed-of};
 ghost use Rattle.problem.specs.Problem.{parse};

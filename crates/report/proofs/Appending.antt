@@ -1,15 +1,15 @@
 -- Bytes put behind or before bytes that were put are all of them put at once. Assumes nothing.
 -- Read first: store/specs/Slots (patched), store/proofs/Patching.
-use mathlib.Core.Path.{_≡_, refl, sym, ap, ap₂, _∙_}
+use mathlib.Core.Path.{_≡_, refl, sym, ap₂, _∙_}
 use mathlib.Core.List.{List, [], _∷_, _++_, append-assoc}
 use Prim.Native.Nat.{ℕ, _+_, _≤_, _<_}
 use native.Mathlib.Omega.{arith}
 use native.Mathlib.Numerals.{add-one}
 use lib.ListN.{length, take, drop, set, length-append, take-append-drop}
-use lib.Seq.{length-take-le, take-at, drop-at, take-take, take-append-le, set-split}
+use lib.Seq.{length-take-le, drop-at, take-take, take-append-le, set-split}
 use Rattle.completion.specs.Calls.{written}
 use Rattle.store.specs.Slots.{patched}
-use Rattle.store.proofs.Patching.{patched-after}
+use Rattle.store.proofs.Patching.{patched-after, front-more}
 
 -- nothing put
 pub patched-none : (at : ℕ) (l : List ℕ) → patched at [] l ≡ l
@@ -28,9 +28,7 @@ module _ (at : ℕ) (xs ys l : List ℕ) (room : at + length xs ≤ length l) wh
   pub patched-behind : patched (at + length xs) ys (patched at xs l) ≡ patched at (xs ++ ys) l
   unfolding patched
   patched-behind =
-      let n : length (take at l ++ xs) ≡ at + length xs = length-append (take at l) xs ∙ omega (arith, length-take-le at l (omega arith)) in
-      let f : take (at + length xs) (patched at xs l) ≡ take at l ++ xs =
-      ap (take (at + length xs)) (sym (append-assoc (take at l) xs (drop (at + length xs) l))) ∙ take-at (take at l ++ xs) (drop (at + length xs) l) (at + length xs) n in
+      let f : take (at + length xs) (patched at xs l) ≡ take at l ++ xs = front-more at (at + length xs) xs l room refl in
       let g : drop (at + length xs + length ys) (patched at xs l) ≡ drop (at + length xs + length ys) l = patched-after at xs l (omega arith) (at + length xs + length ys) (omega arith) in
       ap₂ (λ x y. x ++ (ys ++ y)) f g ∙ joined
 

@@ -4,6 +4,7 @@ use mathlib.Core.Path.{_≡_, refl, sym, ap, ap₂, _∙_}
 use mathlib.Core.List.{List, [], _++_, flatMap}
 use Prim.Native.Nat.{ℕ, zero, suc, _+_, _-_, _*_, _≤_, _<_}
 use native.Mathlib.Omega.{arith}
+use native.Mathlib.Nat.{sub-zero}
 use lib.ListN.{length, length-append}
 use Rattle.terms.specs.Base.{field-bytes}
 use Rattle.store.specs.Slots.{patched}
@@ -39,8 +40,7 @@ module _ (rules lens numbers : List ℕ) where
 
   pub listing-start : (out : List ℕ) (at count : ℕ) → Listing out at count out 0 at
   listing-start out at count =
-      let z : count - 0 ≡ count = omega arith in
-      record { within = omega arith; same = refl; room = omega arith; to-do = rw z refl; total = rw z refl }
+      record { within = omega arith; same = refl; room = omega arith; to-do = rw (sub-zero count) refl; total = rw (sub-zero count) refl }
 
   module _ (out₀ : List ℕ) (at count : ℕ) (room : at + 245 * count ≤ length out₀) (out : List ℕ) (i a : ℕ) (h : Listing out₀ at count out i a) where
     pub listing-more : (out′ : List ℕ) (r : ℕ) → i < count → PutsSome 245 out a 1 (field-bytes (slot-field rules lens numbers i)) out′ r → Listing out₀ at count out′ (i + 1) r

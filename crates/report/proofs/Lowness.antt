@@ -3,7 +3,7 @@
 use mathlib.Core.Path.{_≡_, refl, sym, ap, _∙_}
 use mathlib.Core.Bool.{Bool, true, false, not, _&&_}
 use mathlib.Core.Logic.{⊎-elim}
-use mathlib.Core.List.{List, [], _∷_, _++_, List·Memᴰ, List·Memᴰ·not-nil, List·Memᴰ·cases-cons, List·Memᴰ·append-cases, append-assoc, append-nil}
+use mathlib.Core.List.{List, [], _∷_, _++_, List·Memᴰ, List·Memᴰ·not-nil, List·Memᴰ·cases-cons, List·Memᴰ·append-cases}
 use Prim.Native.Nat.{ℕ, _+_, _≤_, _<_}
 use native.Mathlib.Omega.{arith}
 use native.Mathlib.Numerals.{add-one}
@@ -11,8 +11,11 @@ use lib.Dec.{ltb}
 use lib.ListN.{length, getD, drop, drop-of-length-le}
 use lib.Seq.{drop-cons}
 use borrow.Author.Tests.{ltb-true, lt-ltb, le-ltb}
-use Rattle.terms.specs.Term.{Term, var, node, Terms, nil, cons, term-bytes, terms-bytes}
-use Rattle.terms.specs.Flat.{Wf, Wfs}
+use Rattle.terms.proofs.Shape.{both-true}
+use Rattle.terms.proofs.Every.{Every, every-head, every-tail}
+use Rattle.terms.proofs.Flats.{wf-bytes}
+use Rattle.terms.specs.Term.{Term, term-bytes}
+use Rattle.terms.specs.Flat.{Wf}
 use Rattle.naming.specs.Names.{collect}
 use Rattle.naming.proofs.Few.{names-few}
 use Rattle.report.specs.Fields.{low}
@@ -59,32 +62,21 @@ is-high l true e h = absurd (let z : _≡_ {A = ℕ} 0 1 = cc in omega arith)
 is-high l false e h = sym e
 
 -- what the test says
-both : (a b : Bool) → (a && b) ≡ true → (a ≡ true) × (b ≡ true)
-both true b h = (refl, h)
-both false b h = (cc, cc)
-
 low-says : (l : List ℕ) → low l ≡ true → (b : ℕ) → List·Memᴰ b l → b < 160
 low-says [] h b i = absurd (List·Memᴰ·not-nil i)
 low-says (c ∷ l) h b i =
-    let k = both (ltb c 160) (low l) (sym (low-cons c l) ∙ h) in
+    let k = both-true (ltb c 160) (low l) (sym (low-cons c l) ∙ h) in
     ⊎-elim (λ e. let q : c < 160 = ltb-true c 160 (k .0) in rw e q) (λ j. low-says l (k .1) b j) (List·Memᴰ·cases-cons i)
 
 -- so their names are few
 pub low-names : (left right : List ℕ) → low left ≡ true → low right ≡ true → length (collect [] (left ++ right)) ≤ 127
 low-names left right h k = omega (arith, names-few 32 (left ++ right) (λ b i. ⊎-elim (λ j. low-says left h b j) (λ j. low-says right k b j) (List·Memᴰ·append-cases left i)))
 
-mutual
-  unfolding Wf term-bytes
-
-  low-term : (tab : List ℕ) (t : Term) → Wf 32 tab t → (l : List ℕ) → low (term-bytes t ++ l) ≡ low l
-  low-term tab (var x) w l = low-more (128 + x) l (let h : x < 32 = w in omega arith)
-  low-term tab (node f ts) w l = low-more f (terms-bytes ts ++ l) (let h : f < 16 = w .0 in omega arith) ∙ low-terms tab ts (w .2) l
-
-  low-terms : (tab : List ℕ) (ts : Terms) → Wfs 32 tab ts → (l : List ℕ) → low (terms-bytes ts ++ l) ≡ low l
-  low-terms tab nil w l = refl
-  low-terms tab (cons t ts) w l = ap low (append-assoc (term-bytes t) (terms-bytes ts) l) ∙ low-term tab t (w .0) (terms-bytes ts ++ l) ∙ low-terms tab ts (w .1) l
+every-low : (l : List ℕ) → Every (λ b. b < 160) l → low l ≡ true
+unfolding low
+every-low [] h = refl
+every-low (b ∷ l) h = low-more b l (every-head h) ∙ every-low l (every-tail h)
 
 -- A term's bytes pass it.
 pub term-low : (tab : List ℕ) (t : Term) → Wf 32 tab t → (l : List ℕ) → l ≡ term-bytes t → low l ≡ true
-unfolding low
-term-low tab t w l e = ap low (e ∙ sym (append-nil (term-bytes t))) ∙ low-term tab t w []
+term-low tab t w l e = ap low e ∙ every-low (term-bytes t) (wf-bytes 32 tab t w)

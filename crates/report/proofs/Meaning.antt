@@ -3,7 +3,7 @@
 use mathlib.Core.Path.{_≡_, refl, sym, ap, ap₂, subst, _∙_}
 use mathlib.Core.Bool.{true}
 use mathlib.Core.List.{List, [], _∷_, _++_, map, flatMap, append-assoc, append-nil}
-use Prim.Native.Nat.{ℕ, suc, _+_, _*_, _<_}
+use Prim.Native.Nat.{ℕ, suc, _+_, _*_}
 use native.Mathlib.Omega.{arith}
 use lib.ListN.{length, getD, take, drop}
 use lib.Seq.{getD-drop, drop-drop}
@@ -18,14 +18,9 @@ use Rattle.naming.proofs.Pairs.{wf-low, renamed-pair}
 use Rattle.completion.specs.Turn.{Finished}
 use Rattle.completion.specs.Calls.{end-number, pair-bytes, rule-field, entry-field, forms-field, result-fields, result-bytes}
 use Rattle.report.specs.Fields.{Writes, tagged, slot-bytes, slot-field, slot-fields, low, forms-bytes, all-bytes}
-use Rattle.collapse.proofs.Lists.{flatMap-append}
+use Rattle.terms.proofs.Lists.{flatMap-append, flatMap-map}
 use Rattle.report.proofs.Lowness.{term-low}
 use Rattle.report.specs.Report.{Kept, Ended}
-
-flatMap-map : {A B : Type 0} (f : B → List ℕ) (g : A → B) (a : List A) → flatMap (λ x. f (g x)) a ≡ flatMap f (map g a)
-unfolding flatMap
-flatMap-map f g [] = refl
-flatMap-map f g (x ∷ a) = ap (λ l. f (g x) ++ l) (flatMap-map f g a)
 
 -- Fields 12.
 first-of : (n x : ℕ) (xs l : List ℕ) → take (suc n) l ≡ x ∷ xs → (getD l 0 0 ≡ x) × (take n (drop 1 l) ≡ xs)

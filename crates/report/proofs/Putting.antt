@@ -8,7 +8,8 @@ use lib.ListN.{length, getD, take, drop, set, length-append, length-drop}
 use lib.Seq.{length-take-le}
 use Rattle.terms.specs.Base.{number-bytes, field-bytes}
 use Rattle.normaliser.specs.Stored.{Layout}
-use Rattle.store.specs.Slots.{patched}
+use Rattle.store.specs.Slots.{patched, ShortAt}
+use Rattle.store.proofs.Listing.{short-at}
 use Rattle.store.proofs.Patching.{length-patched}
 use Rattle.report.specs.Fields.{Puts, PutsSome, tagged, slot-bytes, slot-field}
 use Rattle.report.proofs.Appending.{patched-behind, patched-one}
@@ -38,11 +39,15 @@ puts-part l from l′ at a n h e =
     let z : a + n - a ≡ n = omega arith in
     puts-pasted l at n (take n (drop a from)) l′ (rw z at e) (length-take-le n (drop a from) (omega (arith, length-drop a from)))
 
+-- one byte
+pub puts-byte : (l : List ℕ) (at b : ℕ) → at < length l → Puts l at 1 (b ∷ []) (set l at b) (at + 1)
+puts-byte l at b h = record { bytes = patched-one at b l h; counted = refl; next = refl }
+
 -- a tag and a length
 pub puts-head : (l : List ℕ) (at tag len : ℕ) (l′ : List ℕ) (r : ℕ) → at + 3 ≤ length l → Puts (set l at tag) (at + 1) 2 (number-bytes 2 len) l′ r → Puts l at 3 (tag ∷ number-bytes 2 len) l′ r
 puts-head l at tag len l′ r room p =
     puts-then l at 1 2 (tag ∷ []) (number-bytes 2 len) (set l at tag) l′ (at + 1) r (omega arith)
-    (record { bytes = patched-one at tag l (omega arith); counted = refl; next = refl }) p
+    (puts-byte l at tag (omega arith)) p
 
 -- a field, from its head and its contents
 pub puts-field : (l : List ℕ) (at tag len : ℕ) (cs l₁ l₂ : List ℕ) (a r : ℕ) → at + 3 + len ≤ length l →
@@ -55,11 +60,8 @@ pub puts-counted : (l : List ℕ) (at n : ℕ) (xs l′ : List ℕ) (r : ℕ) �
 puts-counted l at n xs l′ r p = record { bytes = p .bytes; counted = refl; next = p .next ∙ omega (arith, p .counted) }
 
 module _ (rules lens : List ℕ) (k : ℕ) (lay : Layout [] rules lens (k + 1)) where
-  pub left-short : getD lens (2 * k) 0 ≤ 120
-  left-short = lay .short (2 * k) (omega arith)
-
-  pub right-short : getD lens (2 * k + 1) 0 ≤ 120
-  right-short = lay .short (2 * k + 1) (omega arith)
+  pub slot-short : ShortAt lens k
+  slot-short = short-at [] rules lens (k + 1) k lay (omega arith)
 
   -- field 12: head, number, left side, right side
   pub puts-rule : (numbers l : List ℕ) (at n m : ℕ) (l₁ l₂ l₃ l₄ : List ℕ) (a b c r : ℕ) → at + 245 ≤ length l → n ≡ getD lens (2 * k) 0 → m ≡ getD lens (2 * k + 1) 0 →
@@ -70,8 +72,8 @@ module _ (rules lens : List ℕ) (k : ℕ) (lay : Layout [] rules lens (k + 1)) 
   puts-rule numbers l at n m l₁ l₂ l₃ l₄ a b c r room en em p q s t =
       let left : List ℕ = take n (drop (240 * k) rules) in
       let right : List ℕ = take m (drop (240 * k + 120) rules) in
-      let hn : n ≤ 120 = omega (arith, left-short) in
-      let hm : m ≤ 120 = omega (arith, right-short) in
+      let hn : n ≤ 120 = omega (arith, slot-short .left) in
+      let hm : m ≤ 120 = omega (arith, slot-short .right) in
       let na : a ≡ at + 3 = p .next in
       let nb : b ≡ a + 2 = q .next in
       let nc : c ≡ b + n = s .next in

@@ -5,14 +5,14 @@ use mathlib.Core.List.{List, [], _∷_, _++_, flatMap}
 use Prim.Native.Nat.{ℕ, _+_, _*_, _/_, _%_, _≤_, _<_}
 use native.Mathlib.Omega.{arith}
 use native.Mathlib.Numerals.{add-one}
-use lib.ListN.{length, getD, drop, set, drop-of-length-le}
+use lib.ListN.{length, getD, drop, drop-of-length-le}
 use lib.Seq.{drop-cons}
 use borrow.Author.Tests.{lt-ltb, le-ltb}
 use Rattle.terms.specs.Base.{if_then_else_}
 use Rattle.completion.specs.Settle.{ascii, hex-digit, hex-byte, decimal, line}
 use Rattle.store.specs.Slots.{patched}
 use Rattle.report.specs.Fields.{Puts, PutsSome, tagged}
-use Rattle.report.proofs.Appending.{patched-none, patched-behind, patched-one, patched-front}
+use Rattle.report.proofs.Appending.{patched-none, patched-behind, patched-front}
 use Rattle.report.proofs.Putting.{puts-length, puts-then, puts-counted}
 use Rattle.settle_text.specs.Text.{Refusal}
 use Rattle.settle_text.proofs.Decimal.{few-digits, twenty-digits}
@@ -25,10 +25,6 @@ digit-low n h = rw (lt-ltb n 10 h) refl
 pub digit-high : (n : ℕ) → 10 ≤ n → 87 + n ≡ hex-digit n
 unfolding hex-digit if_then_else_
 digit-high n h = rw (le-ltb n 10 h) refl
-
--- `put_byte`
-pub puts-byte : (l : List ℕ) (at b : ℕ) → at < length l → Puts l at 1 (b ∷ []) (set l at b) (at + 1)
-puts-byte l at b h = record { bytes = patched-one at b l h; counted = refl; next = refl }
 
 -- `put_hex`
 pub puts-hex : (l l₁ l₂ : List ℕ) (at b x y a r : ℕ) → at + 2 ≤ length l → x ≡ hex-digit (b / 16) → y ≡ hex-digit (b % 16) →

@@ -1,14 +1,14 @@
 -- What settle prints, from the answer of `complete` and the bytes that it leaves in the buffer. Assumes nothing.
 -- Read first: complete/specs/Answer (told, counted), specs/Text, proofs/Settling.
 use mathlib.Core.Path.{_≡_, refl, sym, ap, _∙_, subst}
-use mathlib.Core.List.{List, _++_}
+use mathlib.Core.List.{List}
 use Prim.Native.Nat.{ℕ, _-_, _≤_}
 use native.Mathlib.Omega.{arith}
-use lib.ListN.{length, take, drop}
-use lib.Seq.{take-at}
+use lib.ListN.{length, take}
+use Rattle.completion.proofs.Writing.{written-front}
 use Rattle.problem.specs.Problem.{Reading, ok, refused}
 use Rattle.problem.proofs.Reading.{no-ok, ok-injective}
-use Rattle.completion.specs.Calls.{complete-call, written, after-complete}
+use Rattle.completion.specs.Calls.{complete-call, after-complete}
 use Rattle.completion.specs.Settle.{settle}
 use Rattle.completion.proofs.Capacity.{complete-writes}
 use Rattle.report.specs.Fields.{Writes}
@@ -23,10 +23,6 @@ pub record Got (problem : List ℕ) (buffer n : ℕ) (after : List ℕ) : Type 0
   pub is : complete-call problem buffer ≡ ok (take (n - 0) after)
   pub few : n ≤ 13_715
 
-front : (bytes before : List ℕ) (n : ℕ) → n ≡ length bytes → take (n - 0) (written bytes before) ≡ bytes
-unfolding written
-front bytes before n e = take-at bytes (drop (length bytes) before) (n - 0) (omega arith)
-
 pub got : (problem before after : List ℕ) (r : Completed) (n buffer : ℕ) → r ≡ Written n → told r ≡ counted (complete-call problem buffer) →
     after ≡ after-complete (complete-call problem buffer) before → Got problem buffer n after
 unfolding told counted after-complete
@@ -36,7 +32,7 @@ got problem before after r n buffer w a b = go (complete-call problem buffer) re
     go (refused k at) e a b = absurd (no-ok (sym a))
     go (ok bytes) e a b =
         let q : n ≡ length bytes = ok-injective a in
-        let f : take (n - 0) after ≡ bytes = ap (take (n - 0)) b ∙ front bytes before n q in
+        let f : take (n - 0) after ≡ bytes = ap (take (n - 0)) b ∙ written-front bytes before (n - 0) (omega arith) in
         record { is = e ∙ ap ok (sym f); few = omega (arith, q, complete-writes problem buffer bytes e .few) }
 
 pub prints-lines : (problem after : List ℕ) (n buffer : ℕ) (out out′ : List ℕ) (r : ℕ) → Got problem buffer n after → 16_384 ≤ buffer → Lines (take (n - 0) after) out out′ r → Writes out (settle problem) out′ r

@@ -5,31 +5,22 @@ use mathlib.Core.List.{List}
 use Prim.Native.Nat.{ℕ, _≤_}
 use native.Mathlib.Omega.{arith}
 use lib.ListN.{length}
-use borrow.Author.Tests.{le-ltb}
+use Rattle.completion.proofs.Writing.{complete-is}
 use Rattle.terms.proofs.Every.{every-map}
-use Rattle.problem.specs.Problem.{Reading, ok, refused, _>>=_, refuse-if, Problem, parse}
+use Rattle.problem.specs.Problem.{Reading, ok, refused, _>>=_, Problem, parse}
 use Rattle.problem.proofs.Reading.{no-ok, ok-injective}
 use Rattle.completion.specs.Turn.{run}
-use Rattle.completion.specs.Calls.{result-fields, result-bytes, enough, complete-call}
+use Rattle.completion.specs.Calls.{result-fields, result-bytes, complete-call}
 use Rattle.completion.specs.Settle.{settle}
 use Rattle.completion.proofs.Accepts.{accepts}
 use Rattle.completion.proofs.Result.{fields-fit}
 use Rattle.report.specs.Fields.{Writes}
 use Rattle.settle_text.specs.Text.{Lines, Refusal}
 
-room-enough : (buffer : ℕ) → 16_384 ≤ buffer → enough buffer ≡ ok tt
-unfolding enough refuse-if
-room-enough buffer h = rw (le-ltb buffer 16_384 h) refl
-
--- what complete answers of a problem, with room enough
-call-is : (problem : List ℕ) (buffer : ℕ) → 16_384 ≤ buffer → complete-call problem buffer ≡ (parse problem >>= λ P. ok (result-bytes (run P)))
-unfolding complete-call _>>=_
-call-is problem buffer h = rw (room-enough buffer h) refl
-
 module _ (problem : List ℕ) (buffer : ℕ) (big : 16_384 ≤ buffer) where
   pub settle-lines : (result before after : List ℕ) (r : ℕ) → complete-call problem buffer ≡ ok result → Lines result before after r → Writes before (settle problem) after r
   unfolding _>>=_ settle result-bytes
-  settle-lines result before after r e h = go (parse problem) refl (sym (call-is problem buffer big) ∙ e)
+  settle-lines result before after r e h = go (parse problem) refl (sym (complete-is problem buffer big) ∙ e)
     where
       go : (m : Reading Problem) → parse problem ≡ m → (parse problem >>= λ P. ok (result-bytes (run P))) ≡ ok result → Writes before (settle problem) after r
       go (ok P) p q =
@@ -40,7 +31,7 @@ module _ (problem : List ℕ) (buffer : ℕ) (big : 16_384 ≤ buffer) where
 
   pub settle-refused : (n at : ℕ) (before after : List ℕ) (r : ℕ) → complete-call problem buffer ≡ refused n at → Refusal n at before after r → Writes before (settle problem) after r
   unfolding _>>=_ settle
-  settle-refused n at before after r e h = go (parse problem) refl (sym (call-is problem buffer big) ∙ e)
+  settle-refused n at before after r e h = go (parse problem) refl (sym (complete-is problem buffer big) ∙ e)
     where
       go : (m : Reading Problem) → parse problem ≡ m → (parse problem >>= λ P. ok (result-bytes (run P))) ≡ refused n at → Writes before (settle problem) after r
       go (ok P) p q = let q′ : ok (result-bytes (run P)) ≡ refused n at = rw p at q in absurd (no-ok (sym q′))

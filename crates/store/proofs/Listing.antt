@@ -26,6 +26,16 @@ short-at tab b l n k h j = record { left = h .short (2 * k) (omega arith); right
 pub room-at : (tab b l : List ℕ) (n k : ℕ) → Layout tab b l n → k < n → Room b l k
 room-at tab b l n k h j = let s = h .slots in let t = h .lengths in record { slots = omega arith; lengths = omega arith }
 
+-- Slots that stay as they were.
+pub slot-same : (b l : List ℕ) (i : ℕ) → SameSlot b l b l i
+slot-same b l i = record { left-length = refl; right-length = refl; content = refl }
+
+pub slot-trans : {b l b₁ l₁ b₂ l₂ : List ℕ} {i : ℕ} → SameSlot b l b₁ l₁ i → SameSlot b₁ l₁ b₂ l₂ i → SameSlot b l b₂ l₂ i
+slot-trans p q = record { left-length = q .left-length ∙ p .left-length; right-length = q .right-length ∙ p .right-length; content = q .content ∙ p .content }
+
+pub slot-kept : (b l : List ℕ) (k : ℕ) → OnlySlot b l k b l
+slot-kept b l k = record { same-bytes = refl; same-lengths = refl; others = λ i n. slot-same b l i }
+
 -- A pair depends only on its slot.
 pub rule-as : {tab b l b′ l′ : List ℕ} {j k : ℕ} {p : Pair} → ShortAt l j → SlotAs b l j b′ l′ k → RuleAt tab b l j p → RuleAt tab b′ l′ k p
 rule-as {tab} {b} {l} {b′} {l′} {j} {k} {p} s a r =
@@ -138,12 +148,12 @@ pub stored-same : (tab b l b′ l′ : List ℕ) (k n : ℕ) (ps : List Pair) �
 stored-same tab b l b′ l′ k n ps y m f h =
     stored-moved tab b l b′ l′ k k ps (λ i q. (short-at tab b l n (k + i) y (omega arith), f (k + i) (omega arith) (omega arith))) h
 
--- one slot more, behind the others
-pub stored-more : (tab b l b′ l′ : List ℕ) (n : ℕ) (ps : List Pair) (p : Pair) → Layout tab b l n → n ≡ length ps → OnlySlot b l n b′ l′ → RuleAt tab b′ l′ n p → Stored tab b l 0 ps → Stored tab b′ l′ 0 (ps ++ (p ∷ []))
-stored-more tab b l b′ l′ n ps p y e o r h =
+-- one slot more, behind the first k
+pub stored-behind : (tab b l b′ l′ : List ℕ) (n k : ℕ) (ps : List Pair) (p : Pair) → Layout tab b l n → k ≤ n → k ≡ length ps → OnlySlot b l k b′ l′ → RuleAt tab b′ l′ k p → Stored tab b l 0 ps → Stored tab b′ l′ 0 (ps ++ (p ∷ []))
+stored-behind tab b l b′ l′ n k ps p y m e o r h =
     stored-join tab b′ l′ 0 ps (p ∷ [])
-    (stored-same tab b l b′ l′ 0 n ps y (omega arith) (λ i q m. o .others i (λ z. omega arith)) h)
-    (let f : n ≡ 0 + length ps = omega arith in subst (λ z. Stored tab b′ l′ z (p ∷ [])) f (stored-one tab b′ l′ n p r))
+    (stored-same tab b l b′ l′ 0 n ps y (omega arith) (λ i q z. o .others i (λ f. omega arith)) h)
+    (let f : k ≡ 0 + length ps = omega arith in subst (λ z. Stored tab b′ l′ z (p ∷ [])) f (stored-one tab b′ l′ k p r))
 
 -- the first dropped
 pub stored-dropped : (tab b l b′ l′ : List ℕ) (n : ℕ) (p : Pair) (ps : List Pair) → Layout tab b l n → n ≡ suc (length ps) → Dropped b l b′ l′ → Stored tab b l 0 (p ∷ ps) → Stored tab b′ l′ 0 ps

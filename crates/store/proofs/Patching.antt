@@ -47,6 +47,18 @@ module _ (at : ℕ) (p d : List ℕ) (room : at + length p ≤ length d) where
       ∙ drop-drop (a - (at + length p)) (at + length p) d
       ∙ ap (λ z. drop z d) f
 
+-- one more behind the front
+pub front-more : (at m : ℕ) (p d : List ℕ) → at + length p ≤ length d → m ≡ at + length p → take m (patched at p d) ≡ take at d ++ p
+unfolding patched
+front-more at m p d h e =
+    let n : length (take at d ++ p) ≡ m = length-append (take at d) p ∙ omega (arith, length-take-le at d (let l : at ≤ length d = omega arith in l)) in
+    ap (take m) (sym (append-assoc (take at d) p (drop (at + length p) d))) ∙ take-at (take at d ++ p) (drop (at + length p) d) m n
+
+-- put at the front
+pub patched-zero : (p d : List ℕ) → patched 0 p d ≡ p ++ drop (0 + length p) d
+unfolding patched
+patched-zero p d = refl
+
 -- as a part of the list that was lent comes back
 pub patched-back : (at : ℕ) (p d ys : List ℕ) → at + length p ≤ length d → ys ≡ take (length p) p ++ drop (length p) (take (length d - at) (drop at d)) →
     take at d ++ (ys ++ drop (length d - at) (drop at d)) ≡ patched at p d

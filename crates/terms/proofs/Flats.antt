@@ -6,12 +6,12 @@ use mathlib.Core.List.{List, _++_, append-assoc}
 use mathlib.Core.Option.{some}
 use Prim.Native.Nat.{ℕ, _+_, _≤_, _<_}
 use native.Mathlib.Omega.{arith}
-use Rattle.terms.specs.Term.{Term, var, node, Terms, nil, cons, term-bytes, terms-bytes, size, subterm-at}
+use Rattle.terms.specs.Term.{Term, var, node, Terms, nil, cons, term-bytes, terms-bytes, size, subterm-at, subterm-in}
 use Rattle.terms.specs.Scan.{arity, count, skip}
 use Rattle.terms.specs.Flat.{Wf, Wfs}
 use Rattle.terms.proofs.Subst.{VarsIn}
 use Rattle.terms.proofs.Every.{Every}
-use Rattle.terms.proofs.Positions.{Inherits, subterm-inherits}
+use Rattle.terms.proofs.Positions.{Inherits, subterm-inherits, subterm-in-inherits}
 use Rattle.terms.proofs.Limits.{Made, MadeAll, made-vars, made-bytes}
 use Rattle.terms.proofs.Scans.{skip-bytes, skip-none}
 
@@ -68,6 +68,9 @@ wf-inherits n tab = record { arguments = λ f ts w. w .2; head = λ t ts w. w .0
 
 pub wf-subterm : (n : ℕ) (tab : List ℕ) (t : Term) (p : ℕ) (u : Term) → Wf n tab t → subterm-at t p ≡ some u → Wf n tab u
 wf-subterm n tab t p u w e = subterm-inherits (wf-inherits n tab) t p u e w
+
+pub wf-subterm-in : (n : ℕ) (tab : List ℕ) (ts : Terms) (p : ℕ) (u : Term) → Wfs n tab ts → subterm-in ts p ≡ some u → Wf n tab u
+wf-subterm-in n tab ts p u w e = subterm-in-inherits (wf-inherits n tab) ts p u e w
 
 -- Their symbols are below 16, and other bounds of the variables are enough.
 mutual

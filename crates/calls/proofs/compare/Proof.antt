@@ -1,8 +1,8 @@
--- `compare`: the parts from where the two sides start are compared by `order::comparison`; its number is told: `compare-1`, `compare-2`. Assumes
+-- `compare`: the parts from where the two sides start are compared by `order::comparison`; its number is told: `compare-unread`, `compare-read`. Assumes
 -- nothing.
 -- Read first: specs/Answers (told, SingleAt), completion/specs/Calls (compare-call), proofs/Singles.
 use Prim.Native.Nat.{_+_}
-use Rattle.calls.proofs.Singles.{part-small, compare-1, compare-range, compare-2}
+use Rattle.calls.proofs.Singles.{part-small, compare-unread, compare-range, compare-read}
 use native.Mathlib.Omega.{arith}
 use borrow.Author.Needs.{needs}
 use Rattle.calls.proofs.compare.Statement.{statement}
@@ -41,12 +41,12 @@ named-requires c κs =
     compare-range _ _ _ (A .1) _ (c .before .before .before .before .term-end .ensures .1 .0) _ (c .comparison .ensures)
 
 returns : tie.Need-returns
-returns c = compare-1 _ _ _ (rw (c .before .number .given .1) at (c .before .before .before .single .ensures))
+returns c = compare-unread _ _ _ (rw (c .before .number .given .1) at (c .before .before .before .single .ensures))
 
 returns-2 : tie.Need-returns-2
 returns-2 c =
     let A = rw (c .before .before .before .before .before .before .before .before .e .given .1) at (c .before .before .before .before .before .before .before .before .before .before .single .ensures) in
-    compare-2 _ _ _ (A .1) _ (c .before .before .before .before .before .term-end .ensures .1 .0) _ (c .before .comparison .ensures) _ (c .named .ensures)
+    compare-read _ _ _ (A .1) _ (c .before .before .before .before .before .term-end .ensures .1 .0) _ (c .before .comparison .ensures) _ (c .named .ensures)
 
 pub compare-spec : {M : Type 1} → statement M
 compare-spec =

@@ -1,14 +1,14 @@
 -- `single`: a lemma for each of the five returns: refused by `parse`, no equation, no whole field there, one equation, more than one. Assumes
 -- nothing.
 -- Read first: specs/Answers (IsSingle, SingleAt), proofs/Singles.
-use Rattle.calls.proofs.Singles.{single-1, single-2, single-3, single-4, single-5}
+use Rattle.calls.proofs.Singles.{single-unread, single-no-equation, single-not-due, single-one, single-more}
 use native.Mathlib.Omega.{arith}
 use borrow.Author.Needs.{needs}
 use Rattle.calls.proofs.single.Statement.{statement}
 use Rattle.calls.proofs.single.Tie as tie
 
 returns : tie.Need-returns
-returns c = let A = rw (c .before .before .table-end .given .1) at (c .before .before .before .before .parse .ensures .1) in single-2 _ _ _ _ _ (A .1) (c .if1 .taken)
+returns c = let A = rw (c .before .before .table-end .given .1) at (c .before .before .before .before .parse .ensures .1) in single-no-equation _ _ _ _ _ (A .1) (c .if1 .taken)
 
 add-due : tie.Need-add-due
 add-due c = let A = rw (c .before .before .table-end .given .1) at (c .before .before .before .before .parse .ensures .1) in omega (arith, A .1 .table .high)
@@ -16,20 +16,21 @@ add-due c = let A = rw (c .before .before .table-end .given .1) at (c .before .b
 returns-2 : tie.Need-returns-2
 returns-2 c =
     let A = rw (c .before .before .before .before .before .before .before .table-end .given .1) at (c .before .before .before .before .before .before .before .before .before .parse .ensures .1) in
-    single-4 _ _ _ _ _ (A .1) (c .before .before .before .before .before .if1 .left) _ (rw (c .before .before .second .given .1) at (c .before .before .before .before .due .ensures)) (c .if2 .taken)
+    single-one _ _ _ _ _ (A .1) (c .if2 .taken)
 
 returns-3 : tie.Need-returns-3
-returns-3 c = single-1 _ _ _ (rw (c .before .number .given .1) at (c .before .before .before .parse .ensures .1))
+returns-3 c = single-unread _ _ _ (rw (c .before .number .given .1) at (c .before .before .before .parse .ensures .1))
 
 returns-4 : tie.Need-returns-4
 returns-4 c =
     let A = rw (c .before .before .before .before .before .before .table-end .given .1) at (c .before .before .before .before .before .before .before .before .parse .ensures .1) in
-    single-3 _ _ _ _ _ (A .1) (c .before .before .before .before .if1 .left) _ _ (rw (c .before .number2 .given .1) at (c .before .before .before .due .ensures))
+    single-not-due _ _ _ _ _ (A .1) (c .before .before .before .before .if1 .left) _ _ (rw (c .before .number2 .given .1) at (c .before .before .before .due .ensures))
 
 returns-5 : tie.Need-returns-5
 returns-5 c =
     let A = rw (c .before .before .before .before .before .before .before .table-end .given .1) at (c .before .before .before .before .before .before .before .before .before .parse .ensures .1) in
-    single-5 _ _ _ _ _ (A .1) (c .before .before .before .before .before .if1 .left) _ (rw (c .before .before .second .given .1) at (c .before .before .before .before .due .ensures)) (c .if2 .left)
+    let D = rw (c .before .before .second .given .1) at (c .before .before .before .before .due .ensures) in
+    single-more _ _ _ _ _ (A .1) (c .before .before .before .before .before .if1 .left) _ (D .0) (c .if2 .left)
 
 pub single-spec : {M : Type 1} → statement M
 single-spec =

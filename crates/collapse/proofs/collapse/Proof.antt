@@ -1,6 +1,6 @@
 -- `collapse`: the invariant is that of the first i rules k are kept and i - k wait, the rest being as it was; n - i falls. Assumes nothing.
--- Read first: specs/Sifting (Sift, Sifted), proofs/Siftings (Going).
-use Rattle.collapse.proofs.Siftings.{Going, going-start, going-more, going-end}
+-- Read first: specs/Sifting (Sift, Sifted), proofs/Siftings (SiftedTo).
+use Rattle.collapse.proofs.Siftings.{SiftedTo, sifting-start, sifting-more, sifting-end}
 use Rattle.collapse.specs.Sifting.{shelf}
 use native.Mathlib.Omega.{arith}
 use Prim.Native.Nat.{_-_}
@@ -14,21 +14,21 @@ use Rattle.collapse.proofs.sift.Reads as sift-reads
 
 abbrev Inv-loop : tie.InvT-loop
 Inv-loop rules₀ lens₀ numbers₀ waiting₀ lengths₀ origins₀ new sizes table n w k₀ i₀ rules lens numbers waiting lengths origins k i =
-    Going table new sizes (shelf rules₀ lens₀ numbers₀ waiting₀ lengths₀ origins₀) n w (shelf rules lens numbers waiting lengths origins) k i
+    SiftedTo table new sizes (shelf rules₀ lens₀ numbers₀ waiting₀ lengths₀ origins₀) n w (shelf rules lens numbers waiting lengths origins) k i
 
 abbrev μ-loop : tie.MeasureT-loop
 μ-loop rules₀ lens₀ numbers₀ waiting₀ lengths₀ origins₀ new sizes table n w k₀ i₀ rules lens numbers waiting lengths origins k i =
     n - i
 
 loop-holds : tie.Need-loop-holds Inv-loop μ-loop
-loop-holds c = going-start _ _ _ _ _ _ (c .before .before .before .before .before .before .before .before .before .pre .0 .0)
+loop-holds c = sifting-start _ _ _ _ _ _ (c .before .before .before .before .before .before .before .before .before .pre .0 .0)
 
 sift-requires : tie.Need-sift-requires Inv-loop μ-loop
 sift-requires c κs =
     ((c .before .before .before .before .before .before .before .loop .inv .safe, c .before .before .before .before .before .before .before .before .before .before .before .before .before .before .before .before .before .pre .0 .1), (c .before .before .before .before .before .before .before .loop .inv .low, c .before .before .before .before .before .before .loop-test .taken, c .before .before .before .before .before .before .before .before .before .before .before .before .before .before .before .before .before .pre .1 .0, let a = c .before .before .before .before .before .before .before .before .before .before .before .before .before .before .before .before .before .pre .1 .1 in let b = c .before .before .before .before .before .before .loop-test .taken in omega arith))
 
 loop-again : tie.Need-loop-again Inv-loop μ-loop
-loop-again c = going-more _ _ _ _ _ _ _ _ _ _ _ (c .before .before .before .before .before .before .before .before .before .before .before .before .before .before .before .before .before .before .before .before .loop .inv) (c .before .before .before .before .before .before .before .before .before .before .before .before .before .before .before .before .before .before .before .loop-test .taken) (c .before .before .before .before .before .before .before .before .before .before .before .before .sift .ensures)
+loop-again c = sifting-more _ _ _ _ _ _ _ _ _ _ _ (c .before .before .before .before .before .before .before .before .before .before .before .before .before .before .before .before .before .before .before .before .loop .inv) (c .before .before .before .before .before .before .before .before .before .before .before .before .before .before .before .before .before .before .before .loop-test .taken) (c .before .before .before .before .before .before .before .before .before .before .before .before .sift .ensures)
 
 same-length : tie.Need-same-length Inv-loop μ-loop
 same-length c = c .before .loop .inv .safe .rules-long ∙ sym (c .before .before .before .before .before .before .before .before .before .before .before .pre .0 .0 .rules-long)
@@ -49,7 +49,7 @@ same-length-6 : tie.Need-same-length-6 Inv-loop μ-loop
 same-length-6 c = c .before .loop .inv .safe .origins-long ∙ sym (c .before .before .before .before .before .before .before .before .before .before .before .pre .0 .0 .origins-long)
 
 returns : tie.Need-returns Inv-loop μ-loop
-returns c = going-end _ _ _ _ _ _ _ _ _ (c .before .loop .inv) (c .loop-test .left)
+returns c = sifting-end _ _ _ _ _ _ _ _ _ (c .before .loop .inv) (c .loop-test .left)
 
 pub collapse-spec : {M : Type 1} → statement M
 collapse-spec =

@@ -1,7 +1,7 @@
 -- `compose`: the invariant is that k right sides are done and the run is that of the others with the units left; older - k falls. Assumes nothing.
--- Read first: specs/Rights (All), proofs/Sweep (Going, Midway).
+-- Read first: specs/Rights (All), proofs/Sweep (SweptTo, Midway).
 use mathlib.Core.Path.{_∙_}
-use Rattle.compose.proofs.Sweep.{Going, going-start, going-on, going-stop, going-end}
+use Rattle.compose.proofs.Sweep.{SweptTo, sweep-start, sweep-on, sweep-stop, sweep-end}
 use Prim.Native.Nat.{_-_}
 use borrow.Author.Needs.{needs}
 use Rattle.compose.proofs.compose.Statement.{statement}
@@ -11,13 +11,13 @@ use Rattle.compose.proofs.compose.Lts as lts
 use Rattle.compose.proofs.compose_one.Reads as compose-one-reads
 
 abbrev Inv-loop : tie.InvT-loop
-Inv-loop rules₀ lens₀ older table units left₀ k₀ rules lens left k = Going table rules₀ lens₀ rules lens older units k left
+Inv-loop rules₀ lens₀ older table units left₀ k₀ rules lens left k = SweptTo table rules₀ lens₀ rules lens older units k left
 
 abbrev μ-loop : tie.MeasureT-loop
 μ-loop rules₀ lens₀ older table units left₀ k₀ rules lens left k = older - k
 
 loop-holds : tie.Need-loop-holds Inv-loop μ-loop
-loop-holds c = going-start _ _ _ _ _ (c .before .before .before .pre)
+loop-holds c = sweep-start _ _ _ _ _ (c .before .before .before .pre)
 
 compose-one-requires : tie.Need-compose-one-requires Inv-loop μ-loop
 compose-one-requires c κs = (c .before .before .before .loop .inv .kept .layout, c .before .before .loop-test .taken)
@@ -29,13 +29,13 @@ same-length-2 : tie.Need-same-length-2 Inv-loop μ-loop
 same-length-2 c = c .before .before .before .before .before .before .compose-one .ensures .only .same-lengths ∙ c .before .before .before .before .before .before .before .before .before .before .loop .inv .kept .same-lengths
 
 returns : tie.Need-returns Inv-loop μ-loop
-returns c = going-stop _ _ _ _ _ _ _ _ _ (c .before .before .before .before .before .before .before .before .before .before .loop .inv) (c .before .before .before .before .before .before .before .before .before .loop-test .taken) _ _ _ (c .before .before .before .before .before .before .compose-one .ensures) (search needs)
+returns c = sweep-stop _ _ _ _ _ _ _ _ _ (c .before .before .before .before .before .before .before .before .before .before .loop .inv) (c .before .before .before .before .before .before .before .before .before .loop-test .taken) _ _ _ (c .before .before .before .before .before .before .compose-one .ensures) (search needs)
 
 loop-again : tie.Need-loop-again Inv-loop μ-loop
-loop-again c = going-on _ _ _ _ _ _ _ _ _ (c .before .before .before .before .before .before .before .before .before .before .loop .inv) (c .before .before .before .before .before .before .before .before .before .loop-test .taken) _ _ _ (c .before .before .before .before .before .before .compose-one .ensures) (search needs)
+loop-again c = sweep-on _ _ _ _ _ _ _ _ _ (c .before .before .before .before .before .before .before .before .before .before .loop .inv) (c .before .before .before .before .before .before .before .before .before .loop-test .taken) _ _ _ (c .before .before .before .before .before .before .compose-one .ensures) (search needs)
 
 returns-2 : tie.Need-returns-2 Inv-loop μ-loop
-returns-2 c = going-end _ _ _ _ _ _ _ _ _ (c .before .loop .inv) (search needs)
+returns-2 c = sweep-end _ _ _ _ _ _ _ _ _ (c .before .loop .inv) (search needs)
 
 pub compose-spec : {M : Type 1} → statement M
 compose-spec =

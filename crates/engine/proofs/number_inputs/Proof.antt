@@ -1,6 +1,6 @@
 -- `number_inputs`: the invariant is that the first i origins are those of the inputs 1 to i; n - i falls. Assumes nothing.
--- Read first: specs/Steps (numbered), proofs/Beginning (Numbering).
-use Rattle.engine.proofs.Beginning.{Numbering, numbering-start, numbering-more, numbering-end}
+-- Read first: specs/Steps (numbered), proofs/Beginning (OriginsTo).
+use Rattle.engine.proofs.Beginning.{OriginsTo, origins-start, origins-more, origins-end}
 use native.Mathlib.Omega.{arith}
 use Prim.Native.Nat.{_-_}
 use borrow.Author.Needs.{needs}
@@ -11,13 +11,13 @@ use Rattle.engine.proofs.number_inputs.Lts as lts
 use Rattle.engine.proofs.put_input.Reads as put-input-reads
 
 abbrev Inv-loop : tie.InvT-loop
-Inv-loop origins₀ n i₀ origins i = Numbering origins₀ origins n i
+Inv-loop origins₀ n i₀ origins i = OriginsTo origins₀ origins n i
 
 abbrev μ-loop : tie.MeasureT-loop
 μ-loop origins₀ n i₀ origins i = n - i
 
 loop-holds : tie.Need-loop-holds Inv-loop μ-loop
-loop-holds c = numbering-start _ _
+loop-holds c = origins-start _ _
 
 put-input-requires : tie.Need-put-input-requires Inv-loop μ-loop
 put-input-requires c κs =
@@ -28,13 +28,13 @@ put-input-requires c κs =
     (omega arith, omega arith)
 
 loop-again : tie.Need-loop-again Inv-loop μ-loop
-loop-again c = numbering-more _ _ _ _ _ (c .before .before .before .before .before .loop .inv) (c .before .before .before .before .loop-test .taken) (c .before .before .before .before .before .before .before .pre .0) (c .before .before .put-input .ensures)
+loop-again c = origins-more _ _ _ _ _ (c .before .before .before .before .before .loop .inv) (c .before .before .before .before .loop-test .taken) (c .before .before .before .before .before .before .before .pre .0) (c .before .before .put-input .ensures)
 
 same-length : tie.Need-same-length Inv-loop μ-loop
 same-length c = c .before .loop .inv .same
 
 returns : tie.Need-returns Inv-loop μ-loop
-returns c = numbering-end _ _ _ _ (c .before .loop .inv) (c .loop-test .left)
+returns c = origins-end _ _ _ _ (c .before .loop .inv) (c .loop-test .left)
 
 pub number-inputs-spec : {M : Type 1} → statement M
 number-inputs-spec =

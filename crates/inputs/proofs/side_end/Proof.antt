@@ -1,6 +1,6 @@
 -- `side_end`: the invariant is that the bytes passed are known and at most 120; e - i falls. A lemma for each return. Assumes nothing.
--- Read first: specs/Inputs (SideEnd), proofs/Ending (Going).
-use Rattle.inputs.proofs.Ending.{Going, side-start, side-more, side-far, side-bad, side-whole}
+-- Read first: specs/Inputs (SideEnd), proofs/Ending (SideWalk).
+use Rattle.inputs.proofs.Ending.{SideWalk, side-start, side-more, side-far, side-bad, side-whole}
 use Prim.Native.Nat.{_-_}
 use native.Mathlib.Omega.{arith}
 use borrow.Author.Needs.{needs}
@@ -8,7 +8,7 @@ use Rattle.inputs.proofs.side_end.Statement.{statement}
 use Rattle.inputs.proofs.side_end.Tie as tie
 
 abbrev Inv-loop : tie.InvT-loop
-Inv-loop problem table at e i₀ i = Going problem at e i
+Inv-loop problem table at e i₀ i = SideWalk problem at e i
 
 abbrev μ-loop : tie.MeasureT-loop
 μ-loop problem table at e i₀ i = e - i

@@ -1,6 +1,6 @@
 -- `problem::budget` meets its contract. Assumes nothing.
 -- Read first: proofs/Fields.
-use Rattle.problem.proofs.Fields.{bind-refused, budget-1, budget-2, budget-3}
+use Rattle.problem.proofs.Fields.{bind-refused, budget-length, budget-large, budget-fine}
 use Rattle.problem.specs.Problem.{budget-field}
 use native.Mathlib.Omega.{arith}
 use mathlib.Core.Path.{refl}
@@ -12,7 +12,7 @@ sub-if1 : tie.Need-sub-if1
 sub-if1 c = let d = rw (c .before .e .given .1) at (c .before .before .before .due .ensures) in omega (arith, d .1)
 
 returns : tie.Need-returns
-returns c = budget-1 _ _ _ (rw (c .before .before .e .given .1) at (c .before .before .before .before .due .ensures)) (c .if1 .taken)
+returns c = budget-length _ _ _ (rw (c .before .before .e .given .1) at (c .before .before .before .before .due .ensures)) (c .if1 .taken)
 
 shared-slice-read-wide : tie.Need-shared-slice-read-wide
 shared-slice-read-wide c = let d = rw (c .before .before .before .e .given .1) at (c .before .before .before .before .before .due .ensures) in omega (arith, d .1, d .2)
@@ -27,13 +27,13 @@ shared-slice-read-wide-4 : tie.Need-shared-slice-read-wide-4
 shared-slice-read-wide-4 c = let d = rw (c .before .before .before .before .before .before .before .before .before .e .given .1) at (c .before .before .before .before .before .before .before .before .before .before .before .due .ensures) in omega (arith, d .1, d .2)
 
 returns-2 : tie.Need-returns-2
-returns-2 c = budget-2 _ _ _ (rw (c .before .before .before .before .before .before .before .before .before .before .before .e .given .1) at (c .before .before .before .before .before .before .before .before .before .before .before .before .before .due .ensures)) (c .before .before .before .before .before .before .before .before .before .if1 .left) _ _ _ _ _ (c .before .before .before .before .before .before .before .wide .ensures .0) (c .before .before .before .before .before .wide2 .ensures .0) (c .before .before .before .wide3 .ensures .0) (c .before .wide4 .ensures .0) refl (c .if2 .taken)
+returns-2 c = budget-large _ _ _ (rw (c .before .before .before .before .before .before .before .before .before .before .before .e .given .1) at (c .before .before .before .before .before .before .before .before .before .before .before .before .before .due .ensures)) (c .before .before .before .before .before .before .before .before .before .if1 .left) _ _ _ _ _ (c .before .before .before .before .before .before .before .wide .ensures .0) (c .before .before .before .before .before .wide2 .ensures .0) (c .before .before .before .wide3 .ensures .0) (c .before .wide4 .ensures .0) refl (c .if2 .taken)
 
 returns-3 : tie.Need-returns-3
 returns-3 c = bind-refused budget-field (rw (c .before .number .given .1) at (c .before .before .before .due .ensures))
 
 returns-4 : tie.Need-returns-4
-returns-4 c = budget-3 _ _ _ (rw (c .before .before .before .before .before .before .before .before .before .before .before .e .given .1) at (c .before .before .before .before .before .before .before .before .before .before .before .before .before .due .ensures)) (c .before .before .before .before .before .before .before .before .before .if1 .left) _ _ _ _ _ (c .before .before .before .before .before .before .before .wide .ensures .0) (c .before .before .before .before .before .wide2 .ensures .0) (c .before .before .before .wide3 .ensures .0) (c .before .wide4 .ensures .0) refl (c .if2 .left)
+returns-4 c = budget-fine _ _ _ (rw (c .before .before .before .before .before .before .before .before .before .before .before .e .given .1) at (c .before .before .before .before .before .before .before .before .before .before .before .before .before .due .ensures)) (c .before .before .before .before .before .before .before .before .before .if1 .left) _ _ _ _ _ (c .before .before .before .before .before .before .before .wide .ensures .0) (c .before .before .before .before .before .wide2 .ensures .0) (c .before .before .before .wide3 .ensures .0) (c .before .wide4 .ensures .0) refl (c .if2 .left)
 
 pub budget-spec : {M : Type 1} → statement M
 budget-spec =

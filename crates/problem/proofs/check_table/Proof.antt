@@ -1,6 +1,6 @@
 -- `problem::check_table` meets its contract. Assumes nothing.
 -- Read first: proofs/Fields.
-use Rattle.problem.proofs.Fields.{table-1, table-2, table-3, table-turn, table-5}
+use Rattle.problem.proofs.Fields.{table-arity, table-rank, table-same-rank, table-turn, table-end}
 use Rattle.problem.specs.Parser.{ranks, check-symbols}
 use Rattle.problem.specs.Problem.{refused}
 use lib.ListN.{length, drop}
@@ -24,19 +24,19 @@ loop-holds c =
     (search needs, refl)
 
 returns : tie.Need-returns Inv-loop μ-loop
-returns c = sym (c .before .before .before .loop .inv .1) ∙ table-1 _ _ _ _ (c .before .before .loop-test .taken) (c .if1 .taken)
+returns c = sym (c .before .before .before .loop .inv .1) ∙ table-arity _ _ _ _ (c .before .before .loop-test .taken) (c .if1 .taken)
 
 returns-2 : tie.Need-returns-2 Inv-loop μ-loop
-returns-2 c = sym (c .before .before .before .before .before .loop .inv .1) ∙ table-2 _ _ _ _ (c .before .before .before .before .loop-test .taken) (c .before .before .if1 .left) (c .if2 .taken) ∙ ap (refused 6) (omega arith)
+returns-2 c = sym (c .before .before .before .before .before .loop .inv .1) ∙ table-rank _ _ _ _ (c .before .before .before .before .loop-test .taken) (c .before .before .if1 .left) (c .if2 .taken) ∙ ap (refused 6) (omega arith)
 
 returns-3 : tie.Need-returns-3 Inv-loop μ-loop
-returns-3 c = sym (c .before .before .before .before .before .before .before .loop .inv .1) ∙ table-3 _ _ _ _ (c .before .before .before .before .before .before .loop-test .taken) (c .before .before .before .before .if1 .left) (c .before .before .if2 .left) (sym (c .if3 .taken) ∙ c .before .rank-seen .ensures) ∙ ap (refused 7) (omega arith)
+returns-3 c = sym (c .before .before .before .before .before .before .before .loop .inv .1) ∙ table-same-rank _ _ _ _ (c .before .before .before .before .before .before .loop-test .taken) (c .before .before .before .before .if1 .left) (c .before .before .if2 .left) (sym (c .if3 .taken) ∙ c .before .rank-seen .ensures) ∙ ap (refused 7) (omega arith)
 
 loop-again : tie.Need-loop-again Inv-loop μ-loop
 loop-again c = (search needs, table-turn _ _ (c .before .before .before .before .before .before .loop-test .taken) (c .before .before .before .before .if1 .left) (c .before .before .if2 .left) (sym (c .if3 .left) ∙ c .before .rank-seen .ensures) ∙ c .before .before .before .before .before .before .before .loop .inv .1)
 
 returns-4 : tie.Need-returns-4 Inv-loop μ-loop
-returns-4 c = sym (c .before .loop .inv .1) ∙ table-5 _ _ _ _ (c .loop-test .left)
+returns-4 c = sym (c .before .loop .inv .1) ∙ table-end _ _ _ _ (c .loop-test .left)
 
 pub check-table-spec : {M : Type 1} → statement M
 check-table-spec =

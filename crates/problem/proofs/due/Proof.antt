@@ -1,25 +1,25 @@
 -- `problem::due` meets its contract. Assumes nothing.
 -- Read first: proofs/Fields.
 use mathlib.Core.Path.{refl}
-use Rattle.problem.proofs.Fields.{due-1, due-2, due-3, due-4, due-5}
+use Rattle.problem.proofs.Fields.{due-ended, due-short, due-past-end, due-other-tag, due-fine}
 use borrow.Author.Needs.{needs}
 use Rattle.problem.proofs.due.Statement.{statement}
 use Rattle.problem.proofs.due.Tie as tie
 
 returns : tie.Need-returns
-returns c = due-1 _ _ _ (c .if1 .taken)
+returns c = due-ended _ _ _ (c .if1 .taken)
 
 returns-2 : tie.Need-returns-2
-returns-2 c = due-2 _ _ _ (c .before .if1 .left) (c .if2 .taken)
+returns-2 c = due-short _ _ _ (c .before .if1 .left) (c .if2 .taken)
 
 returns-3 : tie.Need-returns-3
-returns-3 c = due-3 _ _ _ _ _ _ (c .before .before .before .before .before .if2 .left) (c .before .before .before .wide .ensures .0) (c .before .wide2 .ensures .0) refl (c .if3 .taken)
+returns-3 c = due-past-end _ _ _ _ _ _ (c .before .before .before .before .before .if2 .left) (c .before .before .before .wide .ensures .0) (c .before .wide2 .ensures .0) refl (c .if3 .taken)
 
 returns-4 : tie.Need-returns-4
-returns-4 c = due-4 _ _ _ _ _ _ (c .before .before .before .before .before .before .before .if2 .left) (c .before .before .before .before .before .wide .ensures .0) (c .before .before .before .wide2 .ensures .0) refl (c .before .before .if3 .left) (c .if4 .taken)
+returns-4 c = due-other-tag _ _ _ _ _ _ (c .before .before .before .before .before .before .before .if2 .left) (c .before .before .before .before .before .wide .ensures .0) (c .before .before .before .wide2 .ensures .0) refl (c .before .before .if3 .left) (c .if4 .taken)
 
 returns-5 : tie.Need-returns-5
-returns-5 c = due-5 _ _ _ _ _ _ (c .before .before .before .before .before .before .before .if2 .left) (c .before .before .before .before .before .wide .ensures .0) (c .before .before .before .wide2 .ensures .0) refl (c .before .before .if3 .left) (c .if4 .left)
+returns-5 c = due-fine _ _ _ _ _ _ (c .before .before .before .before .before .before .before .if2 .left) (c .before .before .before .before .before .wide .ensures .0) (c .before .before .before .wide2 .ensures .0) refl (c .before .before .if3 .left) (c .if4 .left)
 
 pub due-spec : {M : Type 1} → statement M
 due-spec =

@@ -1,6 +1,6 @@
 -- `problem::equation` meets its contract. Assumes nothing.
 -- Read first: proofs/Scanned.
-use Rattle.problem.proofs.Scanned.{equation-1, equation-2, equation-3, equation-4, part-short}
+use Rattle.problem.proofs.Scanned.{equation-left-refused, equation-right-refused, equation-more, equation-fine, part-short}
 use borrow.Author.Needs.{needs}
 use Rattle.problem.proofs.equation.Statement.{statement}
 use Rattle.problem.proofs.equation.Tie as tie
@@ -14,21 +14,21 @@ returns : tie.Need-returns
 returns c =
     let X = rw (c .before .before .before .before .before .before .before .middle .given .1) at (c .before .before .before .before .before .before .before .before .before .side .ensures) in
     let Y = rw (c .before .before .last .given .1) at (c .before .before .before .before .side2 .ensures) in
-    equation-3 _ (c .before .before .before .before .before .before .before .before .before .before .before .before .before .pre .0) _ _ _ (c .before .before .before .before .before .before .before .before .before .before .before .before .before .pre .1 .0) (c .before .before .before .before .before .before .before .before .before .before .before .before .before .pre .1 .1) _ _ (X .1) _ _ (Y .1) (c .if1 .taken)
+    equation-more _ (c .before .before .before .before .before .before .before .before .before .before .before .before .before .pre .0) _ _ _ (c .before .before .before .before .before .before .before .before .before .before .before .before .before .pre .1 .0) (c .before .before .before .before .before .before .before .before .before .before .before .before .before .pre .1 .1) _ _ (X .1) _ _ (Y .1) (c .if1 .taken)
 
 returns-2 : tie.Need-returns-2
-returns-2 c = equation-1 _ (c .before .before .before .before .before .before .before .pre .0) _ _ _ (c .before .before .before .before .before .before .before .pre .1 .0) (c .before .before .before .before .before .before .before .pre .1 .1) _ _ (rw (c .before .number .given .1) at (c .before .before .before .side .ensures))
+returns-2 c = equation-left-refused _ (c .before .before .before .before .before .before .before .pre .0) _ _ _ (c .before .before .before .before .before .before .before .pre .1 .0) (c .before .before .before .before .before .before .before .pre .1 .1) _ _ (rw (c .before .number .given .1) at (c .before .before .before .side .ensures))
 
 returns-3 : tie.Need-returns-3
 returns-3 c =
     let X = rw (c .before .before .before .before .before .before .middle .given .1) at (c .before .before .before .before .before .before .before .before .side .ensures) in
-    equation-2 _ (c .before .before .before .before .before .before .before .before .before .before .before .before .pre .0) _ _ _ (c .before .before .before .before .before .before .before .before .before .before .before .before .pre .1 .0) (c .before .before .before .before .before .before .before .before .before .before .before .before .pre .1 .1) _ _ (X .1) _ _ (rw (c .before .number2 .given .1) at (c .before .before .before .side2 .ensures))
+    equation-right-refused _ (c .before .before .before .before .before .before .before .before .before .before .before .before .pre .0) _ _ _ (c .before .before .before .before .before .before .before .before .before .before .before .before .pre .1 .0) (c .before .before .before .before .before .before .before .before .before .before .before .before .pre .1 .1) _ _ (X .1) _ _ (rw (c .before .number2 .given .1) at (c .before .before .before .side2 .ensures))
 
 returns-4 : tie.Need-returns-4
 returns-4 c =
     let X = rw (c .before .before .before .before .before .before .before .middle .given .1) at (c .before .before .before .before .before .before .before .before .before .side .ensures) in
     let Y = rw (c .before .before .last .given .1) at (c .before .before .before .before .side2 .ensures) in
-    equation-4 _ (c .before .before .before .before .before .before .before .before .before .before .before .before .before .pre .0) _ _ _ (c .before .before .before .before .before .before .before .before .before .before .before .before .before .pre .1 .0) (c .before .before .before .before .before .before .before .before .before .before .before .before .before .pre .1 .1) _ _ (X .1) _ _ (Y .1) (c .if1 .left)
+    equation-fine _ (c .before .before .before .before .before .before .before .before .before .before .before .before .before .pre .0) _ _ _ (c .before .before .before .before .before .before .before .before .before .before .before .before .before .pre .1 .0) (c .before .before .before .before .before .before .before .before .before .before .before .before .before .pre .1 .1) _ _ (X .1) _ _ (Y .1) (c .if1 .left)
 
 pub equation-spec : {M : Type 1} → statement M
 equation-spec =

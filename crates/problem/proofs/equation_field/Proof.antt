@@ -1,12 +1,12 @@
 -- `problem::equation_field` meets its contract. Assumes nothing.
 -- Read first: proofs/Scanned.
-use Rattle.problem.proofs.Scanned.{field-1, field-2, field-3, field-4}
+use Rattle.problem.proofs.Scanned.{field-not-due, field-seventeenth, field-refused, field-fine}
 use borrow.Author.Needs.{needs}
 use Rattle.problem.proofs.equation_field.Statement.{statement}
 use Rattle.problem.proofs.equation_field.Tie as tie
 
 returns : tie.Need-returns
-returns c = field-2 _ _ _ _ (c .before .before .before .before .before .before .before .pre .1 .0) _ (rw (c .before .before .end .given .1) at (c .before .before .before .before .due .ensures)) (c .if1 .taken)
+returns c = field-seventeenth _ _ _ _ (c .before .before .before .before .before .before .before .pre .1 .0) _ (rw (c .before .before .end .given .1) at (c .before .before .before .before .due .ensures)) (c .if1 .taken)
 
 equation-requires : tie.Need-equation-requires
 equation-requires c κs =
@@ -14,13 +14,13 @@ equation-requires c κs =
     (c .before .before .before .before .before .before .before .pre .0, (d .1, d .2, c .before .before .before .before .before .before .before .pre .1 .1))
 
 returns-2 : tie.Need-returns-2
-returns-2 c = field-1 _ _ _ _ (c .before .before .before .before .before .before .pre .1 .0) _ _ (rw (c .before .number .given .1) at (c .before .before .before .due .ensures))
+returns-2 c = field-not-due _ _ _ _ (c .before .before .before .before .before .before .pre .1 .0) _ _ (rw (c .before .number .given .1) at (c .before .before .before .due .ensures))
 
 returns-3 : tie.Need-returns-3
-returns-3 c = field-3 _ _ _ _ (c .before .before .before .before .before .before .before .before .before .before .before .pre .1 .0) _ (rw (c .before .before .before .before .before .before .end .given .1) at (c .before .before .before .before .before .before .before .before .due .ensures)) (c .before .before .before .before .if1 .left) (c .before .before .before .before .before .before .before .before .before .before .before .pre .1 .2) _ _ (rw (c .before .number2 .given .1) at (c .before .before .before .equation .ensures))
+returns-3 c = field-refused _ _ _ _ (c .before .before .before .before .before .before .before .before .before .before .before .pre .1 .0) _ (rw (c .before .before .before .before .before .before .end .given .1) at (c .before .before .before .before .before .before .before .before .due .ensures)) (c .before .before .before .before .if1 .left) (c .before .before .before .before .before .before .before .before .before .before .before .pre .1 .2) _ _ (rw (c .before .number2 .given .1) at (c .before .before .before .equation .ensures))
 
 returns-4 : tie.Need-returns-4
-returns-4 c = field-4 _ _ _ _ (c .before .before .before .before .before .before .before .before .before .before .pre .1 .0) _ (rw (c .before .before .before .before .before .end .given .1) at (c .before .before .before .before .before .before .before .due .ensures)) (c .before .before .before .if1 .left) (c .before .before .before .before .before .before .before .before .before .before .pre .1 .2) (rw (c .enum-told .given .1) at (c .before .before .equation .ensures))
+returns-4 c = field-fine _ _ _ _ (c .before .before .before .before .before .before .before .before .before .before .pre .1 .0) _ (rw (c .before .before .before .before .before .end .given .1) at (c .before .before .before .before .before .before .before .due .ensures)) (c .before .before .before .if1 .left) (c .before .before .before .before .before .before .before .before .before .before .pre .1 .2) (rw (c .enum-told .given .1) at (c .before .before .equation .ensures))
 
 pub equation-field-spec : {M : Type 1} → statement M
 equation-field-spec =

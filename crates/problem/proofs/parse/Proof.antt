@@ -1,13 +1,13 @@
 -- `problem::parse` meets its contract. Assumes nothing.
 -- Read first: proofs/Parses.
-use Rattle.problem.proofs.Parses.{parse-1, parse-2, parse-3, parse-4, parse-5}
+use Rattle.problem.proofs.Parses.{parse-long, parse-symbols-refused, parse-budget-refused, parse-equations-refused, parse-fine}
 use native.Mathlib.Omega.{arith}
 use borrow.Author.Needs.{needs}
 use Rattle.problem.proofs.parse.Statement.{statement}
 use Rattle.problem.proofs.parse.Tie as tie
 
 returns : tie.Need-returns
-returns c = parse-1 _ (c .if1 .taken)
+returns c = parse-long _ (c .if1 .taken)
 
 budget-requires : tie.Need-budget-requires
 budget-requires c κs = let S = rw (c .before .e .given .1) at (c .before .before .before .symbols .ensures) in (S .within, c .before .before .before .before .if1 .left)
@@ -31,24 +31,24 @@ equations-requires c κs =
     (S .table, (B .within, c .before .before .before .before .before .before .before .before .before .if1 .left))
 
 returns-2 : tie.Need-returns-2
-returns-2 c = parse-2 _ (c .before .before .before .before .if1 .left) _ _ (rw (c .before .number .given .1) at (c .before .before .before .symbols .ensures))
+returns-2 c = parse-symbols-refused _ (c .before .before .before .before .if1 .left) _ _ (rw (c .before .number .given .1) at (c .before .before .before .symbols .ensures))
 
 returns-3 : tie.Need-returns-3
 returns-3 c =
     let S = rw (c .before .before .before .before .before .e .given .1) at (c .before .before .before .before .before .before .before .symbols .ensures) in
-    parse-3 _ (c .before .before .before .before .before .before .before .before .if1 .left) _ S _ _ (rw (c .before .number2 .given .1) at (c .before .before .before .budget .ensures))
+    parse-budget-refused _ (c .before .before .before .before .before .before .before .before .if1 .left) _ S _ _ (rw (c .before .number2 .given .1) at (c .before .before .before .budget .ensures))
 
 returns-4 : tie.Need-returns-4
 returns-4 c =
     let S = rw (c .before .before .before .before .before .before .before .before .before .before .e .given .1) at (c .before .before .before .before .before .before .before .before .before .before .before .before .symbols .ensures) in
     let B = rw (c .before .before .before .before .before .before .amount .given .1) at (c .before .before .before .before .before .before .before .before .budget .ensures) in
-    parse-4 _ (c .before .before .before .before .before .before .before .before .before .before .before .before .before .if1 .left) _ S _ B _ _ (rw (c .before .number3 .given .1) at (c .before .before .before .equations .ensures))
+    parse-equations-refused _ (c .before .before .before .before .before .before .before .before .before .before .before .before .before .if1 .left) _ S _ B _ _ (rw (c .before .number3 .given .1) at (c .before .before .before .equations .ensures))
 
 returns-5 : tie.Need-returns-5
 returns-5 c =
     let S = rw (c .before .before .before .before .before .before .before .before .before .before .e .given .1) at (c .before .before .before .before .before .before .before .before .before .before .before .before .symbols .ensures) in
     let B = rw (c .before .before .before .before .before .before .amount .given .1) at (c .before .before .before .before .before .before .before .before .budget .ensures) in
-    parse-5 _ (c .before .before .before .before .before .before .before .before .before .before .before .before .before .if1 .left) _ S _ B _ (rw (c .before .count .given .1) at (c .before .before .before .equations .ensures))
+    parse-fine _ (c .before .before .before .before .before .before .before .before .before .before .before .before .before .if1 .left) _ S _ B _ (rw (c .before .count .given .1) at (c .before .before .before .equations .ensures))
 
 pub parse-spec : {M : Type 1} → statement M
 parse-spec =

@@ -1,6 +1,6 @@
 -- `problem::side` meets its contract. Assumes nothing.
 -- Read first: proofs/Scanned.
-use Rattle.problem.proofs.Scanned.{side-1, side-2, side-3, side-low}
+use Rattle.problem.proofs.Scanned.{side-refused, side-large, side-fine, side-low}
 use mathlib.Core.Path.{_∙_, sym}
 use borrow.Author.Needs.{needs}
 use Rattle.problem.proofs.side.Statement.{statement}
@@ -10,13 +10,13 @@ sub-if1 : tie.Need-sub-if1
 sub-if1 c = side-low _ (c .before .before .before .before .before .before .pre .0) _ _ (c .before .before .before .before .before .before .pre .1 .0) _ (sym (c .before .e .given .1) ∙ c .before .before .before .checked-end .ensures)
 
 returns : tie.Need-returns
-returns c = side-2 _ (c .before .before .before .before .before .before .before .pre .0) _ _ (c .before .before .before .before .before .before .before .pre .1 .0) _ (sym (c .before .before .e .given .1) ∙ c .before .before .before .before .checked-end .ensures) (c .if1 .taken)
+returns c = side-large _ (c .before .before .before .before .before .before .before .pre .0) _ _ (c .before .before .before .before .before .before .before .pre .1 .0) _ (sym (c .before .before .e .given .1) ∙ c .before .before .before .before .checked-end .ensures) (c .if1 .taken)
 
 returns-2 : tie.Need-returns-2
-returns-2 c = side-1 _ (c .before .before .before .before .before .before .pre .0) _ _ (c .before .before .before .before .before .before .pre .1 .0) _ (sym (c .before .place .given .1) ∙ c .before .before .before .checked-end .ensures)
+returns-2 c = side-refused _ (c .before .before .before .before .before .before .pre .0) _ _ (c .before .before .before .before .before .before .pre .1 .0) _ (sym (c .before .place .given .1) ∙ c .before .before .before .checked-end .ensures)
 
 returns-3 : tie.Need-returns-3
-returns-3 c = side-3 _ (c .before .before .before .before .before .before .before .pre .0) _ _ (c .before .before .before .before .before .before .before .pre .1 .0) _ (sym (c .before .before .e .given .1) ∙ c .before .before .before .before .checked-end .ensures) (c .if1 .left)
+returns-3 c = side-fine _ (c .before .before .before .before .before .before .before .pre .0) _ _ (c .before .before .before .before .before .before .before .pre .1 .0) _ (sym (c .before .before .e .given .1) ∙ c .before .before .before .before .checked-end .ensures) (c .if1 .left)
 
 pub side-spec : {M : Type 1} → statement M
 side-spec =
