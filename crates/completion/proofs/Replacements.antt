@@ -4,31 +4,21 @@
 use mathlib.Core.Path.{_≡_, refl, sym, _∙_, ap, subst, subst₂}
 use mathlib.Core.Logic.{inl, inr, ⊎-elim, _↔_}
 use mathlib.Core.List.{List}
-use Rattle.terms.specs.Term.{Term, subst-term, subterm-at, replace-at}
+use Rattle.terms.specs.Term.{Term, subst-term}
 use Rattle.terms.proofs.Subst.{Subst}
-use Rattle.terms.proofs.Context.{Ctx, plug}
-use Rattle.terms.proofs.Places.{number}
+use Rattle.terms.proofs.Context.{plug}
 use Rattle.terms.proofs.Every.{every-in}
-use Rattle.terms.proofs.Positions.{Found, found, subterm-plug, replace-plug}
+use Rattle.terms.proofs.Positions.{Found, found}
 use Rattle.rewriting.proofs.Relations
 use Rattle.rewriting.proofs.Relations.{Of, Conv, ahead, back}
 use Rattle.rewriting.proofs.Abstract.{chain}
 use Rattle.rewriting.proofs.Order.{StepAt, step-at}
 use Rattle.problem.specs.Problem.{Symbol, Equation}
-use Rattle.completion.specs.Delivery.{Instance, AtNode, Replacement, Many, stay, go}
+use Rattle.completion.specs.Delivery.{Instance, Replacement, Many, stay, go}
 use Rattle.problem.specs.Over.{Over}
-use Rattle.completion.proofs.Words.{ItemOf, item-of, equation-pair, equation-sides, word-replacement}
+use Rattle.completion.proofs.Words.{ItemOf, item-of, equation-pair, equation-sides, plug-node, word-replacement}
 use Rattle.completion.proofs.Over.{OverEquations, over-subst, over-refill}
 use Rattle.completion.proofs.Patch.{patch, patch-over, patch-same, patch-subst, PatchedAt, kept, lost, patched-at}
-
--- one term for another in a context
-pub plug-node : (c : Ctx) (u v s t : Term) → s ≡ plug c u → t ≡ plug c v → AtNode u v s t
-plug-node c u v s t e d =
-    record {
-      position = number c;
-      there = ap (λ z. subterm-at z (number c)) e ∙ subterm-plug c u;
-      replaced = d ∙ sym (ap (λ z. replace-at z (number c) v) e ∙ replace-plug c u v);
-    }
 
 pub many-append : {R : Term → Term → Type 0} {s t u : Term} → Many R s t → Many R t u → Many R s u
 many-append stay n = n

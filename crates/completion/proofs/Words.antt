@@ -1,7 +1,7 @@
 -- The words of the delivery theorem and the relations of rewriting: a step at a node is a step, and a step from a term over the symbols is a step at
 -- a node. Assumes nothing.
 -- Read first: specs/Delivery, rewriting/proofs/Relations.
-use mathlib.Core.Path.{_≡_, refl, sym, _∙_, ap, ap₂, subst}
+use mathlib.Core.Path.{_≡_, refl, sym, _∙_, ap, subst}
 use mathlib.Core.Bool.{Bool, true, false}
 use mathlib.Core.Logic.{⊎-elim}
 use mathlib.Core.List.{List, [], _∷_, map, List·Memᴰ, List·Memᴰ·head, List·Memᴰ·tail, List·Memᴰ·not-nil, List·Memᴰ·cases-cons, List·Memᴰ·append-cases}
@@ -11,7 +11,7 @@ use Rattle.terms.specs.Term.{Term, Terms, var, node, nil, cons, variables, vari
 use Rattle.terms.proofs.Shape.{Says}
 use Rattle.terms.proofs.Subst.{Subst, In, VarsIn, subst-agree}
 use Rattle.terms.proofs.Numbers.{member-says}
-use Rattle.terms.proofs.Context.{plug}
+use Rattle.terms.proofs.Context.{Ctx, plug}
 use Rattle.terms.proofs.Places.{number}
 use Rattle.terms.proofs.Positions.{Found, found, subterm-plug, replace-plug, Inherits, plug-inherits}
 use Rattle.rewriting.specs.Overlap.{Rule, sides-of}
@@ -74,16 +74,20 @@ pub word-many : (Σ : List Symbol) (rules : List Rule) {s t : Term} → Many (St
 word-many Σ rules stay = Relations.stop
 word-many Σ rules (go w m) = Relations.move (word-step Σ rules _ _ w) (word-many Σ rules m)
 
+-- one term for another in a context
+pub plug-node : (c : Ctx) (u v s t : Term) → s ≡ plug c u → t ≡ plug c v → AtNode u v s t
+plug-node c u v s t e d =
+    record {
+      position = number c;
+      there = ap (λ z. subterm-at z (number c)) e ∙ subterm-plug c u;
+      replaced = d ∙ sym (ap (λ z. replace-at z (number c) v) e ∙ replace-plug c u v);
+    }
+
 -- The same node, the other way round.
 turned : (u v s t : Term) → AtNode u v s t → AtNode v u t s
 turned u v s t a =
     let f : Found s (a .position) u = found s (a .position) u (a .there) in
-    let is-t : t ≡ plug (f .c) v = a .replaced ∙ f .replaced v in
-    record {
-      position = a .position;
-      there = ap₂ subterm-at is-t (sym (f .counts)) ∙ subterm-plug (f .c) v;
-      replaced = f .whole ∙ sym (ap₂ (λ w p. replace-at w p u) is-t (sym (f .counts)) ∙ replace-plug (f .c) v u);
-    }
+    plug-node (f .c) v u t s (a .replaced ∙ f .replaced v) (f .whole)
 
 pub word-replacement : (Σ : List Symbol) (es : List Equation) (s t : Term) → Replacement Σ es s t → Conv (Relations.Step (Of (equation-sides es))) s t
 word-replacement Σ es s t w =
@@ -144,11 +148,7 @@ module _ (Σ : List Symbol) where
           left-is = subst-agree (p .σ) (only (p .σ) (p .l)) (p .l) (λ x i. only-is (p .σ) (p .l) x i _ (member-says x (variables (p .l)))) ∙ ap (subst-term (only (p .σ) (p .l))) (sym (a .is-left));
           right-is = subst-agree (p .σ) (only (p .σ) (p .l)) (p .r) (λ x i. only-is (p .σ) (p .l) x (vars (p .l) (p .r) (p .rule) x i) _ (member-says x (variables (p .l)))) ∙ ap (subst-term (only (p .σ) (p .l))) (sym (a .is-right));
         };
-        at-node = record {
-          position = number (p .c);
-          there = ap (λ z. subterm-at z (number (p .c))) (p .before) ∙ subterm-plug (p .c) redex;
-          replaced = p .after ∙ sym (ap (λ z. replace-at z (number (p .c)) contractum) (p .before) ∙ replace-plug (p .c) redex contractum);
-        };
+        at-node = plug-node (p .c) redex contractum s t (p .before) (p .after);
       }
 
   -- So a term over the symbols from which no step in the words leads is normal, and the other way round.
