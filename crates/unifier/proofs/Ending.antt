@@ -10,8 +10,8 @@ use lib.ListN.{length, getD, drop, set, length-set, length-drop}
 use lib.Seq.{drop-drop, getD-set-same, getD-set-other}
 use Rattle.terms.specs.Scan.{owes, skip}
 use Rattle.terms.proofs.Scans.{skip-turn}
-use Rattle.unifier.specs.Steps.{at}
-use Rattle.unifier.specs.Result.{EndAt, EndsFrom, Each}
+use Rattle.classes.specs.Steps.{at, Each}
+use Rattle.unifier.specs.Result.{EndAt, EndsFrom}
 
 skip-most : (tab l : List ℕ) (n : ℕ) → skip tab l n ≤ length l
 unfolding skip

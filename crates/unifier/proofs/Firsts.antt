@@ -10,7 +10,7 @@ use lib.ListN.{length, set, length-set, replicate}
 use lib.Seq.{getD-set-same, getD-set-other}
 use Rattle.terms.proofs.Shape.{Says, eqb-says}
 use mathlib.Core.Bool.{Bool, true, false}
-use Rattle.unifier.specs.Steps.{at}
+use Rattle.classes.specs.Steps.{at}
 use Rattle.unifier.specs.Result.{FirstClass, Firsts}
 
 -- an empty table

@@ -6,10 +6,10 @@ use mathlib.Core.List.{List, [], _++_, append-nil}
 use Prim.Native.Nat.{ℕ, _≤_, _<_}
 use native.Mathlib.Omega.{arith}
 use Rattle.terms.specs.Term.{Term, Terms, nil, cons, size, subst-term, subst-terms, variables, variables-of, term-bytes, terms-bytes}
-use Rattle.unifier.specs.Arena.{Arena, Spells, free, made, SpellsAll, none, more, same}
-use Rattle.unifier.specs.Steps.{at, arena}
+use Rattle.classes.specs.Arena.{Arena, Spells, free, made, SpellsAll, none, more, same}
+use Rattle.classes.specs.Steps.{at, arena}
 use Rattle.unifier.specs.Result.{Solved}
-use Rattle.unifier.proofs.Arena.{spells-within}
+use Rattle.classes.proofs.Arena.{spells-within}
 use Rattle.unifier.proofs.Verdict.{the-mgu, solved-image, solved-size, solved-renames}
 use Rattle.naming.specs.Names.{renamed-bytes}
 use Rattle.naming.proofs.Renaming.{Low, Lows, renamed-terms}

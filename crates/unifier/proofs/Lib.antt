@@ -1,8 +1,3 @@
-pub mod Arena
-pub mod Walks
-pub mod Joining
-pub mod Closing
-pub mod Sizing
 pub mod Ending
 pub mod Firsts
 pub mod Starting

@@ -1,17 +1,15 @@
--- How unification begins: where subterms end, first classes (a variable with its first node), no sizes; the bytes spell the terms. Assumes nothing.
--- Read first: specs/Result (Laid, EndAt, FirstClass), specs/Arena (Spells, Classes), proofs/Arena.
+-- How unification begins: where subterms end, first classes (a variable with its first node), and the two terms joined; the bytes spell the terms.
+-- Assumes nothing.
+-- Read first: specs/Result (Laid, EndAt, FirstClass), classes/specs/Arena (Spells, Classes), classes/proofs/Arena.
 use mathlib.Core.Path.{_≡_, refl, sym, ap, subst, _∙_}
-use mathlib.Core.Bool.{Bool, true, false}
 use mathlib.Core.List.{List, [], _∷_, _++_, append-assoc, append-nil}
 use Prim.Native.Nat.{ℕ, zero, suc, _+_, _-_, _≤_, _<_}
 use native.Mathlib.Omega.{arith}
 use native.Mathlib.Decide.{decLt}
-use lib.ListN.{length, drop, set, length-set}
+use lib.ListN.{length, drop, set}
 use lib.Seq.{drop-at, drop-nil}
 use native.Mathlib.Nat.{zero-add, suc-add}
-use mathlib.Core.Option.{none as none′, some}
-use lib.Dec.{ltb}
-use Rattle.terms.specs.Base.{if_then_else_}
+use mathlib.Core.Option.{some}
 use Rattle.terms.specs.Term.{Term, var, node, Terms, nil, cons, size, sizes, term-bytes, terms-bytes, subst-term, subterm-at, subterm-in}
 use Rattle.terms.specs.Scan.{skip, count}
 use Rattle.terms.specs.Flat.{Wf, Wfs}
@@ -21,34 +19,13 @@ use Rattle.terms.proofs.Bytes.{length-bytes, length-bytes-all, around-in}
 use Rattle.terms.proofs.Subst.{Subst}
 use Rattle.terms.proofs.Places.{place}
 use Rattle.terms.proofs.Positions.{subterm-is}
-use Rattle.unifier.specs.Arena.{Spells, free, made, SpellsAll, none, more, same, Whole, Joins, Classes}
-use Rattle.unifier.specs.Steps.{at, arena}
-use Rattle.unifier.specs.Result.{Laid, EndAt, FirstLike, FirstClass, Firsts, Each}
-use Rattle.unifier.proofs.Arena.{spells-within, spells-one, unfree}
-use Rattle.unifier.proofs.Sizing.{at-set, at-other}
+use Rattle.classes.specs.Arena.{Spells, free, made, SpellsAll, none, more, same, Whole, Joins, Classes}
+use Rattle.classes.specs.Steps.{at, Each, arena, Ready, joined}
+use Rattle.unifier.specs.Result.{Laid, LaidOut, EndAt, FirstLike, FirstClass, Firsts, Begun}
+use Rattle.classes.proofs.Arena.{spells-within, spells-one, unfree}
+use Rattle.classes.proofs.Filled.{Filled, filled-start, filled-more}
+use Rattle.classes.proofs.Joining.{join-ready, join-classes, join-joins}
 use Rattle.unifier.proofs.Firsts.{firsts-start, firsts-more}
-
--- a loop that fills a list
-pub record Filled (P : ℕ → ℕ → Type 0) (d₀ d : List ℕ) (n : ℕ) : Type 0 where
-  pub long : length d ≡ length d₀
-  pub each : Each P d n
-
-pub filled-start : (P : ℕ → ℕ → Type 0) (d : List ℕ) → Filled P d d 0
-filled-start P d = record { long = refl; each = λ i h. absurd (omega arith) }
-
-filled-at : (P : ℕ → ℕ → Type 0) (d : List ℕ) (n v i : ℕ) → Each P d n → P n v → n < length d → i < n + 1 → Dec (i < n) → P i (at (set d n v) i)
-filled-at P d n v i f p h q (yes l) = subst (λ x. P i x) (sym (at-other d n i v (λ e. omega arith))) (f i l)
-filled-at P d n v i f p h q (no l) = let e : n ≡ i = omega arith in subst (λ x. P x (at (set d n v) x)) e (subst (λ x. P n x) (sym (at-set d n v h)) p)
-
-pub filled-more : (P : ℕ → ℕ → Type 0) (d₀ d : List ℕ) (n v : ℕ) → Filled P d₀ d n → n < length d₀ → P n v → Filled P d₀ (set d n v) (n + 1)
-filled-more P d₀ d n v f h p =
-    record {
-      long = length-set d n v ∙ f .long;
-      each = λ i q. filled-at P d n v i (f .each) p (omega (arith, f .long)) q (decLt i n);
-    }
-
-pub filled-end : (P : ℕ → ℕ → Type 0) (d₀ d : List ℕ) (n k : ℕ) → Filled P d₀ d n → k ≤ n → (length d ≡ length d₀) × Each P d k
-filled-end P d₀ d n k f h = (f .long, λ i q. f .each i (omega arith))
 
 -- what the loop of `fill_class` keeps
 pub record Classing (l class₀ class firsts : List ℕ) (i : ℕ) : Type 0 where
@@ -202,3 +179,23 @@ module _ (l tab ends : List ℕ) (f : Each (EndAt l tab) ends (length l)) where
         let a = around-in ts i u e in
         spelt u (wf-subterm-in 128 tab ts i u (d .wf) e) i (a .after)
         (ap (drop i) (d .bytes ∙ a .holds) ∙ drop-at (a .before) (term-bytes u ++ a .after) i (a .begins))
+
+-- the two terms are joined
+module _ (l tab : List ℕ) (n₁ n₂ : ℕ) (o : LaidOut l tab) (h : n₁ < length l) (k : n₂ < length l)
+    (ends cs : List ℕ) (f : Each (EndAt l tab) ends (length l)) (g : Each (FirstClass l) cs (length l)) where
+  pub begin-requires : length l ≤ 600 → length l ≤ length cs →
+      ((n₁ < length l) × (n₂ < length l) × (length l ≤ 600) × (length l ≤ length cs)) × ((at cs n₁ < length l) × (at cs n₂ < length l))
+  begin-requires a b = ((h, k, a, b), (first-within l tab ends cs g n₁ h, first-within l tab ends cs g n₂ k))
+
+  begin-ready : length l ≤ 600 → length l ≤ length ends → length l ≤ length cs → Ready l tab ends cs
+  begin-ready a p q = record { small = a; ended = p; classed = q; whole = laid-whole l tab ends f (o .0) (o .1); within = first-within l tab ends cs g }
+
+  pub begun : length l ≤ 600 → length l ≤ length ends → length l ≤ length cs → (ds : List ℕ) → ds ≡ joined l cs n₁ n₂ → Begun l tab n₁ n₂ ends ds
+  begun a p q ds e =
+      let y = begin-ready a p q in
+      record {
+        ended = f;
+        ready = join-ready l tab ends cs y n₁ n₂ h k ds e;
+        classes = join-classes l tab ends cs y n₁ n₂ h k ds e n₁ n₂ (start-classes l tab ends cs g n₁ n₂) (λ τ j. j);
+        started = join-joins l tab ends cs y n₁ n₂ h k ds e;
+      }

@@ -1,26 +1,24 @@
 -- The answer of unification, and what it leaves: the classes give the most general unifier, the sizes those of its instances. Assumes nothing.
--- Read first: specs/Result (Solved, Decided), unify/proofs/Unique, proofs/Arena, proofs/Joining, proofs/Starting.
-use mathlib.Core.Path.{_≡_, refl, sym, ap, ap₂, subst, _∙_}
+-- Read first: specs/Result (Solved, Decided), unify/proofs/Unique, classes/proofs/Arena, proofs/Starting.
+use mathlib.Core.Path.{_≡_, refl, sym, ap, subst, _∙_}
 use mathlib.Core.Bool.{Bool, true, false}
 use mathlib.Core.Option.{Option, none, some}
-use mathlib.Core.List.{List, [], _∷_, _++_}
-use Prim.Native.Nat.{ℕ, zero, suc, _+_, _≤_, _<_}
-use native.Mathlib.Omega.{arith}
+use mathlib.Core.List.{List}
+use Prim.Native.Nat.{ℕ, _<_}
 use lib.ListN.{length}
 use Rattle.terms.specs.Base.{is-some}
-use Rattle.terms.specs.Term.{Term, Terms, size, sizes, subst-term, subst-terms, term-bytes, terms-bytes, subterm-in, Pair, renamed}
+use Rattle.terms.specs.Term.{Term, size, subst-term, Pair, renamed}
 use Rattle.terms.proofs.Subst.{Subst}
-use Rattle.terms.proofs.Rename.{rename, renames}
+use Rattle.terms.proofs.Rename.{rename}
 use Rattle.unify.specs.Unify.{Binding, mgu, under}
-use Rattle.unifier.specs.Arena.{Arena, Spells, SpellsAll, same, Whole, Joins, Classes, Closed, Never, Descends, cap}
-use Rattle.unifier.specs.Steps.{at, arena, Ready, Grown, ClosedTo, joined}
-use Rattle.unifier.specs.Sizes.{Sized, Unknown, Known}
-use Rattle.unifier.specs.Result.{LaidOut, EndAt, FirstClass, Each, Solved, Outcome, Decided}
+use Rattle.classes.specs.Arena.{Arena, Spells, same, Joins, Never, Descends}
+use Rattle.classes.specs.Steps.{at, Each, arena, ClosedTo}
+use Rattle.sizing.specs.Sizes.{Sized, Unknown, Known, SizedTo, cap}
+use Rattle.unifier.specs.Result.{EndAt, Begun, Solved, Outcome, Decided}
 use Rattle.unify.proofs.Correct.{Unifies, Mgu, unifier, mgu-right, mgu-none}
 use Rattle.unify.proofs.Unique.{most-general, mgu-unique, mgu-unique-pair}
-use Rattle.unifier.proofs.Arena.{spells-one, spells-within, spells-move, solution, solution-mgu, image, never-circle}
-use Rattle.unifier.proofs.Joining.{join-ready, join-classes, join-joins, joined-length}
-use Rattle.unifier.proofs.Starting.{first-within, start-classes, laid-at, laid-whole}
+use Rattle.classes.proofs.Arena.{spells-one, spells-within, solution, solution-mgu, image, never-circle}
+use Rattle.unifier.proofs.Starting.{laid-at}
 
 unifier-joins : (A : Arena) (τ : Subst) (n₁ n₂ : ℕ) (s t : Term) → Spells A same n₁ s → Spells A same n₂ t → Unifies τ s t → Joins A τ n₁ n₂
 unifier-joins A τ n₁ n₂ s t p q h s′ t′ p′ q′ = ap (subst-term τ) (spells-one A p′ p) ∙ h ∙ ap (subst-term τ) (spells-one A q q′)
@@ -78,31 +76,8 @@ pub solved-decided : (l tab : List ℕ) (n₁ n₂ : ℕ) (ends cs zs : List ℕ
 solved-decided l tab n₁ n₂ ends cs zs k ts d s t p q =
     some-there l tab n₁ n₂ ends cs zs k s t (laid-at l tab ends (k .ended) ts d n₁ s p) (laid-at l tab ends (k .ended) ts d n₂ t q) (mgu s t) refl
 
--- the classes when the two terms have been joined
-pub record Begun (l tab : List ℕ) (n₁ n₂ : ℕ) (ends cs : List ℕ) : Type 0 where
-  pub ended : Each (EndAt l tab) ends (length l)
-  pub ready : Ready l tab ends cs
-  pub classes : Classes (arena l tab ends) n₁ n₂ (at cs)
-  pub started : at cs n₁ ≡ at cs n₂
-
-module _ (l tab : List ℕ) (n₁ n₂ : ℕ) (o : LaidOut l tab) (h : n₁ < length l) (k : n₂ < length l)
-    (ends cs : List ℕ) (f : Each (EndAt l tab) ends (length l)) (g : Each (FirstClass l) cs (length l)) where
-  pub begin-requires : length l ≤ 600 → length l ≤ length cs →
-      ((n₁ < length l) × (n₂ < length l) × (length l ≤ 600) × (length l ≤ length cs)) × ((at cs n₁ < length l) × (at cs n₂ < length l))
-  begin-requires a b = ((h, k, a, b), (first-within l tab ends cs g n₁ h, first-within l tab ends cs g n₂ k))
-
-  begin-ready : length l ≤ 600 → length l ≤ length ends → length l ≤ length cs → Ready l tab ends cs
-  begin-ready a p q = record { small = a; ended = p; classed = q; whole = laid-whole l tab ends f (o .0) (o .1); within = first-within l tab ends cs g }
-
-  pub begun : length l ≤ 600 → length l ≤ length ends → length l ≤ length cs → (ds : List ℕ) → ds ≡ joined l cs n₁ n₂ → Begun l tab n₁ n₂ ends ds
-  begun a p q ds e =
-      let y = begin-ready a p q in
-      record {
-        ended = f;
-        ready = join-ready l tab ends cs y n₁ n₂ h k ds e;
-        classes = join-classes l tab ends cs y n₁ n₂ h k ds e n₁ n₂ (start-classes l tab ends cs g n₁ n₂) (λ τ j. j);
-        started = join-joins l tab ends cs y n₁ n₂ h k ds e;
-      }
+pub outcome-solved : (l tab : List ℕ) (n₁ n₂ : ℕ) (ends cs zs : List ℕ) (r : Bool) → Outcome l tab n₁ n₂ ends cs zs r → r ≡ true → Solved l tab n₁ n₂ ends cs zs
+outcome-solved l tab n₁ n₂ ends cs zs r o e = subst (λ k. Outcome l tab n₁ n₂ ends cs zs k) e o
 
 module _ (l tab : List ℕ) (n₁ n₂ : ℕ) (h : n₁ < length l) (h′ : n₂ < length l) (ends cs : List ℕ) (g : Begun l tab n₁ n₂ ends cs) (ds : List ℕ) where
   pub begun-never : (zs : List ℕ) (r : Bool) → ClosedTo (arena l tab ends) (at cs) (at ds) r → r ≡ false → Decided l tab n₁ n₂ false × Outcome l tab n₁ n₂ ends ds zs false
@@ -110,10 +85,6 @@ module _ (l tab : List ℕ) (n₁ n₂ : ℕ) (h : n₁ < length l) (h′ : n₂
     where
       never : ClosedTo (arena l tab ends) (at cs) (at ds) false → Decided l tab n₁ n₂ false
       never n = never-decided l tab n₁ n₂ ends (g .ended) (n n₁ n₂ (g .classes))
-
-  -- no sizes at first
-  pub begun-sized : Ready l tab ends ds → (zs : List ℕ) (n : ℕ) → length zs ≡ n → length l ≤ n → Each (λ i b. b ≡ 0) zs n → Sized l tab ends ds zs
-  begun-sized y zs n e h z = record { ready = y; long = omega arith; measured = λ i q r. absurd (r (z i (omega arith))) }
 
   module _ (u : ClosedTo (arena l tab ends) (at cs) (at ds) true) (zs : List ℕ) (y : Sized l tab ends ds zs) (q : Descends (arena l tab ends) (at ds) (Unknown (at zs))) where
     begun-solved : Known (arena l tab ends) (at zs) true → Solved l tab n₁ n₂ ends ds zs
@@ -135,6 +106,5 @@ module _ (l tab : List ℕ) (n₁ n₂ : ℕ) (h : n₁ < length l) (h′ : n₂
     begun-outcome false w = (never-decided l tab n₁ n₂ ends (g .ended) (circle w), tt)
 
   -- from what the calls answer
-  pub begun-answer : (b : Bool) → ClosedTo (arena l tab ends) (at cs) (at ds) b → b ≡ true → (zs : List ℕ) → Sized l tab ends ds zs →
-      Descends (arena l tab ends) (at ds) (Unknown (at zs)) → (r : Bool) → Known (arena l tab ends) (at zs) r → Decided l tab n₁ n₂ r × Outcome l tab n₁ n₂ ends ds zs r
-  begun-answer b u e zs y q r w = begun-outcome (subst (λ x. ClosedTo (arena l tab ends) (at cs) (at ds) x) e u) zs y q r w
+  pub begun-answer : (b : Bool) → ClosedTo (arena l tab ends) (at cs) (at ds) b → b ≡ true → (zs : List ℕ) (r : Bool) → SizedTo l tab ends ds zs r → Decided l tab n₁ n₂ r × Outcome l tab n₁ n₂ ends ds zs r
+  begun-answer b u e zs r w = begun-outcome (subst (λ x. ClosedTo (arena l tab ends) (at cs) (at ds) x) e u) zs (w .sized) (w .descends) r (w .known)

@@ -1,20 +1,20 @@
 -- The terms that nodes spell are written byte by byte: a root's byte, then its arguments, then the other terms. Assumes nothing.
 -- Read first: specs/Written (put, Room, Writes), specs/Arena (SpellsAll), proofs/Arena.
 use mathlib.Core.Path.{_≡_, refl, sym, ap, ap₂, subst, subst₂, _∙_}
-use mathlib.Core.List.{List, [], _∷_, _++_, append-assoc}
+use mathlib.Core.List.{List, [], _∷_, _++_}
 use Prim.Native.Nat.{ℕ, zero, suc, _+_, _-_, _≤_, _<_}
 use native.Mathlib.Omega.{arith}
 use native.Mathlib.Numerals.{add-one}
-use native.Mathlib.Nat.{le-of-suc-le-suc, suc-add}
-use lib.ListN.{length, take, drop, set, length-set}
-use Rattle.terms.specs.Term.{Term, var, node, Terms, nil, cons, size, sizes, term-bytes, terms-bytes, subst-term}
+use native.Mathlib.Nat.{le-of-suc-le-suc}
+use lib.ListN.{length, take, set, length-set}
+use Rattle.terms.specs.Term.{Terms, nil, sizes, terms-bytes}
 use Rattle.terms.specs.Scan.{owes}
 use Rattle.terms.proofs.Scans.{owes-other}
 use Rattle.terms.proofs.Bytes.{length-bytes-all}
-use Rattle.unifier.specs.Arena.{Arena, Spells, free, made, SpellsAll, none, more}
-use Rattle.unifier.specs.Steps.{at, arena, Ready}
+use Rattle.classes.specs.Arena.{free, made, SpellsAll, none, more}
+use Rattle.classes.specs.Steps.{at, arena, Ready}
 use Rattle.unifier.specs.Written.{put, Room, Writes}
-use Rattle.unifier.proofs.Arena.{spells-within, spells-ones}
+use Rattle.classes.proofs.Arena.{spells-ones}
 
 pub put-append : (to : ℕ) (xs ys d : List ℕ) → put to (xs ++ ys) d ≡ put (to + length xs) ys (put to xs d)
 unfolding put

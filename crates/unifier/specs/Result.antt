@@ -10,9 +10,9 @@ use Rattle.terms.specs.Term.{Term, Terms, term-bytes, terms-bytes, subterm-in}
 use Rattle.terms.specs.Scan.{skip, count}
 use Rattle.terms.specs.Flat.{Wf, Wfs}
 use Rattle.unify.specs.Unify.{mgu}
-use Rattle.unifier.specs.Arena.{Classes, Closed}
-use Rattle.unifier.specs.Steps.{at, arena}
-use Rattle.unifier.specs.Sizes.{Sized, Known}
+use Rattle.classes.specs.Arena.{Classes, Closed}
+use Rattle.classes.specs.Steps.{at, Each, arena, Ready}
+use Rattle.sizing.specs.Sizes.{Sized, Known}
 
 -- the arena holds the terms ts, one after the other
 pub record Laid (l tab : List ℕ) (ts : Terms) : Type 0 where
@@ -56,9 +56,12 @@ pub record Firsts (l firsts : List ℕ) (i : ℕ) : Type 0 where
   pub none : (b : ℕ) → 128 ≤ b → b < 256 → at firsts b ≡ 0 → (j : ℕ) → j < i → at l j ≡ b → ⊥
   pub some : (b : ℕ) → 128 ≤ b → (at firsts b ≡ 0 → ⊥) → (at firsts b ≤ i) × (at l (at firsts b - 1) ≡ b) × ((j : ℕ) → j + 1 < at firsts b → at l j ≡ b → ⊥)
 
--- every entry below n has the property
-abbrev pub Each : (ℕ → ℕ → Type 0) → List ℕ → ℕ → Type 0
-Each P d n = (i : ℕ) → i < n → P i (at d i)
+-- the classes when the terms at nodes n₁ and n₂ have been joined
+pub record Begun (l tab : List ℕ) (n₁ n₂ : ℕ) (ends cs : List ℕ) : Type 0 where
+  pub ended : Each (EndAt l tab) ends (length l)
+  pub ready : Ready l tab ends cs
+  pub classes : Classes (arena l tab ends) n₁ n₂ (at cs)
+  pub started : at cs n₁ ≡ at cs n₂
 
 -- the terms at nodes n₁ and n₂ are unified
 pub record Solved (l tab : List ℕ) (n₁ n₂ : ℕ) (ends cs zs : List ℕ) : Type 0 where

@@ -4,7 +4,7 @@ use mathlib.Core.List.{List, [], _∷_}
 use Prim.Native.Nat.{ℕ, suc, _+_, _≤_}
 use lib.ListN.{length, set}
 use Rattle.terms.specs.Term.{Terms, sizes, terms-bytes}
-use Rattle.unifier.specs.Arena.{Arena, SpellsAll}
+use Rattle.classes.specs.Arena.{Arena, SpellsAll}
 
 unfoldable pub put : ℕ → List ℕ → List ℕ → List ℕ
 put to [] d = d

@@ -1,10 +1,10 @@
-// What unification starts from: each node's end and first class, and no size.
+// What unification starts from: each node's end and first class, and the classes of the two terms joined.
 ghost use mathlib.Core.Path.{_≡_};
 ghost use Prim.Native.Nat.{_+_, _<_, _≤_};
 ghost use lib.ListN.{length, drop};
 ghost use Rattle.terms.specs.Scan.{skip};
-ghost use Rattle.unifier.specs.Result.{EndAt, EndsFrom, FirstClass, Firsts, Each};
-use crate::wide;
+ghost use Rattle.classes.specs.Steps.{Each};
+ghost use Rattle.unifier.specs.Result.{LaidOut, EndAt, EndsFrom, FirstClass, Firsts, Begun};
 
 // Where k subterms end that stand one after the other from p on, by the ends of the nodes there.
 fn hop(nodes: &[u8], table: &[u8], ends: &[u16], p: usize, k: usize) -> usize
@@ -18,14 +18,14 @@ fn hop(nodes: &[u8], table: &[u8], ends: &[u16], p: usize, k: usize) -> usize
         if q >= nodes.len() {
             return q;
         }
-        q = wide(ends[q]);
+        q = classes::wide(ends[q]);
         left -= 1;
     }
     q
 }
 
 // ends[i] is the node after the subterm of node i: from the last node to the first, since arguments come after their node.
-pub fn fill_ends(nodes: &[u8], table: &[u8], ends: &mut [u16])
+fn fill_ends(nodes: &[u8], table: &[u8], ends: &mut [u16])
     requires { ⌜ (length (now nodes) ≤ 600) × (length (now nodes) ≤ length (now ends)) ⌝ }
     ensures { λ r. ⌜ length (now (ends .exit)) ≡ length (now (ends .entry)) ⌝ }
     ensures { λ r. ⌜ Each (EndAt (now (nodes .entry)) (now (table .entry))) (now (ends .exit)) (length (now (nodes .entry))) ⌝ }
@@ -47,7 +47,7 @@ fn first_class(nodes: &[u8], firsts: &[u16], i: usize) -> usize
         return i;
     }
     let b = terms::wide(nodes[i]);
-    let f = wide(firsts[b]);
+    let f = classes::wide(firsts[b]);
     if f == 0 {
         return i;
     }
@@ -55,7 +55,7 @@ fn first_class(nodes: &[u8], firsts: &[u16], i: usize) -> usize
 }
 
 // The classes at first: a table has, for each byte, one more than the class of the last node with it.
-pub fn fill_class(nodes: &[u8], class: &mut [u16])
+fn fill_class(nodes: &[u8], class: &mut [u16])
     requires { ⌜ (length (now nodes) ≤ 600) × (length (now nodes) ≤ length (now class)) ⌝ }
     ensures { λ r. ⌜ length (now (class .exit)) ≡ length (now (class .entry)) ⌝ }
     ensures { λ r. ⌜ Each (FirstClass (now (nodes .entry))) (now (class .exit)) (length (now (nodes .entry))) ⌝ }
@@ -70,12 +70,13 @@ pub fn fill_class(nodes: &[u8], class: &mut [u16])
     }
 }
 
-pub fn clear(sizes: &mut [u8])
-    ensures { λ r. ⌜ length (now (sizes .exit)) ≡ length (now (sizes .entry)) ⌝ }
-    ensures { λ r. ⌜ Each (λ i b. b ≡ 0) (now (sizes .exit)) (length (now (sizes .entry))) ⌝ }
+// The ends and the first classes, with the classes of nodes a and b as one.
+pub fn begin(nodes: &[u8], table: &[u8], a: usize, b: usize, ends: &mut [u16], class: &mut [u16])
+    requires { ⌜ (length (now nodes) ≤ 600) × (length (now nodes) ≤ length (now ends)) × (length (now nodes) ≤ length (now class)) ⌝ }
+    requires { ⌜ LaidOut (now nodes) (now table) × (a < length (now nodes)) × (b < length (now nodes)) ⌝ }
+    ensures { λ r. ⌜ Begun (now (nodes .entry)) (now (table .entry)) a b (now (ends .exit)) (now (class .exit)) ⌝ }
 {
-    let n = sizes.len();
-    for i in 0..n {
-        sizes[i] = 0;
-    }
+    fill_ends(nodes, table, ends);
+    fill_class(nodes, class);
+    classes::join(nodes, class, a, b);
 }

@@ -12,7 +12,7 @@ use Rattle.unifier.proofs.write.Reads as write
 use Rattle.unifier.proofs.write.Kinds as write-kinds
 use Rattle.unifier.proofs.+write.Lts-write as write-lts
 use Rattle.terms.proofs.owed_by.Reads as owed-by-reads
-use Rattle.unifier.proofs.wide.Reads as wide-reads
+use Rattle.classes.proofs.wide.Reads as wide-reads
 use Rattle.unifier.proofs.+write.{statement}
 use Rattle.unifier.proofs.+write.Tie.{close}
 

@@ -1,8 +1,9 @@
 -- `fill_class`: the first i nodes have their first classes, and the table has the first node of each variable met; n - i falls. Assumes nothing.
--- Read first: specs/Result (FirstClass, Firsts, Each), proofs/Starting (Filled), proofs/Firsts.
+-- Read first: specs/Result (FirstClass, Firsts), classes/proofs/Filled, proofs/Firsts.
 use lib.ListN.{length-replicate}
 use Rattle.unifier.proofs.Firsts.{zeros-at}
-use Rattle.unifier.proofs.Starting.{Classing, classing-start, classing-more, filled-end}
+use Rattle.unifier.proofs.Starting.{Classing, classing-start, classing-more}
+use Rattle.classes.proofs.Filled.{filled-end}
 use Prim.Native.Nat.{ℕ, _-_}
 use native.Mathlib.Omega.{arith}
 use borrow.Author.Needs.{needs}

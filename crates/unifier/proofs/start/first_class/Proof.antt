@@ -7,7 +7,7 @@ use Rattle.unifier.proofs.start.first_class.Tie as tie
 use Rattle.unifier.proofs.start.first_class.Reads as reads
 use Rattle.unifier.proofs.start.first_class.Lts as lts
 use Rattle.terms.proofs.wide.Reads as wide-reads
-use Rattle.unifier.proofs.wide.Reads as wide-reads′
+use Rattle.classes.proofs.wide.Reads as wide-reads′
 
 returns : tie.Need-returns
 returns c = first-symbol _ _ (c .if1 .taken)

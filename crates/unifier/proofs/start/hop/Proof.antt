@@ -12,7 +12,7 @@ use Rattle.unifier.proofs.start.hop.Statement.{statement}
 use Rattle.unifier.proofs.start.hop.Tie as tie
 use Rattle.unifier.proofs.start.hop.Reads as reads
 use Rattle.unifier.proofs.start.hop.Lts as lts
-use Rattle.unifier.proofs.wide.Reads as wide-reads
+use Rattle.classes.proofs.wide.Reads as wide-reads
 
 abbrev Inv-loop : tie.InvT-loop
 Inv-loop nodes table ends p k q₀ left₀ q left = (p ≤ q) × (q ≤ length nodes) × (q + skip table (drop q nodes) left ≡ p + skip table (drop p nodes) k)

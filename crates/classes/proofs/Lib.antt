@@ -1,0 +1,5 @@
+pub mod Arena
+pub mod Walks
+pub mod Joining
+pub mod Closing
+pub mod Filled

@@ -1,0 +1,49 @@
+-- `step_at`: its own root (`root-closed`) and a variable are closed, another symbol at the root is a clash (`ready-clash`), else the arguments decide
+-- (`ready-step`). Assumes nothing.
+-- Read first: specs/Steps (StepAt), proofs/Walks.
+use Rattle.classes.proofs.Walks.{root-closed, ready-within, ready-clash, ready-arguments, ready-step}
+use native.Mathlib.Omega.{arith}
+use borrow.Author.Needs.{needs}
+use Rattle.classes.proofs.step_at.Statement.{statement}
+use Rattle.classes.proofs.step_at.Tie as tie
+use Rattle.classes.proofs.step_at.Reads as reads
+use Rattle.classes.proofs.step_at.Lts as lts
+use Rattle.classes.proofs.apart.Reads as apart-reads
+use Rattle.classes.proofs.wide.Reads as wide-reads
+use Rattle.terms.proofs.owed_by.Reads as owed-by-reads
+
+returns : tie.Need-returns
+returns c = root-closed _ _ _ _ (c .before .wide .ensures .0) (c .if1 .taken)
+
+returns-2 : tie.Need-returns-2
+returns-2 c = λ l. absurd (omega arith)
+
+shared-slice-read-if3 : tie.Need-shared-slice-read-if3
+shared-slice-read-if3 c = ready-within _ _ _ _ (c .before .before .before .before .before .before .before .before .before .before .pre .0) _ _ (c .before .before .before .before .before .before .before .before .before .before .pre .1) (c .before .before .before .before .wide .ensures .0)
+
+returns-3 : tie.Need-returns-3
+returns-3 c = ready-clash _ _ _ _ (c .before .before .before .before .before .before .before .before .before .before .before .pre .0) _ _ (c .before .before .before .before .before .before .before .before .before .before .before .pre .1) (c .before .before .before .before .before .wide .ensures .0) (c .before .before .if2 .left) (c .if3 .taken)
+
+apart-requires : tie.Need-apart-requires
+apart-requires c κs = ready-arguments _ _ _ _ (c .before .before .before .before .before .before .before .before .before .before .before .before .pre .0) _ _ _ (c .before .before .before .before .before .before .before .before .before .before .before .before .pre .1) (c .before .before .before .before .before .before .wide .ensures .0) (c .before .before .before .if2 .left) (c .before .if3 .left) (c .owed-by .ensures .0)
+
+returns-4 : tie.Need-returns-4
+returns-4 c = ready-step _ _ _ _ (c .before .before .before .before .before .before .before .before .before .before .before .before .before .pre .0) _ _ _ (c .before .before .before .before .before .before .before .before .before .before .before .before .before .pre .1) (c .before .before .before .before .before .before .before .wide .ensures .0) (c .before .before .before .before .if2 .left) (c .before .before .if3 .left) (c .before .owed-by .ensures .0) (c .apart .result) (c .apart .ensures)
+
+pub step-at-spec : {M : Type 1} → statement M
+step-at-spec =
+    tie.close
+    (tie.spec
+    (λ c. search needs)
+    (λ c. search needs)
+    (λ c κs. search needs)
+    returns
+    (λ c. search needs)
+    returns-2
+    shared-slice-read-if3
+    returns-3
+    (λ c κs. search needs)
+    (λ c. search needs)
+    (λ c. search needs)
+    apart-requires
+    returns-4)

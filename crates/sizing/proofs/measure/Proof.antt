@@ -1,0 +1,16 @@
+-- `measure`: cleared sizes are right (`clear-sized`), and `fill_sizes` finds the others. Assumes nothing.
+-- Read first: specs/Sizes (SizedTo), proofs/Sizing.
+use Rattle.sizing.proofs.Sizing.{clear-sized}
+use borrow.Author.Needs.{needs}
+use Rattle.sizing.proofs.measure.Statement.{statement}
+use Rattle.sizing.proofs.measure.Tie as tie
+use Rattle.sizing.proofs.measure.Reads as reads
+use Rattle.sizing.proofs.measure.Lts as lts
+use Rattle.sizing.proofs.clear.Reads as clear-reads
+use Rattle.sizing.proofs.fill_sizes.Reads as fill-sizes-reads
+
+fill-sizes-requires : tie.Need-fill-sizes-requires
+fill-sizes-requires c κs = clear-sized _ _ _ _ _ _ (c .before .before .before .before .before .before .before .before .before .before .pre .0) (c .before .before .before .before .before .before .before .before .before .before .pre .1) (c .before .before .before .clear .ensures .0) (c .before .before .before .clear .ensures .1)
+
+pub measure-spec : {M : Type 1} → statement M
+measure-spec = tie.close (tie.spec (λ c κs. search needs) fill-sizes-requires (λ c. search needs) (λ c. search needs))

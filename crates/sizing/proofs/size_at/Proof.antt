@@ -1,0 +1,37 @@
+-- `size_at`: a root that is a variable has size 1 (`size-free`), of a symbol the arguments decide (`size-made`). Assumes nothing.
+-- Read first: specs/Sizes (SizeAt), proofs/Sizing.
+use borrow.Author.Needs.{needs}
+use Rattle.sizing.proofs.Sizing.{sized-root, size-free, sized-arguments, size-made}
+use Rattle.sizing.proofs.size_at.Statement.{statement}
+use Rattle.sizing.proofs.size_at.Tie as tie
+use Rattle.sizing.proofs.size_at.Reads as reads
+use Rattle.sizing.proofs.size_at.Lts as lts
+use Rattle.terms.proofs.owed_by.Reads as owed-by-reads
+use Rattle.classes.proofs.wide.Reads as wide-reads
+use Rattle.sizing.proofs.total.Reads as total-reads
+
+shared-slice-read-f : tie.Need-shared-slice-read-f
+shared-slice-read-f c = sized-root _ _ _ _ _ (c .before .before .before .before .before .before .before .before .pre .0) _ _ (c .before .before .before .before .before .before .before .before .pre .1) (c .before .wide .ensures .0)
+
+returns : tie.Need-returns
+returns c = size-free _ _ _ _ _ (c .before .before .before .before .before .before .before .before .before .pre .1) (c .before .before .wide .ensures .0) (c .if1 .taken)
+
+total-requires : tie.Need-total-requires
+total-requires c κs = sized-arguments _ _ _ _ _ (c .before .before .before .before .before .before .before .before .before .before .pre .0) _ _ _ (c .before .before .before .before .before .before .before .before .before .before .pre .1) (c .before .before .before .wide .ensures .0) (c .before .if1 .left) (c .owed-by .ensures .0)
+
+returns-2 : tie.Need-returns-2
+returns-2 c = size-made _ _ _ _ _ _ _ (c .before .before .before .before .before .before .before .before .before .before .before .pre .1) (c .before .before .before .before .wide .ensures .0) (c .before .before .if1 .left) (c .before .owed-by .ensures .0) (c .total .ensures)
+
+pub size-at-spec : {M : Type 1} → statement M
+size-at-spec =
+    tie.close
+    (tie.spec
+    (λ c. search needs)
+    (λ c. search needs)
+    (λ c κs. search needs)
+    shared-slice-read-f
+    returns
+    (λ c κs. search needs)
+    (λ c. search needs)
+    total-requires
+    returns-2)
