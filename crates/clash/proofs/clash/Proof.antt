@@ -1,0 +1,55 @@
+-- `clash`: two terms in step; the invariant is that substitutions that make the terms equal make those still to do equal. Assumes nothing.
+-- Read first: specs/Answer (Clashing), proofs/Facing.
+use Rattle.clash.proofs.Facing.{Going, going-start, going-next, going-clash, no-clash}
+use native.Mathlib.Omega.{arith}
+use Prim.Native.Nat.{_-_}
+use lib.ListN.{length}
+use borrow.Author.Needs.{needs}
+use Rattle.clash.proofs.clash.Statement.{statement}
+use Rattle.clash.proofs.clash.Tie as tie
+use Rattle.clash.proofs.clash.Reads as reads
+use Rattle.clash.proofs.clash.Lts as lts
+use Rattle.clash.proofs.differ.Reads as differ-reads
+use Rattle.clash.proofs.past.Reads as past-reads
+
+abbrev Inv-loop : tie.InvT-loop
+Inv-loop s t table position i₀ j₀ i j = Going table s t position i j
+
+abbrev μ-loop : tie.MeasureT-loop
+μ-loop s t table position i₀ j₀ i j = length s - i
+
+loop-holds : tie.Need-loop-holds Inv-loop μ-loop
+loop-holds c = going-start _ _ _ _
+
+returns : tie.Need-returns Inv-loop μ-loop
+returns c = no-clash _ _ _ _
+
+returns-2 : tie.Need-returns-2 Inv-loop μ-loop
+returns-2 c = going-clash _ _ _ _ _ _ (c .before .differ .result) (c .before .before .before .before .before .before .loop .inv) (c .before .before .before .before .before .loop-test .taken) (omega (arith, c .before .before .before .before .if1 .left)) (c .before .differ .ensures) (c .if2 .taken)
+
+loop-less : tie.Need-loop-less Inv-loop μ-loop
+loop-less c = omega (arith, c .before .past .ensures .on, c .before .before .before .before .before .before .before .loop-test .taken)
+
+loop-again : tie.Need-loop-again Inv-loop μ-loop
+loop-again c = going-next _ _ _ _ _ _ _ _ (c .before .before .before .before .before .before .before .before .loop .inv) (c .before .before .before .before .before .before .before .loop-test .taken) (omega (arith, c .before .before .before .before .before .before .if1 .left)) (c .before .past .ensures) (c .past2 .ensures)
+
+returns-3 : tie.Need-returns-3 Inv-loop μ-loop
+returns-3 c = no-clash _ _ _ _
+
+pub clash-spec : {M : Type 1} → statement M
+clash-spec =
+    tie.close
+    (tie.spec
+    Inv-loop
+    μ-loop
+    loop-holds
+    returns
+    (λ c. search needs)
+    (λ c. search needs)
+    (λ c κs. search needs)
+    returns-2
+    (λ c κs. search needs)
+    (λ c κs. search needs)
+    loop-less
+    loop-again
+    returns-3)

@@ -1,0 +1,190 @@
+-- The instances of two nodes, written one after the other and renamed, are the renamed pair; their names are few. Assumes nothing.
+-- Read first: specs/Written (PutPair, Small), unifier/specs/Written (Writes), naming/proofs/Few.
+use mathlib.Core.Path.{_≡_, refl, sym, ap, ap₂, subst, subst₂, _∙_}
+use mathlib.Core.Logic.{⊎-elim}
+use mathlib.Core.List.{List, [], _∷_, _++_, append-assoc, append-nil, List·Memᴰ·not-nil, List·Memᴰ·cases-cons, List·Memᴰ·append-cases}
+use Prim.Native.Nat.{ℕ, zero, suc, _+_, _-_, _≤_, _<_}
+use native.Mathlib.Omega.{arith}
+use lib.ListN.{length, take, drop, length-append, length-drop}
+use lib.Seq.{take-at, drop-at, take-all, take-length}
+use Rattle.terms.specs.Term.{Term, var, node, Terms, nil, cons, Pair, size, sizes, variables, variables-of, term-bytes, terms-bytes, renamed}
+use Rattle.terms.proofs.Bytes.{length-bytes}
+use Rattle.terms.proofs.Subst.{In}
+use Rattle.terms.proofs.Limits.{renamed-left-size, renamed-right-size}
+use Rattle.terms.proofs.Rename.{renames, renamed-sides}
+use Rattle.classes.specs.Arena.{Arena, Spells, free, made, SpellsAll, none, more}
+use Rattle.classes.specs.Steps.{at, arena, Ready}
+use Rattle.naming.specs.Names.{collect, renamed-bytes}
+use Rattle.naming.proofs.Renaming.{Lows, renamed-terms}
+use Rattle.naming.proofs.Few.{terms-few}
+use Rattle.unifier.specs.Written.{put, Room, Writes}
+use Rattle.classes.proofs.Arena.{spells-one, spells-within}
+use Rattle.unifier.proofs.Instance.{spells-lows}
+use Rattle.unifier.proofs.Writing.{put-append, put-reads}
+use Rattle.pairs.specs.Written.{Kept, Low, Small, PutPair}
+
+-- the variables of what is spelt are those of the arena
+module _ (l tab ends cs : List ℕ) (rd : Ready l tab ends cs) (low : Low l) where
+  mutual
+    unfolding variables variables-of
+
+    low-variables : {i : ℕ} {t : Term} → Spells (arena l tab ends) (at cs) i t → (x : ℕ) → In x (variables t) → x < 32
+    low-variables {i} (free {x = y} h e) x j =
+        ⊎-elim (λ q. omega (arith, q, low (at cs i) (rd .within i h))) (λ k. absurd (List·Memᴰ·not-nil k)) (List·Memᴰ·cases-cons j)
+    low-variables (made h e k r) x j = lows-variables r x j
+
+    lows-variables : {p k : ℕ} {ts : Terms} → SpellsAll (arena l tab ends) (at cs) p k ts → (x : ℕ) → In x (variables-of ts) → x < 32
+    lows-variables none x j = absurd (List·Memᴰ·not-nil j)
+    lows-variables (more {t = t} r s) x j = ⊎-elim (λ k. low-variables r x k) (λ k. lows-variables s x k) (List·Memᴰ·append-cases (variables t) j)
+
+-- the two parts of what was renamed
+first-part : (q rest X Y : List ℕ) (e : ℕ) → q ≡ X ++ Y → length X ≡ e → take (e - 0) (drop 0 (q ++ rest)) ≡ X
+first-part q rest X Y e h n =
+    let z : e - 0 ≡ e = omega arith in
+    ap₂ (λ k m. take k (m ++ rest)) z h ∙ ap (take e) (append-assoc X Y rest) ∙ take-at X (Y ++ rest) e n
+
+second-part : (q rest X Y : List ℕ) (e f : ℕ) → q ≡ X ++ Y → length X ≡ e → length Y ≡ f - e → take (f - e) (drop e (q ++ rest)) ≡ Y
+second-part q rest X Y e f h n m =
+    ap (λ z. take (f - e) (drop e (z ++ rest))) h ∙ ap (λ z. take (f - e) (drop e z)) (append-assoc X Y rest)
+    ∙ ap (take (f - e)) (drop-at X (Y ++ rest) e n) ∙ take-at Y rest (f - e) m
+
+-- L begins with S now
+abbrev Copied : List ℕ → List ℕ → List ℕ → Type 0
+Copied S L L′ = L′ ≡ take (length S) S ++ drop (length S) L
+
+copied : (S X L L′ : List ℕ) (n : ℕ) → S ≡ X → L′ ≡ take (length S) S ++ drop (length S) L → length X ≡ n → take n L′ ≡ X
+copied S X L L′ n e h k =
+    ap (take n) (h ∙ ap (λ z. z ++ drop (length S) L) (take-length S ∙ e)) ∙ take-at X (drop (length S) L) n k
+
+copied-length : (S L L′ : List ℕ) → L′ ≡ take (length S) S ++ drop (length S) L → length S ≤ length L → length L′ ≡ length L
+copied-length S L L′ h k =
+    ap length h ∙ length-append (take (length S) S) (drop (length S) L) ∙ omega (arith, ap length (take-length S), length-drop (length S) L)
+
+module _ (l tab ends cs : List ℕ) (rd : Ready l tab ends cs) (low : Low l) (a b : ℕ) (s : Small (arena l tab ends) (at cs) a b) where
+  abbrev y : Term
+  y = s .0
+
+  abbrev z : Term
+  z = s .1
+
+  abbrev pair : Pair
+  pair = record { left = y; right = z }
+
+  one : SpellsAll (arena l tab ends) (at cs) a 1 (cons y nil)
+  one = more (s .2) none
+
+  two : SpellsAll (arena l tab ends) (at cs) b 1 (cons z nil)
+  two = more (s .3) none
+
+  pub pair-room : (m : ℕ) → 240 ≤ m → (us : Terms) × SpellsAll (arena l tab ends) (at cs) a 1 us × (0 + sizes us ≤ m)
+  unfolding sizes
+  pair-room m n = (cons y nil, one, omega (arith, s .4))
+
+  module _ (d : List ℕ) (n : 240 ≤ length d) (e : ℕ) (d₁ : List ℕ) (w₁ : Writes (arena l tab ends) (at cs) a 1 0 d e d₁) where
+    first-end : e ≡ size y
+    unfolding sizes
+    first-end = omega (arith, w₁ .ends (cons y nil) one)
+
+    pub pair-room-2 : Room (arena l tab ends) (at cs) b 1 e d₁
+    unfolding sizes
+    pair-room-2 = (cons z nil, two, omega (arith, first-end, w₁ .long, s .4, s .5))
+
+    module _ (f : ℕ) (d₂ : List ℕ) (w₂ : Writes (arena l tab ends) (at cs) b 1 e d₁ f d₂) where
+      second-end : f ≡ size y + size z
+      unfolding sizes
+      second-end = omega (arith, w₂ .ends (cons z nil) two, first-end)
+
+      pub pair-within : (e ≤ f) × (f ≤ length d₂) × (f ≤ 240) × (e ≤ 120) × (f - e ≤ 120)
+      pair-within =
+          let k = w₁ .long in
+          let m = w₂ .long in
+          let u = s .4 in
+          let v = s .5 in
+          (omega (arith, first-end, second-end), omega (arith, second-end), omega (arith, second-end), omega (arith, first-end), omega (arith, first-end, second-end))
+
+      whole : d₂ ≡ put 0 (terms-bytes (cons y (cons z nil))) d
+      unfolding terms-bytes
+      whole =
+          let k : e ≡ 0 + length (term-bytes y) = omega (arith, first-end, length-bytes y) in
+          w₂ .bytes (cons z nil) two
+          ∙ ap₂ (λ k m. put k (term-bytes z ++ []) m) k (w₁ .bytes (cons y nil) one ∙ ap (λ k. put 0 k d) (append-nil (term-bytes y)))
+          ∙ sym (put-append 0 (term-bytes y) (term-bytes z ++ []) d)
+
+      written : take (f - 0) (drop 0 d₂) ≡ terms-bytes (cons y (cons z nil))
+      unfolding terms-bytes
+      written =
+          let k : length (term-bytes y ++ (term-bytes z ++ [])) ≡ f =
+          length-append (term-bytes y) (term-bytes z ++ []) ∙ omega (arith, length-append (term-bytes z) [], length-bytes y, length-bytes z, second-end) in
+          let m : f - 0 ≡ length (terms-bytes (cons y (cons z nil))) = omega (arith, k) in
+          ap₂ (λ j h. take j h) m whole ∙ put-reads (terms-bytes (cons y (cons z nil))) d (omega (arith, k, second-end, s .4, s .5))
+
+      lows-both : Lows (cons y (cons z nil))
+      unfolding Lows
+      lows-both = (spells-lows one .0, spells-lows two)
+
+      pub pair-names : (m : ℕ) → 240 ≤ m → (length (take (f - 0) (drop 0 d₂)) ≤ m) × (length (collect [] (take (f - 0) (drop 0 d₂))) ≤ 127)
+      unfolding variables-of terms-bytes
+      pair-names m g = (
+        omega (arith, ap length written, length-append (term-bytes y) (term-bytes z ++ []), length-append (term-bytes z) [], length-bytes y, length-bytes z, s .4, s .5),
+        omega (
+          arith,
+          ap (λ k. length (collect [] k)) written,
+          terms-few 32 (cons y (cons z nil)) lows-both
+              (λ x i. ⊎-elim (λ j. low-variables l tab ends cs rd low (s .2) x j) (λ j. lows-variables l tab ends cs rd low two x j) (List·Memᴰ·append-cases (variables y) i)),
+        ),
+      )
+
+      module _ (q : List ℕ) (h : q ≡ renamed-bytes (take (f - 0) (drop 0 d₂))) where
+        halves : q ≡ term-bytes (renamed pair .left) ++ term-bytes (renamed pair .right)
+        unfolding terms-bytes
+        halves =
+            h ∙ ap renamed-bytes written ∙ renamed-terms (cons y (cons z nil)) lows-both ∙ ap terms-bytes (sym (renamed-sides pair))
+            ∙ ap (λ k. term-bytes (renamed pair .left) ++ k) (append-nil (term-bytes (renamed pair .right)))
+
+        left-length : length (term-bytes (renamed pair .left)) ≡ e
+        left-length = length-bytes (renamed pair .left) ∙ renamed-left-size pair ∙ sym first-end
+
+        right-length : length (term-bytes (renamed pair .right)) ≡ f - e
+        right-length = length-bytes (renamed pair .right) ∙ renamed-right-size pair ∙ omega (arith, first-end, second-end)
+
+        abbrev rest : List ℕ
+        rest = drop (f - 0) (drop 0 d₂)
+
+        pub pair-out : (e ≤ length (q ++ rest)) × (f ≤ length (q ++ rest))
+        pair-out =
+            let k = length-append q rest in
+            let m : length q ≡ f = ap length halves ∙ length-append (term-bytes (renamed pair .left)) (term-bytes (renamed pair .right)) ∙ omega (arith, left-length, right-length, pair-within .0) in
+            (omega (arith, pair-within .0), omega arith)
+
+        is-left : take (e - 0) (drop 0 (q ++ rest)) ≡ term-bytes (renamed pair .left)
+        is-left = first-part q rest (term-bytes (renamed pair .left)) (term-bytes (renamed pair .right)) e halves left-length
+
+        is-right : take (f - e) (drop e (q ++ rest)) ≡ term-bytes (renamed pair .right)
+        is-right = second-part q rest (term-bytes (renamed pair .left)) (term-bytes (renamed pair .right)) e f halves left-length right-length
+
+        pub left-fits : (m : ℕ) → 120 ≤ m → length (take (e - 0) (drop 0 (q ++ rest))) ≤ m
+        left-fits m h = omega (arith, ap length is-left, left-length, pair-within .3)
+
+        pub right-fits : (m : ℕ) → 120 ≤ m → length (take (f - e) (drop e (q ++ rest))) ≤ m
+        right-fits m h = omega (arith, ap length is-right, right-length, pair-within .4)
+
+        module _ (L R L′ R′ : List ℕ) (c₁ : Copied (take (e - 0) (drop 0 (q ++ rest))) L L′) (c₂ : Copied (take (f - e) (drop e (q ++ rest))) R R′) (m₁ : 120 ≤ length L) (m₂ : 120 ≤ length R) where
+          pair-bytes : (y′ z′ : Term) → y ≡ y′ → z ≡ z′ →
+              (take (size y′) L′ ≡ term-bytes (renamed (record { left = y′; right = z′ }) .left)) × (take (size z′) R′ ≡ term-bytes (renamed (record { left = y′; right = z′ }) .right))
+          pair-bytes y′ z′ p r =
+              subst₂
+              (λ u v. (take (size u) L′ ≡ term-bytes (renamed (record { left = u; right = v }) .left)) × (take (size v) R′ ≡ term-bytes (renamed (record { left = u; right = v }) .right)))
+              p r (
+                copied (take (e - 0) (drop 0 (q ++ rest))) (term-bytes (renamed pair .left)) L L′ (size y) is-left c₁ (left-length ∙ first-end),
+                copied (take (f - e) (drop e (q ++ rest))) (term-bytes (renamed pair .right)) R R′ (size z) is-right c₂ (right-length ∙ omega (arith, first-end, second-end)),
+              )
+
+          pub pair-put : PutPair (arena l tab ends) (at cs) a b L R L′ R′
+          pair-put =
+              record {
+                kept = record {
+                  left = copied-length (take (e - 0) (drop 0 (q ++ rest))) L L′ c₁ (left-fits (length L) m₁);
+                  right = copied-length (take (f - e) (drop e (q ++ rest))) R R′ c₂ (right-fits (length R) m₂);
+                };
+                bytes = λ y′ z′ p r. pair-bytes y′ z′ (spells-one (arena l tab ends) (s .2) p) (spells-one (arena l tab ends) (s .3) r);
+              }

@@ -1,0 +1,67 @@
+-- The tests of sizes in `place`, a lemma for each return: the peak, the left side or the right side too large, or the pair. Assumes nothing.
+-- Read first: specs/Written (Placed, Fits), sizing/specs/Sizes (Sized, Known).
+use mathlib.Core.Path.{_≡_, refl, sym, ap, ap₂, subst, _∙_}
+use mathlib.Core.Bool.{Bool, true, false}
+use mathlib.Core.List.{List}
+use mathlib.Core.Option.{Option, some}
+use Prim.Native.Nat.{ℕ, zero, suc, _+_, _-_, _≤_, _<_}
+use native.Mathlib.Omega.{arith}
+use lib.ListN.{length}
+use borrow.Author.Tests.{lt-ltb, le-ltb}
+use Rattle.terms.specs.Term.{Term, size}
+use lib.Dec.{ltb}
+use Rattle.classes.specs.Arena.{Arena, Spells}
+use Rattle.classes.specs.Steps.{at, arena, Ready}
+use Rattle.sizing.specs.Sizes.{Sized, Known, cap}
+use Rattle.classes.proofs.Arena.{spells-one, spells-within}
+use Rattle.pairs.specs.declared.Lengths.{Lengths}
+use Rattle.pairs.specs.Written.{Kept, Small, PutPair, Fits, Placed}
+
+module _ (l tab ends cs zs : List ℕ) (k : Sized l tab ends cs zs) (w : Known (arena l tab ends) (at zs) true) where
+  -- a size that is known is the size, up to 120
+  known-size : (i : ℕ) (u : Term) → Spells (arena l tab ends) (at cs) i u → at zs i ≡ cap (size u)
+  known-size i u p =
+      let h = spells-within (arena l tab ends) p in
+      let m = k .measured i h (w i h) in
+      m .2 ∙ ap (λ v. cap (size v)) (spells-one (arena l tab ends) (m .1) p)
+
+  pub pair-small : (a b m n : ℕ) → a < length l → b < length l → m ≡ at zs a → n ≡ at zs b → m ≤ 120 → n ≤ 120 → Small (arena l tab ends) (at cs) a b
+  pair-small a b m n ha hb em en sm sn =
+      let u = k .measured a ha (w a ha) in
+      let v = k .measured b hb (w b hb) in
+      (u .0, v .0, u .1, v .1, omega (arith, u .2), omega (arith, v .2))
+
+  module _ (a b : ℕ) (L R : List ℕ) where
+    -- what is too large is not written
+    not-placed : (r : Lengths) → (r .left ≡ 0) × (r .right ≡ 0) →
+        ((x y z : Term) → Spells (arena l tab ends) (at cs) 0 x → Spells (arena l tab ends) (at cs) a y → Spells (arena l tab ends) (at cs) b z →
+        Fits L R r y z (ltb 120 (size x)) (ltb 120 (size y)) (ltb 120 (size z))) →
+        Placed (arena l tab ends) (at cs) a b L R L R r
+    not-placed r e f = record { kept = record { left = refl; right = refl }; short = (omega (arith, e .0), omega (arith, e .1)); answer = f }
+
+    module _ (r : Lengths) (o : (r .fits ≡ false) × (r .left ≡ 0) × (r .right ≡ 0)) where
+      pub place-peak : 120 < at zs 0 → Placed (arena l tab ends) (at cs) a b L R L R r
+      place-peak h = not-placed r (o .1, o .2) (λ x y z p q v. rw (lt-ltb 120 (size x) (omega (arith, known-size 0 x p))) (o .0))
+
+      pub place-left : (m : ℕ) → at zs 0 ≤ 120 → m ≡ at zs a → 120 < m → Placed (arena l tab ends) (at cs) a b L R L R r
+      place-left m h e g =
+          not-placed r (o .1, o .2)
+          (λ x y z p q v. rw (le-ltb 120 (size x) (omega (arith, known-size 0 x p)), lt-ltb 120 (size y) (omega (arith, known-size a y q))) (o .0))
+
+      pub place-right : (m n : ℕ) → at zs 0 ≤ 120 → m ≡ at zs a → m ≤ 120 → n ≡ at zs b → 120 < n → Placed (arena l tab ends) (at cs) a b L R L R r
+      place-right m n h e g e′ g′ =
+          not-placed r (o .1, o .2)
+          (λ x y z p q v.
+              rw (le-ltb 120 (size x) (omega (arith, known-size 0 x p)), le-ltb 120 (size y) (omega (arith, known-size a y q)), lt-ltb 120 (size z) (omega (arith, known-size b z v))) (o .0))
+
+    pub place-found : (m n : ℕ) → at zs 0 ≤ 120 → m ≡ at zs a → m ≤ 120 → n ≡ at zs b → n ≤ 120 → (L′ R′ : List ℕ) → PutPair (arena l tab ends) (at cs) a b L R L′ R′ →
+        Placed (arena l tab ends) (at cs) a b L R L′ R′ (record { fits = true; left = m; right = n })
+    place-found m n h e g e′ g′ L′ R′ t = record {
+      kept = t .kept;
+      short = (g, g′);
+      answer = λ x y z p q r.
+          let i : m ≡ size y = omega (arith, known-size a y q) in
+          let j : n ≡ size z = omega (arith, known-size b z r) in
+          rw (le-ltb 120 (size x) (omega (arith, known-size 0 x p)), le-ltb 120 (size y) (omega arith), le-ltb 120 (size z) (omega arith))
+          (refl, i, j, t .bytes y z q r .0, t .bytes y z q r .1);
+    }
