@@ -1,8 +1,8 @@
 -- The six runs that make up the four terms of an overlap stand one behind the other, in at most 600 bytes. Assumes nothing.
 -- Read first: specs/Layout (four-bytes, LaysFour), proofs/Moving.
-use mathlib.Core.Path.{_≡_, refl, sym, ap, ap₂, _∙_}
-use mathlib.Core.List.{List, [], _∷_, _++_, map, append-assoc, append-nil}
-use Prim.Native.Nat.{ℕ, zero, suc, _+_, _-_, _≤_, _<_}
+use mathlib.Core.Path.{_≡_, refl, sym, ap, _∙_}
+use mathlib.Core.List.{List, [], _++_, map, append-assoc}
+use Prim.Native.Nat.{ℕ, _+_, _-_, _≤_, _<_}
 use native.Mathlib.Omega.{arith}
 use lib.ListN.{length, take, drop, length-drop, length-append, length-map}
 use lib.Seq.{take-all, length-take-le}

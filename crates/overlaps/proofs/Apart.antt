@@ -1,5 +1,5 @@
 -- The bytes laid out are the four terms of an overlap: outer left, inner left renamed apart, outer left rewritten, outer right. Assumes nothing.
--- Read first: specs/Layout (four-bytes), specs/Answer (four), normaliser/specs/Stored (Sides), rewriting/specs/Overlap (apart), proofs/Moving.
+-- Read first: laying/specs/Layout (four-bytes), specs/Answer (four), normaliser/specs/Stored (Sides), rewriting/specs/Overlap (apart), laying/proofs/Moving.
 use mathlib.Core.Path.{_≡_, refl, sym, ap, ap₂, _∙_}
 use mathlib.Core.Bool.{Bool, true, false}
 use mathlib.Core.List.{List, [], _∷_, _++_, map, map-append, append-assoc, append-nil}
@@ -17,10 +17,10 @@ use Rattle.terms.specs.Flat.{Wf, Wfs}
 use Rattle.terms.proofs.Bytes.{length-bytes, around}
 use Rattle.terms.proofs.Flats.{widen, skip-term, wf-subterm}
 use Rattle.rewriting.specs.Overlap.{apart}
-use Rattle.overlaps.specs.Layout.{moved, four-bytes}
+use Rattle.laying.specs.Layout.{moved, four-bytes}
 use Rattle.normaliser.specs.Stored.{Sides}
 use Rattle.overlaps.specs.Answer.{four}
-use Rattle.overlaps.proofs.Moving.{moved-symbol, moved-variable}
+use Rattle.laying.proofs.Moving.{moved-symbol, moved-variable}
 
 -- variables moved up by 16
 mutual

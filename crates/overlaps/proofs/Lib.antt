@@ -1,9 +1,4 @@
-pub mod Moving
-pub mod Layers
 pub mod Apart
-pub mod Pairing
-pub mod Placing
 pub mod Solving
-pub mod Facing
 pub mod Meeting
 pub mod Slots

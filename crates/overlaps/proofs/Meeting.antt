@@ -1,14 +1,14 @@
 -- From stored rules to the definition of their overlap; and no overlap past the left side, at a variable, or where two symbols differ. Assumes
 -- nothing.
--- Read first: specs/Answer (Meets, Overlapped, Differ), rewriting/specs/Overlap (overlap), proofs/Apart, proofs/Layers.
-use mathlib.Core.Path.{_≡_, refl, sym, ap, ap₂, subst, _∙_}
+-- Read first: specs/Answer (Meets, Overlapped), clash/specs/Clashing, rewriting/specs/Overlap (overlap), proofs/Apart, proofs/Slots.
+use mathlib.Core.Path.{_≡_, refl, sym, ap, subst, _∙_}
 use mathlib.Core.Bool.{Bool, true}
-use mathlib.Core.List.{List, [], _∷_, _++_}
+use mathlib.Core.List.{List, _++_}
 use mathlib.Core.Option.{Option, none, some}
-use Prim.Native.Nat.{ℕ, zero, suc, _+_, _-_, _*_, _≤_, _<_}
+use Prim.Native.Nat.{ℕ, _+_, _-_, _*_, _≤_, _<_}
 use native.Mathlib.Omega.{arith}
 use lib.ListN.{length, getD, take, drop}
-use lib.Seq.{getD-take, getD-drop, drop-at}
+use lib.Seq.{getD-drop, drop-at}
 use Rattle.terms.specs.Term.{Term, var, node, Terms, Pair, size, sizes, term-bytes, subst-term, subterm-at, replace-at}
 use Rattle.terms.specs.Flat.{Starts}
 use Rattle.terms.proofs.Bytes.{length-bytes, length-bytes-all, around}
@@ -23,10 +23,12 @@ use Rattle.rewriting.specs.Overlap.{Overlap, apart, overlap, overlap-at, overla
 use Rattle.normaliser.specs.Stored.{Sides, RuleAt}
 use Rattle.overlaps.specs.declared.Met.{Met}
 use Rattle.overlaps.specs.declared.Met.the-variants.{Nothing}
-use Rattle.overlaps.specs.Layout.{LaysFour}
-use Rattle.overlaps.specs.Answer.{Says, instances, four, Solves, AtNode, Meets, MeetsRules, NeverOne, Clashing, Overlapped}
+use Rattle.laying.specs.Layout.{LaysFour}
+use Rattle.clash.specs.Clashing.{NeverOne, Clashing}
+use Rattle.overlaps.specs.Answer.{Says, instances, four, Solves, AtNode, Meets, side-bytes, Overlapped}
 use Rattle.overlaps.proofs.Apart.{the-four, four-wf, four-terms, symbol-low}
-use Rattle.overlaps.proofs.Layers.{laid-bytes}
+use Rattle.laying.proofs.Layers.{laid-bytes}
+use Rattle.overlaps.proofs.Slots.{sides-of-rule}
 
 by-is : (i o : Pair) (p : ℕ) (m : Option (List Binding)) → overlap-by i o p m ≡ instances (o .left) (replace-at (o .left) p (apart (i .right))) (o .right) m
 unfolding overlap-by
@@ -100,45 +102,6 @@ module _ (tab l₁ r₁ l₂ r₂ : List ℕ) (p : ℕ) (L R : List ℕ) where
         (overlap-is i o p (m .0) (m .1) (m .2) ∙ ap (instances (o .left) (replace-at (o .left) p (apart (i .right))) (o .right)) (mgu-none (i .left) (node (m .0) (m .1)) n));
   }
 
--- a stored rule's sides
-pub rule-reads : (tab rules lens : List ℕ) (k a b i j : ℕ) → a ≡ 240 * k → b ≡ a + 120 → i ≡ getD lens (2 * k) 0 → j ≡ getD lens (2 * k + 1) 0 →
-    (e : Pair) → RuleAt tab rules lens k e → Sides 16 tab (take (a + i - a) (drop a rules)) (take (b + j - b) (drop b rules)) e
-rule-reads tab rules lens k a b i j ea eb ei ej e h =
-    let x : a + i - a ≡ getD lens (2 * k) 0 = omega arith in
-    let y : b + j - b ≡ getD lens (2 * k + 1) 0 = omega arith in
-    let z : b ≡ 240 * k + 120 = omega arith in
-    record {
-      left-wf = h .left-wf;
-      right-wf = h .right-wf;
-      left-bytes = ap₂ (λ u v. take u (drop v rules)) x ea ∙ h .left-bytes;
-      right-bytes = ap₂ (λ u v. take u (drop v rules)) y z ∙ h .right-bytes;
-    }
-
-take-none : (l : List ℕ) (n : ℕ) → n ≡ 0 → length (take n l) ≡ 0
-take-none l zero e = refl
-take-none l (suc n) e = absurd (omega arith)
-
-module _ (tab rules lens : List ℕ) (inner outer p : ℕ) (L R : List ℕ) where
-  pub rules-empty : (m : ℕ) → m ≡ getD lens (2 * outer + 1) 0 → m ≡ 0 → MeetsRules tab rules lens inner outer p L R L R Nothing
-  rules-empty m e z = record {
-    kept = record { left = refl; right = refl };
-    short = tt;
-    answer = λ i o h k c.
-        let n = take-none (drop (240 * outer + 120) rules) (getD lens (2 * outer + 1) 0) (sym e ∙ z) in
-        absurd (omega (arith, n, ap length (k .right-bytes), length-bytes (o .right), size-pos (o .right)));
-  }
-
-  pub rules-found : (a b c d i j k m : ℕ) → a ≡ 240 * inner → b ≡ a + 120 → c ≡ 240 * outer → d ≡ c + 120 →
-      i ≡ getD lens (2 * inner) 0 → j ≡ getD lens (2 * inner + 1) 0 → k ≡ getD lens (2 * outer) 0 → m ≡ getD lens (2 * outer + 1) 0 → (L′ R′ : List ℕ) (r : Met) →
-      Meets tab (take (a + i - a) (drop a rules)) (take (b + j - b) (drop b rules)) (take (c + k - c) (drop c rules)) (take (d + m - d) (drop d rules)) p L R L′ R′ r →
-      MeetsRules tab rules lens inner outer p L R L′ R′ r
-  rules-found a b c d i j k m ea eb ec ed ei ej ek em L′ R′ r g = record {
-    kept = g .kept;
-    short = g .short;
-    answer = λ e o h h′ n.
-        g .answer e o (rule-reads tab rules lens inner a b i j ea eb ei ej e h) (rule-reads tab rules lens outer c d k m ec ed ek em o h′) n;
-  }
-
 -- what stands at a position of a stored rule's left side
 root : Term → ℕ
 unfolding term-bytes
@@ -159,19 +122,6 @@ byte-at t p u e =
         go (var x) = unfold term-bytes in refl
         go (node f ts) = unfold term-bytes in refl
 
-side-length : (rules : List ℕ) (a n : ℕ) (t : Term) → take n (drop a rules) ≡ term-bytes t → size t ≤ n
-side-length rules a n t e = omega (arith, ap length e, length-bytes t, shorter n (drop a rules))
-  where
-    shorter : (n : ℕ) (l : List ℕ) → length (take n l) ≤ n
-    shorter zero l = omega arith
-    shorter (suc n) [] = omega arith
-    shorter (suc n) (x ∷ l) = let h = shorter n l in omega arith
-
-side-byte : (rules : List ℕ) (a n p : ℕ) (t u : Term) → take n (drop a rules) ≡ term-bytes t → subterm-at t p ≡ some u → getD rules (a + p) 0 ≡ root u
-side-byte rules a n p t u e q =
-    let h = subterm-below t p u q in
-    sym (getD-drop a rules p 0) ∙ sym (getD-take n (drop a rules) p 0 (omega (arith, side-length rules a n t e))) ∙ ap (λ k. getD k p 0) e ∙ byte-at t p u q
-
 root-variable : (x : ℕ) → root (var x) ≡ 128 + x
 unfolding root term-bytes
 root-variable x = refl
@@ -179,11 +129,6 @@ root-variable x = refl
 root-node : (f : ℕ) (ts : Terms) → root (node f ts) ≡ f
 unfolding root term-bytes
 root-node f ts = refl
-
-at-root : (t : Term) → subterm-at t 0 ≡ some t
-unfolding subterm-at
-at-root (var x) = refl
-at-root (node f ts) = refl
 
 overlap-none : (i o : Pair) (p : ℕ) → subterm-at (o .left) p ≡ none → overlap i o p ≡ none
 unfolding overlap overlap-at
@@ -193,42 +138,51 @@ overlap-variable : (i o : Pair) (p x : ℕ) → subterm-at (o .left) p ≡ some 
 unfolding overlap overlap-at
 overlap-variable i o p x e = ap (overlap-at i o p) e
 
-module _ (tab rules lens : List ℕ) (inner outer p : ℕ) (L R : List ℕ) where
-  nothing : ((i o : Pair) → RuleAt tab rules lens inner i → RuleAt tab rules lens outer o → overlap i o p ≡ none) → Overlapped tab rules lens inner outer p L R L R Nothing
-  nothing f = record { kept = record { left = refl; right = refl }; short = tt; answer = λ i o h k. none-says L R (overlap i o p) (f i o h k) }
+-- the outer rule's sides are l₂ and r₂
+module _ (tab rules lens : List ℕ) (inner outer p : ℕ) (L R l₂ : List ℕ) (e₂ : l₂ ≡ side-bytes rules lens (2 * outer)) where
+  outer-left : (o : Pair) → RuleAt tab rules lens outer o → l₂ ≡ term-bytes (o .left)
+  outer-left o k = sides-of-rule tab rules lens outer l₂ (side-bytes rules lens (2 * outer + 1)) e₂ refl o k .left-bytes
 
-  beyond : (o : Pair) → RuleAt tab rules lens outer o → getD lens (2 * outer) 0 ≤ p → subterm-at (o .left) p ≡ none
+  outer-byte : (o : Pair) (u : Term) → RuleAt tab rules lens outer o → subterm-at (o .left) p ≡ some u → getD l₂ p 0 ≡ root u
+  outer-byte o u k e = ap (λ z. getD z p 0) (outer-left o k) ∙ byte-at (o .left) p u e
+
+  nothing : ((i o : Pair) → RuleAt tab rules lens outer o → overlap i o p ≡ none) → Overlapped tab rules lens inner outer p L R L R Nothing
+  nothing f = record { kept = record { left = refl; right = refl }; short = tt; answer = λ i o h k. none-says L R (overlap i o p) (f i o k) }
+
+  beyond : (o : Pair) → RuleAt tab rules lens outer o → length l₂ ≤ p → subterm-at (o .left) p ≡ none
   beyond o k h = go (subterm-at (o .left) p) refl
     where
       go : (v : Option Term) → subterm-at (o .left) p ≡ v → v ≡ none
       go none e = refl
-      go (some u) e = absurd (omega (arith, subterm-below (o .left) p u e, side-length rules (240 * outer) (getD lens (2 * outer) 0) (o .left) (k .left-bytes), h))
+      go (some u) e = absurd (omega (arith, subterm-below (o .left) p u e, ap length (outer-left o k), length-bytes (o .left), h))
 
-  pub overlap-beyond : (n : ℕ) → n ≡ getD lens (2 * outer) 0 → n ≤ p → Overlapped tab rules lens inner outer p L R L R Nothing
-  overlap-beyond n e h = nothing (λ i o j k. overlap-none i o p (beyond o k (omega arith)))
+  pub overlap-beyond : length l₂ ≤ p → Overlapped tab rules lens inner outer p L R L R Nothing
+  overlap-beyond h = nothing (λ i o k. overlap-none i o p (beyond o k h))
 
-  module _ (n b : ℕ) (en : n ≡ getD lens (2 * outer) 0) (eb : b ≡ 240 * outer + p) where
-    outer-byte : (o : Pair) (u : Term) → RuleAt tab rules lens outer o → subterm-at (o .left) p ≡ some u → getD rules b 0 ≡ root u
-    outer-byte o u k e = ap (λ z. getD rules z 0) eb ∙ side-byte rules (240 * outer) (getD lens (2 * outer) 0) p (o .left) u (k .left-bytes) e
+  open-none : 128 ≤ getD l₂ p 0 → (i o : Pair) → RuleAt tab rules lens outer o → (v : Option Term) → subterm-at (o .left) p ≡ v → overlap i o p ≡ none
+  open-none h i o k none e = overlap-none i o p e
+  open-none h i o k (some (var x)) e = overlap-variable i o p x e
+  open-none h i o k (some (node f ts)) e = absurd (omega (arith, outer-byte o (node f ts) k e, root-node f ts, symbol-low tab (o .left) (k .left-wf) p f ts e))
 
-    open-none : 128 ≤ getD rules b 0 → (i o : Pair) → RuleAt tab rules lens outer o → (v : Option Term) → subterm-at (o .left) p ≡ v → overlap i o p ≡ none
-    open-none h i o k none e = overlap-none i o p e
-    open-none h i o k (some (var x)) e = overlap-variable i o p x e
-    open-none h i o k (some (node f ts)) e = absurd (omega (arith, outer-byte o (node f ts) k e, root-node f ts, symbol-low tab (o .left) (k .left-wf) p f ts e))
+  pub overlap-open : 128 ≤ getD l₂ p 0 → Overlapped tab rules lens inner outer p L R L R Nothing
+  overlap-open h = nothing (λ i o k. open-none h i o k (subterm-at (o .left) p) refl)
 
-    pub overlap-open : 128 ≤ getD rules b 0 → Overlapped tab rules lens inner outer p L R L R Nothing
-    overlap-open h = nothing (λ i o j k. open-none h i o k (subterm-at (o .left) p) refl)
+  module _ (r₂ : List ℕ) (f₂ : r₂ ≡ side-bytes rules lens (2 * outer + 1)) where
+    pub overlap-empty : length r₂ ≡ 0 → Overlapped tab rules lens inner outer p L R L R Nothing
+    overlap-empty z =
+        nothing (λ i o k. absurd (omega (arith, ap length (sides-of-rule tab rules lens outer l₂ r₂ e₂ f₂ o k .right-bytes), length-bytes (o .right), size-pos (o .right))))
 
-    at-node : getD rules b 0 < 128 → (o : Pair) → RuleAt tab rules lens outer o → (u : Term) → subterm-at (o .left) p ≡ some u → AtNode (o .left) p
+    at-node : getD l₂ p 0 < 128 → (o : Pair) → RuleAt tab rules lens outer o → (u : Term) → subterm-at (o .left) p ≡ some u → AtNode (o .left) p
     at-node h o k (var x) e = absurd (omega (arith, outer-byte o (var x) k e, root-variable x))
     at-node h o k (node f ts) e = (f, ts, e)
 
-    pub overlap-met : getD rules b 0 < 128 → p < length (take n (drop (240 * outer) rules)) → (L′ R′ : List ℕ) (r : Met) → MeetsRules tab rules lens inner outer p L R L′ R′ r →
-        Overlapped tab rules lens inner outer p L R L′ R′ r
-    overlap-met h l L′ R′ r m = record {
+    pub overlap-met : getD l₂ p 0 < 128 → p < length l₂ → (l₁ r₁ : List ℕ) → l₁ ≡ side-bytes rules lens (2 * inner) → r₁ ≡ side-bytes rules lens (2 * inner + 1) →
+        (L′ R′ : List ℕ) (r : Met) → Meets tab l₁ r₁ l₂ r₂ p L R L′ R′ r → Overlapped tab rules lens inner outer p L R L′ R′ r
+    overlap-met h l l₁ r₁ e₁ f₁ L′ R′ r m = record {
       kept = m .kept;
       short = m .short;
       answer = λ i o j k.
-          let c : p < size (o .left) = omega (arith, ap length (ap (λ z. take z (drop (240 * outer) rules)) en ∙ k .left-bytes), length-bytes (o .left)) in
-          m .answer i o j k (at-node h o k (place (o .left) p c .s) (subterm-is (o .left) p c));
+          let c : p < size (o .left) = omega (arith, ap length (outer-left o k), length-bytes (o .left)) in
+          m .answer i o (sides-of-rule tab rules lens inner l₁ r₁ e₁ f₁ i j) (sides-of-rule tab rules lens outer l₂ r₂ e₂ f₂ o k)
+          (at-node h o k (place (o .left) p c .s) (subterm-is (o .left) p c));
     }

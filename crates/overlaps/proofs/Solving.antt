@@ -4,50 +4,29 @@ use mathlib.Core.Path.{_≡_, refl, sym, ap, ap₂, subst, _∙_}
 use mathlib.Core.Bool.{Bool, true, false, not}
 use mathlib.Core.List.{List, [], _∷_, _++_, append-assoc, append-nil}
 use mathlib.Core.Option.{Option, none, some}
-use Prim.Native.Nat.{ℕ, zero, suc, _+_, _-_, _≤_, _<_}
+use Prim.Native.Nat.{ℕ, zero, suc, _+_, _<_}
 use native.Mathlib.Omega.{arith}
 use lib.Dec.{ltb}
-use lib.ListN.{length}
-use borrow.Author.Tests.{lt-ltb, le-ltb}
-use Rattle.terms.specs.Base.{if_then_else_, is-some}
-use Rattle.terms.specs.Term.{Term, var, node, Terms, nil, cons, Pair, size, sizes, term-bytes, terms-bytes, subst-term, subterm-at, subterm-in, renamed}
+use Rattle.terms.specs.Base.{is-some}
+use Rattle.terms.specs.Term.{Term, var, node, Terms, nil, cons, size, term-bytes, terms-bytes, subst-term, subterm-at, subterm-in, renamed}
 use Rattle.terms.specs.Flat.{Wf, Wfs}
 use Rattle.terms.proofs.Flats.{widen-all}
 use Rattle.terms.proofs.Limits.{size-vars}
-use Rattle.terms.proofs.Places.{size-pos}
-use Rattle.terms.proofs.Positions.{subterm-below}
-use Rattle.terms.proofs.Rename.{rename, numbered}
-use Rattle.terms.proofs.Subst.{Subst}
+use Rattle.terms.proofs.Positions.{subterm-below, in-first, in-later, in-head}
+use Rattle.terms.proofs.Rename.{rename}
 use Rattle.unify.specs.Unify.{Binding, mgu, under}
-use Rattle.unifier.specs.Arena.{Arena, Spells, same}
-use Rattle.unifier.specs.Steps.{at, arena}
-use Rattle.unifier.specs.Result.{Laid, LaidOut, Tested, Solved, Outcome, Decided}
+use Rattle.classes.specs.Arena.{Spells, same}
+use Rattle.classes.specs.Steps.{at, arena}
+use Rattle.unifier.specs.Result.{Laid, LaidOut, Tested, Solved, Decided}
 use Rattle.unifier.proofs.Starting.{laid-at}
 use Rattle.unifier.proofs.Verdict.{the-mgu, solved-renames, solved-renamed, solved-decided}
+use Rattle.pairs.specs.declared.Lengths.{Lengths}
+use Rattle.pairs.specs.Written.{Low, Fits, Placed}
 use Rattle.unifier.proofs.Instance.{spells-instance}
 use Rattle.rewriting.specs.Overlap.{Overlap}
 use Rattle.overlaps.specs.declared.Met.{Met}
-use Rattle.overlaps.specs.declared.Met.the-variants.{Nothing}
-use Rattle.overlaps.specs.Answer.{Answered, Says, Low, Kept, Placed, four, instances, Solves}
-
--- subterms of terms that stand one after the other
-at-first : (t : Term) → subterm-at t 0 ≡ some t
-unfolding subterm-at
-at-first (var x) = refl
-at-first (node f ts) = refl
-
-in-first : (t : Term) (ts : Terms) (p : ℕ) → p < size t → subterm-in (cons t ts) p ≡ subterm-at t p
-unfolding subterm-in if_then_else_
-in-first t ts p h = rw (lt-ltb p (size t) h) refl
-
-in-later : (t : Term) (ts : Terms) (p q : ℕ) → p ≡ size t + q → subterm-in (cons t ts) p ≡ subterm-in ts q
-unfolding subterm-in if_then_else_
-in-later t ts p q e =
-    let z : p - size t ≡ q = omega arith in
-    rw (le-ltb p (size t) (omega arith), z) refl
-
-in-head : (t : Term) (ts : Terms) (p : ℕ) → p ≡ 0 → subterm-in (cons t ts) p ≡ some t
-in-head t ts p e = in-first t ts p (omega (arith, size-pos t)) ∙ ap (subterm-at t) e ∙ at-first t
+use Rattle.overlaps.specs.declared.Met.the-variants.{Nothing, TooLarge, Found}
+use Rattle.overlaps.specs.Answer.{Answered, Says, four, instances, Solves}
 
 -- bytes of terms with variables below 32
 low-cons : (b : ℕ) (l : List ℕ) → b < 160 → Low l → Low (b ∷ l)
@@ -166,9 +145,6 @@ module _ (l tab : List ℕ) (p n a b : ℕ) (x y z w : Term) (f : Wfs 32 tab (fo
           (sym (solved-renamed l tab n p ends cs zs k y t (spells n y at-y) (spells p t at-t) m e (record { left = z; right = w })))
           (g (subst-term (the-mgu l tab n p ends cs zs k) x) (subst-term (the-mgu l tab n p ends cs zs k) z) (subst-term (the-mgu l tab n p ends cs zs k) w) (found 0 x at-x) (found a z at-z) (found b w at-w))
 
-pub outcome-solved : (l tab : List ℕ) (n p : ℕ) (ends cs zs : List ℕ) (r : Bool) → Outcome l tab n p ends cs zs r → r ≡ true → Solved l tab n p ends cs zs
-outcome-solved l tab n p ends cs zs r o e = subst (λ k. Outcome l tab n p ends cs zs k) e o
-
 pub solve-never : (l tab : List ℕ) (p n a b : ℕ) (L R : List ℕ) (r : Bool) → Decided l tab n p r → r ≡ false → Solves l tab p n a b L R L R Nothing
 solve-never l tab p n a b L R r d e = record {
   kept = record { left = refl; right = refl };
@@ -176,10 +152,38 @@ solve-never l tab p n a b L R r d e = record {
   answer = λ x y z w f h en ea eb t q. never-says l tab p n a b x y z w f h en ea eb t q L R (subst (λ k. Decided l tab n p k) e d);
 }
 
-pub solve-found : (l tab : List ℕ) (p n a b : ℕ) (L R L′ R′ : List ℕ) (ends cs zs : List ℕ) (r : Met) → Solved l tab n p ends cs zs → Placed (arena l tab ends) (at cs) a b L R L′ R′ r →
-    Solves l tab p n a b L R L′ R′ r
-solve-found l tab p n a b L R L′ R′ ends cs zs r k g = record {
-  kept = g .kept;
-  short = g .short;
-  answer = λ x y z w f h en ea eb t q. solved-says l tab p n a b x y z w f h en ea eb t q ends cs zs L′ R′ r k (λ x′ y′ z′ u v j. g .answer x′ y′ z′ u v j);
-}
+-- what `place` answers
+fits-says : (L R : List ℕ) (s : Lengths) (y z : Term) (b c d : Bool) → Fits L R s y z b c d → s .fits ≡ true →
+    Answered L R (Found (s .left) (s .right)) (size y) (size z) (renamed (record { left = y; right = z })) b c d
+fits-says L R s y z true c d h e = absurd (no (sym e ∙ h))
+fits-says L R s y z false true d h e = absurd (no (sym e ∙ h))
+fits-says L R s y z false false true h e = absurd (no (sym e ∙ h))
+fits-says L R s y z false false false h e = (ap₂ (λ u v. Found u v) (h .1) (h .2), h .3, h .4)
+
+large-says : (L R : List ℕ) (s : Lengths) (y z : Term) (b c d : Bool) → Fits L R s y z b c d → s .fits ≡ false →
+    Answered L R TooLarge (size y) (size z) (renamed (record { left = y; right = z })) b c d
+large-says L R s y z true c d h e = refl
+large-says L R s y z false true d h e = refl
+large-says L R s y z false false true h e = refl
+large-says L R s y z false false false h e = absurd (no (sym (h .0) ∙ e))
+
+module _ (l tab : List ℕ) (p n a b : ℕ) (L R L′ R′ : List ℕ) (ends cs zs : List ℕ) (s : Lengths) (k : Solved l tab n p ends cs zs) (g : Placed (arena l tab ends) (at cs) a b L R L′ R′ s) where
+  pub solve-found : s .fits ≡ true → Solves l tab p n a b L R L′ R′ (Found (s .left) (s .right))
+  solve-found e =
+      record {
+        kept = g .kept;
+        short = g .short;
+        answer = λ x y z w f h en ea eb t q.
+            solved-says l tab p n a b x y z w f h en ea eb t q ends cs zs L′ R′ (Found (s .left) (s .right)) k
+            (λ x′ y′ z′ u v j. fits-says L′ R′ s y′ z′ (ltb 120 (size x′)) (ltb 120 (size y′)) (ltb 120 (size z′)) (g .answer x′ y′ z′ u v j) e);
+      }
+
+  pub solve-large : s .fits ≡ false → Solves l tab p n a b L R L′ R′ TooLarge
+  solve-large e =
+      record {
+        kept = g .kept;
+        short = tt;
+        answer = λ x y z w f h en ea eb t q.
+            solved-says l tab p n a b x y z w f h en ea eb t q ends cs zs L′ R′ TooLarge k
+            (λ x′ y′ z′ u v j. large-says L′ R′ s y′ z′ (ltb 120 (size x′)) (ltb 120 (size y′)) (ltb 120 (size z′)) (g .answer x′ y′ z′ u v j) e);
+      }

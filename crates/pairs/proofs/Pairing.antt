@@ -1,27 +1,27 @@
 -- The instances of two nodes, written one after the other and renamed, are the renamed pair; their names are few. Assumes nothing.
 -- Read first: specs/Written (PutPair, Small), unifier/specs/Written (Writes), naming/proofs/Few.
-use mathlib.Core.Path.{_≡_, refl, sym, ap, ap₂, subst, subst₂, _∙_}
+use mathlib.Core.Path.{_≡_, sym, ap, ap₂, subst₂, _∙_}
 use mathlib.Core.Logic.{⊎-elim}
-use mathlib.Core.List.{List, [], _∷_, _++_, append-assoc, append-nil, List·Memᴰ·not-nil, List·Memᴰ·cases-cons, List·Memᴰ·append-cases}
-use Prim.Native.Nat.{ℕ, zero, suc, _+_, _-_, _≤_, _<_}
+use mathlib.Core.List.{List, [], _++_, append-assoc, append-nil, List·Memᴰ·not-nil, List·Memᴰ·cases-cons, List·Memᴰ·append-cases}
+use Prim.Native.Nat.{ℕ, _+_, _-_, _≤_, _<_}
 use native.Mathlib.Omega.{arith}
 use lib.ListN.{length, take, drop, length-append, length-drop}
-use lib.Seq.{take-at, drop-at, take-all, take-length}
-use Rattle.terms.specs.Term.{Term, var, node, Terms, nil, cons, Pair, size, sizes, variables, variables-of, term-bytes, terms-bytes, renamed}
+use lib.Seq.{take-at, drop-at, take-length}
+use Rattle.terms.specs.Term.{Term, Terms, nil, cons, Pair, size, sizes, variables, variables-of, term-bytes, terms-bytes, renamed}
 use Rattle.terms.proofs.Bytes.{length-bytes}
 use Rattle.terms.proofs.Subst.{In}
 use Rattle.terms.proofs.Limits.{renamed-left-size, renamed-right-size}
-use Rattle.terms.proofs.Rename.{renames, renamed-sides}
-use Rattle.classes.specs.Arena.{Arena, Spells, free, made, SpellsAll, none, more}
+use Rattle.terms.proofs.Rename.{renamed-sides}
+use Rattle.classes.specs.Arena.{Spells, free, made, SpellsAll, none, more}
 use Rattle.classes.specs.Steps.{at, arena, Ready}
 use Rattle.naming.specs.Names.{collect, renamed-bytes}
 use Rattle.naming.proofs.Renaming.{Lows, renamed-terms}
 use Rattle.naming.proofs.Few.{terms-few}
 use Rattle.unifier.specs.Written.{put, Room, Writes}
-use Rattle.classes.proofs.Arena.{spells-one, spells-within}
+use Rattle.classes.proofs.Arena.{spells-one}
 use Rattle.unifier.proofs.Instance.{spells-lows}
 use Rattle.unifier.proofs.Writing.{put-append, put-reads}
-use Rattle.pairs.specs.Written.{Kept, Low, Small, PutPair}
+use Rattle.pairs.specs.Written.{Low, Small, PutPair}
 
 -- the variables of what is spelt are those of the arena
 module _ (l tab ends cs : List ℕ) (rd : Ready l tab ends cs) (low : Low l) where

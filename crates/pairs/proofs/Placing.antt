@@ -1,21 +1,20 @@
 -- The tests of sizes in `place`, a lemma for each return: the peak, the left side or the right side too large, or the pair. Assumes nothing.
 -- Read first: specs/Written (Placed, Fits), sizing/specs/Sizes (Sized, Known).
-use mathlib.Core.Path.{_≡_, refl, sym, ap, ap₂, subst, _∙_}
-use mathlib.Core.Bool.{Bool, true, false}
+use mathlib.Core.Path.{_≡_, refl, ap, _∙_}
+use mathlib.Core.Bool.{true, false}
 use mathlib.Core.List.{List}
-use mathlib.Core.Option.{Option, some}
-use Prim.Native.Nat.{ℕ, zero, suc, _+_, _-_, _≤_, _<_}
+use Prim.Native.Nat.{ℕ, _≤_, _<_}
 use native.Mathlib.Omega.{arith}
 use lib.ListN.{length}
 use borrow.Author.Tests.{lt-ltb, le-ltb}
 use Rattle.terms.specs.Term.{Term, size}
 use lib.Dec.{ltb}
-use Rattle.classes.specs.Arena.{Arena, Spells}
-use Rattle.classes.specs.Steps.{at, arena, Ready}
+use Rattle.classes.specs.Arena.{Spells}
+use Rattle.classes.specs.Steps.{at, arena}
 use Rattle.sizing.specs.Sizes.{Sized, Known, cap}
 use Rattle.classes.proofs.Arena.{spells-one, spells-within}
 use Rattle.pairs.specs.declared.Lengths.{Lengths}
-use Rattle.pairs.specs.Written.{Kept, Small, PutPair, Fits, Placed}
+use Rattle.pairs.specs.Written.{Small, PutPair, Fits, Placed}
 
 module _ (l tab ends cs zs : List ℕ) (k : Sized l tab ends cs zs) (w : Known (arena l tab ends) (at zs) true) where
   -- a size that is known is the size, up to 120
@@ -52,7 +51,7 @@ module _ (l tab ends cs zs : List ℕ) (k : Sized l tab ends cs zs) (w : Known (
       place-right m n h e g e′ g′ =
           not-placed r (o .1, o .2)
           (λ x y z p q v.
-              rw (le-ltb 120 (size x) (omega (arith, known-size 0 x p)), le-ltb 120 (size y) (omega (arith, known-size a y q)), lt-ltb 120 (size z) (omega (arith, known-size b z v))) (o .0))
+          rw (le-ltb 120 (size x) (omega (arith, known-size 0 x p)), le-ltb 120 (size y) (omega (arith, known-size a y q)), lt-ltb 120 (size z) (omega (arith, known-size b z v))) (o .0))
 
     pub place-found : (m n : ℕ) → at zs 0 ≤ 120 → m ≡ at zs a → m ≤ 120 → n ≡ at zs b → n ≤ 120 → (L′ R′ : List ℕ) → PutPair (arena l tab ends) (at cs) a b L R L′ R′ →
         Placed (arena l tab ends) (at cs) a b L R L′ R′ (record { fits = true; left = m; right = n })

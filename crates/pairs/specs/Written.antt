@@ -5,7 +5,7 @@ use mathlib.Core.List.{List}
 use Prim.Native.Nat.{ℕ, _<_, _≤_}
 use lib.Dec.{ltb}
 use lib.ListN.{length, take}
-use Rattle.terms.specs.Term.{Term, Pair, size, term-bytes, renamed}
+use Rattle.terms.specs.Term.{Term, size, term-bytes, renamed}
 use Rattle.classes.specs.Arena.{Arena, Spells}
 use Rattle.classes.specs.Steps.{at}
 use Rattle.pairs.specs.declared.Lengths.{Lengths}

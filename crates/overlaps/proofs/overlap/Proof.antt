@@ -1,46 +1,63 @@
--- `overlap`: past the left side (`overlap-beyond`), a variable at the position (`overlap-open`), or what `meet_rules` answers (`overlap-met`).
--- Assumes nothing.
--- Read first: specs/Answer (Overlapped), proofs/Meeting, proofs/Slots.
-use Rattle.overlaps.proofs.Meeting.{overlap-beyond, overlap-open, overlap-met}
-use Rattle.overlaps.proofs.Slots.{byte-within, left-long}
-use mathlib.Core.Path.{refl}
+-- `overlap`: past the left side (`overlap-beyond`), a variable at the position (`overlap-open`), no right side (`overlap-empty`), or what `meet`
+-- answers of the sides (`overlap-met`). Assumes nothing.
+-- Read first: specs/Answer (Overlapped), proofs/Slots, proofs/Meeting.
+use Rattle.overlaps.proofs.Meeting.{overlap-beyond, overlap-open, overlap-empty, overlap-met}
+use Rattle.overlaps.proofs.Slots.{side-there}
 use native.Mathlib.Omega.{arith}
 use borrow.Author.Needs.{needs}
 use Rattle.overlaps.proofs.overlap.Statement.{statement}
 use Rattle.overlaps.proofs.overlap.Tie as tie
 use Rattle.overlaps.proofs.overlap.Reads as reads
 use Rattle.overlaps.proofs.overlap.Lts as lts
-use Rattle.overlaps.proofs.meet_rules.Reads as meet-rules-reads
-use Rattle.terms.proofs.wide.Reads as wide-reads
+use Rattle.overlaps.proofs.meet.Reads as meet-reads
+use Rattle.overlaps.proofs.side.Reads as side-reads
+
+side-requires : tie.Need-side-requires
+side-requires c κs = side-there _ _ _ _ _ (c .before .before .before .before .before .pre .0 .1) (omega arith)
 
 returns : tie.Need-returns
-returns c = overlap-beyond _ _ _ _ _ _ _ _ _ (c .before .wide .ensures .0) (c .if1 .taken)
-
-shared-slice-read-if2 : tie.Need-shared-slice-read-if2
-shared-slice-read-if2 c = byte-within _ _ _ _ (c .before .before .before .before .before .before .before .before .before .pre .0 .1) _ _ (c .before .before .wide .ensures .0) (c .before .if1 .left)
+returns c = overlap-beyond _ _ _ _ _ _ _ _ _ (c .before .side .ensures .0) (c .if1 .taken)
 
 returns-2 : tie.Need-returns-2
-returns-2 c = overlap-open _ _ _ _ _ _ _ _ _ _ (c .before .before .before .wide .ensures .0) refl (c .if2 .taken)
+returns-2 c = overlap-open _ _ _ _ _ _ _ _ _ (c .before .before .before .side .ensures .0) (c .if2 .taken)
 
-meet-rules-requires : tie.Need-meet-rules-requires
-meet-rules-requires c κs = (c .before .before .before .before .before .before .before .before .before .before .before .before .pre .0, (omega (arith, c .before .before .before .before .before .wide .ensures .0, c .before .before .before .before .if1 .left), c .before .before .before .before .before .before .before .before .before .before .before .before .pre .1))
+side-requires-2 : tie.Need-side-requires-2
+side-requires-2 c κs = side-there _ _ _ _ _ (c .before .before .before .before .before .before .before .before .before .pre .0 .1) (omega arith)
 
 returns-3 : tie.Need-returns-3
-returns-3 c = overlap-met _ _ _ _ _ _ _ _ _ _ (c .before .before .before .before .before .before .before .before .before .before .wide .ensures .0) refl (c .before .before .before .before .before .before .before .if2 .left) (omega (arith, left-long _ _ _ _ (c .before .before .before .before .before .before .before .before .before .before .before .before .before .before .before .before .before .pre .0 .1) _ (c .before .before .before .before .before .before .before .before .before .before .wide .ensures .0), c .before .before .before .before .before .before .before .before .before .if1 .left)) _ _ _ (c .before .before .before .before .meet-rules .ensures)
+returns-3 c = overlap-empty _ _ _ _ _ _ _ _ _ (c .before .before .before .before .before .side .ensures .0) _ (c .before .side2 .ensures .0) (c .if3 .taken)
+
+side-requires-3 : tie.Need-side-requires-3
+side-requires-3 c κs = side-there _ _ _ _ _ (c .before .before .before .before .before .before .before .before .before .before .before .pre .0 .0) (omega arith)
+
+side-requires-4 : tie.Need-side-requires-4
+side-requires-4 c κs = side-there _ _ _ _ _ (c .before .before .before .before .before .before .before .before .before .before .before .before .pre .0 .0) (omega arith)
+
+meet-requires : tie.Need-meet-requires
+meet-requires c κs = ((c .before .before .before .side3 .ensures .1, c .before .before .side4 .ensures .1, c .before .before .before .before .before .before .before .before .before .side .ensures .1, c .before .before .before .before .before .side2 .ensures .1), ((c .before .before .before .before .before .before .before .before .if1 .left, omega (arith, c .before .before .before .before .if3 .left)), c .before .before .before .before .before .before .before .before .before .before .before .before .before .before .before .pre .1))
+
+returns-4 : tie.Need-returns-4
+returns-4 c = overlap-met _ _ _ _ _ _ _ _ _ (c .before .before .before .before .before .before .before .before .before .before .before .before .before .before .side .ensures .0) _ (c .before .before .before .before .before .before .before .before .before .before .side2 .ensures .0) (c .before .before .before .before .before .before .before .before .before .before .before .if2 .left) (c .before .before .before .before .before .before .before .before .before .before .before .before .before .if1 .left) _ _ (c .before .before .before .before .before .before .before .before .side3 .ensures .0) (c .before .before .before .before .before .before .before .side4 .ensures .0) _ _ _ (c .before .before .before .before .meet .ensures)
 
 pub overlap-spec : {M : Type 1} → statement M
 overlap-spec =
     tie.close
     (tie.spec
     (λ c. search needs)
-    (λ c. search needs)
-    (λ c κs. search needs)
+    side-requires
     returns
     (λ c. search needs)
-    (λ c. search needs)
-    shared-slice-read-if2
     returns-2
-    meet-rules-requires
     (λ c. search needs)
     (λ c. search needs)
-    returns-3)
+    side-requires-2
+    returns-3
+    (λ c. search needs)
+    side-requires-3
+    (λ c. search needs)
+    (λ c. search needs)
+    side-requires-4
+    meet-requires
+    (λ c. search needs)
+    (λ c. search needs)
+    returns-4)

@@ -1,0 +1,47 @@
+-- `meet`: no overlap where the left sides clash (`meet-clash`), else the four terms that are laid out are those that `solve` is asked of
+-- (`meet-found`). Assumes nothing.
+-- Read first: specs/Answer (Meets), proofs/Meeting, laying/proofs/Layers.
+use Rattle.overlaps.proofs.Meeting.{meet-clash, meet-found}
+use Rattle.laying.proofs.Layers.{laid-parts, laid-requires}
+use lib.ListN.{length-replicate}
+use native.Mathlib.Omega.{arith}
+use Prim.Native.Nat.{ℕ}
+use mathlib.Core.Path.{refl}
+use borrow.Author.Needs.{needs}
+use Rattle.overlaps.proofs.meet.Statement.{statement}
+use Rattle.overlaps.proofs.meet.Tie as tie
+use Rattle.overlaps.proofs.meet.Reads as reads
+use Rattle.overlaps.proofs.meet.Lts as lts
+use Rattle.clash.proofs.clash.Reads as clash-reads
+use Rattle.laying.proofs.lay_four.Reads as lay-four-reads
+use Rattle.overlaps.proofs.solve.Reads as solve-reads
+
+returns : tie.Need-returns
+returns c = meet-clash _ _ _ _ _ _ _ _ (c .before .clash .result) (c .before .clash .ensures) (c .if1 .taken)
+
+sub-b : tie.Need-sub-b
+sub-b c = omega (arith, laid-parts _ _ _ _ _ _ _ _ _ (c .before .lay-four .ensures) (omega (arith, length-replicate {A = ℕ} 600 0)))
+
+solve-requires : tie.Need-solve-requires
+solve-requires c κs = (laid-requires _ _ _ _ _ _ _ _ _ (c .before .before .before .before .before .lay-four .ensures) (omega (arith, length-replicate {A = ℕ} 600 0)) (c .before .before .before .before .before .before .before .before .before .before .before .before .before .before .before .before .pre .1 .0 .0) (c .before .before .before .before .before .before .before .before .before .before .before .before .before .before .before .before .pre .1 .0 .1), c .before .before .before .before .before .before .before .before .before .before .before .before .before .before .before .before .pre .1 .1)
+
+returns-2 : tie.Need-returns-2
+returns-2 c = meet-found _ _ _ _ _ _ _ _ _ (c .before .before .before .before .before .before .before .before .before .before .lay-four .ensures) (omega (arith, length-replicate {A = ℕ} 600 0)) _ _ _ refl refl refl _ _ _ _ _ (c .before .before .before .before .solve .ensures)
+
+pub meet-spec : {M : Type 1} → statement M
+meet-spec =
+    tie.close
+    (tie.spec
+    (λ c κs. search needs)
+    returns
+    (λ c. search needs)
+    (λ c κs. search needs)
+    (λ c. search needs)
+    sub-b
+    (λ c. search needs)
+    (λ c. search needs)
+    (λ c. search needs)
+    solve-requires
+    (λ c. search needs)
+    (λ c. search needs)
+    returns-2)
