@@ -2,10 +2,11 @@
 -- Read first: specs/Sifting (Removes), proofs/Siftings.
 use Rattle.collapse.proofs.Siftings.{removes}
 use Rattle.store.proofs.Patching.{part-is}
-use lib.ListN.{take, drop}
+use lib.ListN.{length, take, drop}
+use lib.Seq.{length-take-le}
 use native.Mathlib.Omega.{arith}
 use mathlib.Core.Path.{_∙_, ap}
-use Prim.Native.Nat.{_*_}
+use Prim.Native.Nat.{_+_, _-_, _*_, _≤_}
 use borrow.Author.Needs.{needs}
 use Rattle.collapse.proofs.rewrites.Statement.{statement}
 use Rattle.collapse.proofs.rewrites.Tie as tie
@@ -19,6 +20,16 @@ part-reducible-end c =
     let s = c .before .before .before .before .before .before .before .pre .0 .slots in
     let t = c .before .before .before .before .before .before .before .pre .0 .short (2 * (c .before .before .before .before .before .before .before .args .i)) (omega arith) in
     let w = c .wide .ensures .0 in
+    search needs
+
+-- a left side has at most 120 bytes
+asked : tie.Need-reducible-requires
+asked c κs =
+    let i = c .before .before .before .before .before .before .before .before .args .i in
+    let t = c .before .before .before .before .before .before .before .before .pre .0 .short (2 * i) (omega arith) in
+    let w = c .before .wide .ensures .0 in
+    let n = length-take-le (240 * i + (c .before .wide .result) - 240 * i) (drop (240 * i) (c .before .before .before .before .before .before .before .before .args .rules .now)) in
+    let q : length (take (240 * i + (c .before .wide .result) - 240 * i) (drop (240 * i) (c .before .before .before .before .before .before .before .before .args .rules .now))) ≤ 120 = omega arith in
     search needs
 
 returns : tie.Need-returns
@@ -37,5 +48,5 @@ rewrites-spec =
     (λ c. search needs)
     (λ c. search needs)
     part-reducible-end
-    (λ c κs. search needs)
+    asked
     returns)
