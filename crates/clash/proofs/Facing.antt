@@ -1,5 +1,5 @@
 -- The walk of `clash`: whatever makes the two terms one makes the terms one that are still to be compared. Assumes nothing.
--- Read first: specs/Answer (Clashing), and join in matching/proofs/Walking.
+-- Read first: specs/Clashing (Clashing), and join in matching/proofs/Walking.
 use mathlib.Core.Path.{_≡_, refl, sym, ap, ap₂, subst, _∙_}
 use mathlib.Core.Bool.{Bool, true, false}
 use mathlib.Core.List.{List, [], _∷_, _++_, append-assoc, append-nil}

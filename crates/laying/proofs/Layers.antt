@@ -17,8 +17,8 @@ module _ (tab l₁ r₁ l₂ r₂ : List ℕ) (p e : ℕ) (q : e ≡ p + skip ta
   after : take (length l₂ - e) (drop e l₂) ≡ drop (p + skip tab (drop p l₂) 1) l₂
   after = take-all (length l₂ - e) (drop e l₂) (omega (arith, length-drop e l₂)) ∙ ap (λ k. drop k l₂) q
 
-  -- there is room for the last two runs
-  module _ (n₀ n₁ n₂ n₃ n₄ : List ℕ) (a b c d : ℕ) (g₁ : Lays n₀ 0 l₂ 0 n₁ a) (g₂ : Lays n₁ a l₁ 16 n₂ b) (g₃ : Lays n₂ b (take (p - 0) (drop 0 l₂)) 0 n₃ c) (g₄ : Lays n₃ c r₁ 16 n₄ d)
+  -- there is room for the last two runs, however far the variables are moved
+  module _ (n₀ n₁ n₂ n₃ n₄ : List ℕ) (a b c d u v : ℕ) (g₁ : Lays n₀ 0 l₂ 0 n₁ a) (g₂ : Lays n₁ a l₁ u n₂ b) (g₃ : Lays n₂ b (take (p - 0) (drop 0 l₂)) 0 n₃ c) (g₄ : Lays n₃ c r₁ v n₄ d)
       (m₁ : length l₁ ≤ 120) (m₂ : length r₁ ≤ 120) (m₃ : length l₂ ≤ 120) (m₄ : length r₂ ≤ 120) (m₅ : 600 ≤ length n₀) where
     ends-four : d ≡ length l₂ + length l₁ + p + length r₁
     ends-four = omega (arith, g₁ .ends, g₂ .ends, g₃ .ends, g₄ .ends, ap length before, length-take-le p l₂ (omega arith))

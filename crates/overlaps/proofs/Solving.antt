@@ -21,7 +21,7 @@ use Rattle.unifier.specs.Result.{Laid, LaidOut, Tested, Solved, Decided}
 use Rattle.unifier.proofs.Starting.{laid-at}
 use Rattle.unifier.proofs.Verdict.{the-mgu, solved-renames, solved-renamed, solved-decided}
 use Rattle.pairs.specs.declared.Lengths.{Lengths}
-use Rattle.pairs.specs.Written.{Low, Fits, Placed}
+use Rattle.pairs.specs.Placed.{Low, Fits, Placed}
 use Rattle.unifier.proofs.Instance.{spells-instance}
 use Rattle.rewriting.specs.Overlap.{Overlap}
 use Rattle.overlaps.specs.declared.Met.{Met}

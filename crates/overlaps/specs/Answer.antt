@@ -9,7 +9,7 @@ use lib.ListN.{getD, take, drop}
 use Rattle.terms.specs.Term.{Term, node, Terms, nil, cons, Pair, size, term-bytes, terms-bytes, renamed, subterm-at}
 use Rattle.terms.specs.Flat.{Wfs}
 use Rattle.unify.specs.Unify.{Binding, mgu, under}
-use Rattle.pairs.specs.Written.{Kept}
+use Rattle.pairs.specs.Placed.{Kept}
 use Rattle.rewriting.specs.Overlap.{Overlap, overlap}
 use Rattle.normaliser.specs.Stored.{Sides, RuleAt}
 use Rattle.overlaps.specs.declared.Met.{Met}

@@ -1,5 +1,5 @@
 -- The instances of two nodes, written one after the other and renamed, are the renamed pair; their names are few. Assumes nothing.
--- Read first: specs/Written (PutPair, Small), unifier/specs/Written (Writes), naming/proofs/Few.
+-- Read first: specs/Placed (PutPair, Small), unifier/specs/Written (Writes), naming/proofs/Few.
 use mathlib.Core.Path.{_≡_, sym, ap, ap₂, subst₂, _∙_}
 use mathlib.Core.Logic.{⊎-elim}
 use mathlib.Core.List.{List, [], _++_, append-assoc, append-nil, List·Memᴰ·not-nil, List·Memᴰ·cases-cons, List·Memᴰ·append-cases}
@@ -21,7 +21,7 @@ use Rattle.unifier.specs.Written.{put, Room, Writes}
 use Rattle.classes.proofs.Arena.{spells-one}
 use Rattle.unifier.proofs.Instance.{spells-lows}
 use Rattle.unifier.proofs.Writing.{put-append, put-reads}
-use Rattle.pairs.specs.Written.{Low, Small, PutPair}
+use Rattle.pairs.specs.Placed.{Low, Small, PutPair}
 
 -- the variables of what is spelt are those of the arena
 module _ (l tab ends cs : List ℕ) (rd : Ready l tab ends cs) (low : Low l) where

@@ -1,5 +1,5 @@
 -- The tests of sizes in `place`, a lemma for each return: the peak, the left side or the right side too large, or the pair. Assumes nothing.
--- Read first: specs/Written (Placed, Fits), sizing/specs/Sizes (Sized, Known).
+-- Read first: specs/Placed (Placed, Fits), sizing/specs/Sizes (Sized, Known).
 use mathlib.Core.Path.{_≡_, refl, ap, _∙_}
 use mathlib.Core.Bool.{true, false}
 use mathlib.Core.List.{List}
@@ -14,7 +14,7 @@ use Rattle.classes.specs.Steps.{at, arena}
 use Rattle.sizing.specs.Sizes.{Sized, Known, cap}
 use Rattle.classes.proofs.Arena.{spells-one, spells-within}
 use Rattle.pairs.specs.declared.Lengths.{Lengths}
-use Rattle.pairs.specs.Written.{Small, PutPair, Fits, Placed}
+use Rattle.pairs.specs.Placed.{Small, PutPair, Fits, Placed}
 
 module _ (l tab ends cs zs : List ℕ) (k : Sized l tab ends cs zs) (w : Known (arena l tab ends) (at zs) true) where
   -- a size that is known is the size, up to 120

@@ -5,7 +5,7 @@ ghost use Prim.Native.Nat.{_<_, _≤_};
 ghost use lib.ListN.{length};
 ghost use Rattle.classes.specs.Steps.{at, arena, Ready};
 ghost use Rattle.sizing.specs.Sizes.{Sized, Known};
-ghost use Rattle.pairs.specs.Written.{Low, Small, PutPair, Placed};
+ghost use Rattle.pairs.specs.Placed.{Low, Small, PutPair, Placed};
 
 // Whether the peak and both sides have at most 120 nodes, and then the lengths of the sides.
 pub struct Lengths {

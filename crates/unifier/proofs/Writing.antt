@@ -1,5 +1,5 @@
 -- The terms that nodes spell are written byte by byte: a root's byte, then its arguments, then the other terms. Assumes nothing.
--- Read first: specs/Written (put, Room, Writes), specs/Arena (SpellsAll), proofs/Arena.
+-- Read first: specs/Written (put, Room, Writes), classes/specs/Arena (SpellsAll), classes/proofs/Arena.
 use mathlib.Core.Path.{_≡_, refl, sym, ap, ap₂, subst, subst₂, _∙_}
 use mathlib.Core.List.{List, [], _∷_, _++_}
 use Prim.Native.Nat.{ℕ, zero, suc, _+_, _-_, _≤_, _<_}

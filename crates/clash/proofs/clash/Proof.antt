@@ -1,5 +1,5 @@
 -- `clash`: two terms in step; the invariant is that substitutions that make the terms equal make those still to do equal. Assumes nothing.
--- Read first: specs/Answer (Clashing), proofs/Facing.
+-- Read first: specs/Clashing (Clashing), proofs/Facing.
 use Rattle.clash.proofs.Facing.{Going, going-start, going-next, going-clash, no-clash}
 use native.Mathlib.Omega.{arith}
 use Prim.Native.Nat.{_-_}

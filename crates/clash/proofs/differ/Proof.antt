@@ -1,5 +1,5 @@
 -- `differ`: two symbols that differ; else nothing is said. Assumes nothing.
--- Read first: specs/Answer (Differ).
+-- Read first: specs/Clashing (Differ).
 use native.Mathlib.Omega.{arith}
 use borrow.Author.Needs.{needs}
 use Rattle.clash.proofs.differ.Statement.{statement}

@@ -1,5 +1,5 @@
 -- `past`: one place on behind a symbol, else behind the subterm (`past-same`, `past-other`). Assumes nothing.
--- Read first: specs/Answer (Past), proofs/Facing.
+-- Read first: specs/Clashing (Past), proofs/Facing.
 use Rattle.clash.proofs.Facing.{past-same, past-other}
 use borrow.Author.Needs.{needs}
 use Rattle.clash.proofs.past.Statement.{statement}

@@ -1,5 +1,5 @@
 -- `put_pair`: two instances written, renamed together, and copied apart are the renamed pair, by `pair-put`. Assumes nothing.
--- Read first: specs/Written (PutPair), proofs/Pairing.
+-- Read first: specs/Placed (PutPair), proofs/Pairing.
 use Rattle.pairs.proofs.Pairing.{pair-room, pair-room-2, pair-within, pair-names, pair-out, left-fits, right-fits, pair-put}
 use Prim.Native.Nat.{ℕ}
 use lib.ListN.{length-replicate}

@@ -1,5 +1,5 @@
 -- `fill_ends`: from the last node to the first; the invariant is that the nodes from i on have their ends, and i falls. Assumes nothing.
--- Read first: specs/Result (EndAt, EndsFrom, Each), proofs/Ending (Ended).
+-- Read first: specs/Result (EndAt, EndsFrom), proofs/Ending (Ended).
 use Rattle.unifier.proofs.Ending.{Ended, end-node, ended-start, ended-later, ended-less, ended-all}
 use native.Mathlib.Omega.{arith}
 use borrow.Author.Needs.{needs}
