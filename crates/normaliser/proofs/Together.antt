@@ -1,13 +1,14 @@
--- `settle_all` by its returns: no term left, the first came to no end, or the first and then the others. Assumes nothing.
+-- The turns of `settle_all`: the terms still to be normalised, behind those that are, come to what all come to; and a lemma for each return. Assumes
+-- nothing.
 -- Read first: specs/Stored (Settled, SettledAll), proofs/Sequence, proofs/Parts.
 use mathlib.Core.Path.{_≡_, refl, sym, _∙_, ap, ap₂, subst}
 use mathlib.Core.Bool.{Bool}
-use mathlib.Core.List.{List, _++_, append-assoc}
-use Prim.Native.Nat.{ℕ, suc, _+_, _-_, _≤_}
+use mathlib.Core.List.{List, _++_, append-assoc, append-nil}
+use Prim.Native.Nat.{ℕ, suc, _+_, _-_, _*_, _<_, _≤_}
 use native.Mathlib.Omega.{arith}
 use lib.Dec.{ltb}
-use lib.ListN.{length, drop, take, length-append}
-use lib.Seq.{drop-at, take-at, take-take}
+use lib.ListN.{length, drop, take, length-append, take-append-drop}
+use lib.Seq.{drop-at, take-at, take-take, length-take-le}
 use Rattle.terms.specs.Term.{Term, Terms, nil, cons, size, sizes}
 use Rattle.terms.specs.Flat.{Wf, Wfs}
 use Rattle.terms.specs.Scan.{count}
@@ -17,112 +18,195 @@ use Rattle.matching.specs.Cells.{cells, cells-all}
 use Rattle.matching.proofs.Celled.{length-cells}
 use Rattle.normaliser.specs.Inside.{normalise-in, normalise-all}
 use Rattle.normaliser.specs.Marks.{Marked, MarkedAll, no-more, more}
-use Rattle.normaliser.specs.Stored.{Stored, out, EndsWith, EndsAll, Limit, Settled, SettledAll}
+use Rattle.normaliser.specs.Stored.{Stored, HoldsAll, out, EndsWith, EndsAll, Limit, Settled, SettledAll}
 use Rattle.normaliser.specs.declared.Out.{Out}
 use Rattle.normaliser.proofs.Sequence.{normalise-nil, normalise-cons, then-others}
 use Rattle.normaliser.proofs.Marking.{marked-lengths}
 use Rattle.normaliser.proofs.Parts.{part, back, part-take, back-length, back-take, ltb-less, zero≢code}
 
-module _ (tab rules lens : List ℕ) (number : ℕ) (t : List ℕ) (n len most units : ℕ) where
-  pub all-none : n ≡ 0 → len ≤ most → (o : Out) → o ≡ out 0 units len 0 → SettledAll tab rules lens number t t n len most units o
-  all-none z h o d = subst (λ o. SettledAll tab rules lens number t t n len most units o) (sym d) (record {
-    bounds = record { same = refl; known = omega arith; ends = omega arith; small = h; cost = omega arith };
-    answer = λ rs st m xs post h e big lim. go rs xs post (h .marks) (h .wfs) (h .marked) (h .text) e big;
-  })
-    where
-      go : (rs : List Rule) (xs : Terms) (post ms : List ℕ) → Wfs 32 tab xs → MarkedAll rs ms xs → take len t ≡ ms ++ post → count xs ≡ n → (big : ℕ → Bool) →
-          EndsAll tab t post n (out 0 units len 0) (normalise-all rs big xs units)
-      go rs nil post ms w (no-more d) b e big =
-          subst (λ p. EndsAll tab t post n (out 0 units len 0) p) (sym (normalise-nil rs big units))
-          (refl, refl, unfold sizes in refl, b ∙ ap (λ z. z ++ post) d ∙ unfold cells-all in refl, w, e)
-      go rs (cons x xs) post ms w h b e big = absurd (let k : suc (count xs) ≡ n = unfold count in e in omega arith)
+-- Of n terms k are still to do, from the cell p on; `behind` puts those in front of them that are done, and all come to `goal`.
+pub record Ahead (tab : List ℕ) (rs : List Rule) (post t : List ℕ) (n most k p l u : ℕ) (goal : Paid Terms) : Type 0 where
+  pub todo : Terms
+  pub big : ℕ → Bool
+  pub limit : Limit big (most - p) post
+  pub held : HoldsAll tab rs (part p t) (l - p) todo post
+  pub number : count todo ≡ k
+  pub behind : Terms → Terms
+  pub answer : goal ≡ and-then (normalise-all rs big todo u) (λ us m. done (behind us) m)
+  pub behind-size : (us : Terms) → sizes (behind us) ≡ p + sizes us
+  pub behind-count : (us : Terms) → count (behind us) + k ≡ n + count us
+  pub behind-wf : (us : Terms) → Wfs 32 tab us → Wfs 32 tab (behind us)
+  pub behind-cells : (us : Terms) → cells-all (behind us) ≡ take p t ++ cells-all us
 
-  module _ (nz : n ≡ 0 → ⊥) (t₁ : List ℕ) (r : Out) (s : Settled tab rules lens number t t₁ len most units r) where
-    first-lim : (rs : List Rule) (xs : Terms) (ms post : List ℕ) (big : ℕ → Bool) → MarkedAll rs ms xs → Limit big most post → Limit (λ k. big (k + sizes xs)) most (ms ++ post)
-    first-lim rs xs ms post big h lim k =
-        let e : k + sizes xs + length post ≡ k + length (ms ++ post) = omega (arith, length-append ms post, marked-lengths rs h) in
-        lim (k + sizes xs) ∙ ap (ltb most) e
+pub record Row (tab rules lens : List ℕ) (number : ℕ) (t₀ : List ℕ) (n len most units : ℕ) (t : List ℕ) (k p l u : ℕ) : Type 0 where
+  pub same : length t ≡ length t₀
+  pub place : p ≤ l
+  pub small : l ≤ most
+  pub cost : 1000 * u + 2 * l ≤ 1000 * units + 2 * len
+  pub ahead : (rs : List Rule) → Stored tab rules lens 0 (sides-of rs) → number ≡ length rs → (xs : Terms) (post : List ℕ) → HoldsAll tab rs t₀ len xs post → count xs ≡ n →
+      (big : ℕ → Bool) → Limit big most post → Ahead tab rs post t n most k p l u (normalise-all rs big xs units)
 
-    first-of : (rs : List Rule) → Stored tab rules lens 0 (sides-of rs) → number ≡ length rs → (x : Term) (xs : Terms) (a b post : List ℕ) → Wf 32 tab x → Marked rs a x → MarkedAll rs b xs → take len t ≡ (a ++ b) ++ post →
-        (big : ℕ → Bool) → Limit big most post → EndsWith tab t₁ (b ++ post) r (normalise-in rs (λ k. big (k + sizes xs)) x units)
-    first-of rs st m x xs a b post w h k e big lim =
-        s .answer rs st m x (b ++ post) (record { wf = w; marks = a; marked = h; text = e ∙ append-assoc a b post }) (λ k. big (k + sizes xs)) (first-lim rs xs b post big k lim)
+and-done : (p : Paid Terms) → p ≡ and-then p (λ us m. done us m)
+unfolding and-then
+and-done (done us m) = refl
+and-done (stop e m) = refl
 
-    first-stop : (post′ post : List ℕ) (k : Term → ℕ → Paid Terms) → (r .verdict ≡ 0 → ⊥) → (p : Paid Term) → EndsWith tab t₁ post′ r p → EndsAll tab t₁ post n r (and-then p k)
-    unfolding and-then
-    first-stop post′ post k z (done y m) e = absurd (z (e .0))
-    first-stop post′ post k z (stop c m) e = e
+and-behind : (f : Terms → Terms) (y : Term) (p : Paid Terms) → and-then (and-then p (λ us m. done (cons y us) m)) (λ us m. done (f us) m) ≡ and-then p (λ us m. done (f (cons y us)) m)
+unfolding and-then
+and-behind f y (done us m) = refl
+and-behind f y (stop e m) = refl
 
-    first-stops : (r .verdict ≡ 0 → ⊥) → (rs : List Rule) → Stored tab rules lens 0 (sides-of rs) → number ≡ length rs → (xs : Terms) (post ms : List ℕ) → Wfs 32 tab xs → MarkedAll rs ms xs → take len t ≡ ms ++ post → count xs ≡ n →
-        (big : ℕ → Bool) → Limit big most post → EndsAll tab t₁ post n r (normalise-all rs big xs units)
-    unfolding Wfs count
-    first-stops z rs st m nil post ms w h b e big lim = absurd (nz (sym e))
-    first-stops z rs st m (cons x xs) post ms w (more {a = c} {b = d} g h k) b e big lim =
-        subst (λ p. EndsAll tab t₁ post n r p) (sym (normalise-cons rs big x xs units))
-        (first-stop (d ++ post) post _ z (normalise-in rs (λ k. big (k + sizes xs)) x units) (first-of rs st m x xs c d post (w .0) h k (b ∙ ap (λ z. z ++ post) g) big lim))
+module _ (tab rules lens : List ℕ) (number : ℕ) (t₀ : List ℕ) (n len most units : ℕ) where
+  pub row-start : len ≤ most → Row tab rules lens number t₀ n len most units t₀ n 0 len units
+  row-start h = record {
+    same = refl;
+    place = omega arith;
+    small = h;
+    cost = omega arith;
+    ahead = λ rs st m xs post h e big lim. record {
+      todo = xs;
+      big = big;
+      limit = λ j. lim j ∙ (let z : most ≡ most - 0 = omega arith in ap (λ m. ltb m (j + length post)) z);
+      held = record { wfs = h .wfs; marks = h .marks; marked = h .marked; text = part-take 0 len t₀ ∙ h .text };
+      number = e;
+      behind = λ us. us;
+      answer = and-done (normalise-all rs big xs units);
+      behind-size = λ us. omega arith;
+      behind-count = λ us. omega arith;
+      behind-wf = λ us w. w;
+      behind-cells = λ us. refl;
+    };
+  }
 
-    pub all-stop : (r .verdict ≡ 0 → ⊥) → SettledAll tab rules lens number t t₁ n len most units r
-    all-stop z = record { bounds = s .bounds; answer = λ rs st m xs post h e big lim. first-stops z rs st m xs post (h .marks) (h .wfs) (h .marked) (h .text) e big lim }
+  module _ (room : most ≤ length t₀) (t : List ℕ) (k p l u : ℕ) (i : Row tab rules lens number t₀ n len most units t k p l u) where
+    fits : p ≤ length t
+    fits = let a = i .same in let b = i .place in let c = i .small in omega arith
 
-    module _ (zr : r .verdict ≡ 0) (room : most ≤ length t) (q : List ℕ) (o : Out) (a : SettledAll tab rules lens number (part (r .end) t₁) q (n - 1) (r .len - r .end) (most - r .end) (r .units) o) where
-      fits : r .end ≤ length t₁
-      fits = let d = s .bounds in let x = d .same in let y = d .ends in let z = d .small in omega arith
+    -- no term is left
+    end-go : (rs : List Rule) (post : List ℕ) (goal : Paid Terms) → k ≡ 0 → Ahead tab rs post t n most k p l u goal → (todo : Terms) (ms : List ℕ) → count todo ≡ k → MarkedAll rs ms todo → take (l - p) (part p t) ≡ ms ++ post →
+        (big : ℕ → Bool) → (behind : Terms → Terms) → behind nil ≡ behind nil → goal ≡ and-then (normalise-all rs big todo u) (λ us m. done (behind us) m) →
+        sizes (behind nil) ≡ p + sizes nil → count (behind nil) + k ≡ n + count nil → Wfs 32 tab (behind nil) → cells-all (behind nil) ≡ take p t ++ cells-all nil → EndsAll tab t post n (out 0 u l p) goal
+    unfolding count sizes cells-all and-then
+    end-go rs post goal z a (cons x xs) ms c h b big f r g s d w e = absurd (omega arith)
+    end-go rs post goal z a nil ms c (no-more q) b big f r g s d w e =
+        let v : goal ≡ done (f nil) u = g ∙ ap (λ o. and-then o (λ us m. done (f us) m)) (normalise-nil rs big u) in
+        let y : drop p (take l t) ≡ post = sym (part-take p l t) ∙ b ∙ ap (λ z. z ++ post) q in
+        let x : take p (take l t) ≡ cells-all (f nil) = take-take p l t (i .place) ∙ sym (append-nil (take p t)) ∙ sym e in
+        subst (λ o. EndsAll tab t post n (out 0 u l p) o) (sym v) (refl, refl, omega arith, sym (take-append-drop p (take l t)) ∙ ap₂ _++_ x y, w, omega arith)
 
-      result : Out
-      result = out (o .verdict) (o .units) (o .len + r .end) (o .end + r .end)
+    pub row-end : k ≡ 0 → (o : Out) → o ≡ out 0 u l p → SettledAll tab rules lens number t₀ t n len most units o
+    unfolding Wfs
+    row-end z o d = subst (λ o. SettledAll tab rules lens number t₀ t n len most units o) (sym d) (record {
+      bounds = record { same = i .same; known = omega arith; ends = i .place; small = i .small; cost = i .cost };
+      answer = λ rs st m xs post h e big lim.
+          let a = i .ahead rs st m xs post h e big lim in
+          end-go rs post (normalise-all rs big xs units) z a (a .todo) (a .held .marks) (a .number) (a .held .marked) (a .held .text) (a .big) (a .behind) refl (a .answer) (a .behind-size nil) (a .behind-count nil) (a .behind-wf nil tt) (a .behind-cells nil);
+    })
 
-      two-go : (y : Term) (post : List ℕ) (m : ℕ) → Wf 32 tab y → take (r .end) t₁ ≡ cells y → r .end ≡ size y → (p : Paid Terms) → EndsAll tab q post (n - 1) o p →
-          EndsAll tab (back (r .end) t₁ q) post n result (and-then p (λ us k. done (cons y us) k))
-      unfolding and-then result size Wfs count cells-all
-      two-go y post m w b e (stop c k) f = f
-      two-go y post m w b e (done us k) f = (
-        f .0,
-        f .1,
-        (let g : o .end ≡ sizes us = f .2 in omega arith),
-        back-take (r .end) (o .len) t₁ q fits ∙ ap₂ _++_ b (f .3) ∙ sym (append-assoc (cells y) (cells-all us) post),
-        (w, f .4),
-        (let g : count us ≡ n - 1 = f .5 in omega arith),
-      )
+    -- the next term
+    module _ (nz : 0 < k) (q : List ℕ) (r : Out) (s : Settled tab rules lens number (part p t) q (l - p) (most - p) u r) where
+      next-lim : (rs : List Rule) (xs : Terms) (ms post : List ℕ) (big : ℕ → Bool) → MarkedAll rs ms xs → Limit big (most - p) post → Limit (λ j. big (j + sizes xs)) (most - p) (ms ++ post)
+      next-lim rs xs ms post big h lim j =
+          let e : j + sizes xs + length post ≡ j + length (ms ++ post) = omega (arith, length-append ms post, marked-lengths rs h) in
+          lim (j + sizes xs) ∙ ap (ltb (most - p)) e
 
-      one-go : (rs : List Rule) → Stored tab rules lens 0 (sides-of rs) → number ≡ length rs → (xs : Terms) (post ms : List ℕ) → Wfs 32 tab xs → MarkedAll rs ms xs → suc (count xs) ≡ n → (big : ℕ → Bool) → Limit big most post →
-          (p : Paid Term) → EndsWith tab t₁ (ms ++ post) r p → EndsAll tab (back (r .end) t₁ q) post n result (and-then p (λ u m. then-others rs big xs u m))
+      next-of : (rs : List Rule) → Stored tab rules lens 0 (sides-of rs) → number ≡ length rs → (x : Term) (xs : Terms) (a b post : List ℕ) → Wf 32 tab x → Marked rs a x → MarkedAll rs b xs → take (l - p) (part p t) ≡ (a ++ b) ++ post →
+          (big : ℕ → Bool) → Limit big (most - p) post → EndsWith tab q (b ++ post) r (normalise-in rs (λ j. big (j + sizes xs)) x u)
+      next-of rs st m x xs a b post w h g e big lim =
+          s .answer rs st m x (b ++ post) (record { wf = w; marks = a; marked = h; text = e ∙ append-assoc a b post }) (λ j. big (j + sizes xs)) (next-lim rs xs b post big g lim)
+
+      -- it came to no end
+      stop-go : (post′ post : List ℕ) (f : Term → ℕ → Paid Terms) (g : Terms → ℕ → Paid Terms) → (r .verdict ≡ 0 → ⊥) → (o : Paid Term) → EndsWith tab q post′ r o → (t′ : List ℕ) → EndsAll tab t′ post n r (and-then (and-then o f) g)
       unfolding and-then
-      one-go rs st m xs post ms w h e big lim (stop c k) f = absurd (zero≢code c (sym zr ∙ f .0))
-      one-go rs st m xs post ms w h e big lim (done y k) f =
-          let d : r .end ≡ size y = f .2 in
-          let bd = s .bounds in
-          let le : r .end ≤ r .len = bd .ends in
-          let sm : r .len ≤ most = bd .small in
-          let ly : length (cells y) ≡ r .end = length-cells y ∙ sym d in
-          let head : take (r .end) t₁ ≡ cells y = sym (take-take (r .end) (r .len) t₁ le) ∙ ap (take (r .end)) (f .3) ∙ take-at (cells y) (ms ++ post) (r .end) ly in
-          let tail : take (r .len - r .end) (part (r .end) t₁) ≡ ms ++ post = part-take (r .end) (r .len) t₁ ∙ ap (drop (r .end)) (f .3) ∙ drop-at (cells y) (ms ++ post) (r .end) ly in
-          let lim′ : Limit (λ j. big (size y + j)) (most - r .end) post = λ j.
-          let g : size y + j + length post ≡ r .end + (j + length post) = omega arith in
-          lim (size y + j) ∙ ap (ltb most) g ∙ ltb-less most (j + length post) (r .end) (omega arith) in
-          let c : count xs ≡ n - 1 = omega arith in
-          let rec = a .answer rs st m xs post (record { wfs = w; marks = ms; marked = h; text = tail }) c (λ j. big (size y + j)) lim′ in
-          two-go y post k (f .4) head d (normalise-all rs (λ j. big (size y + j)) xs k) (subst (λ z. EndsAll tab q post (n - 1) o (normalise-all rs (λ j. big (size y + j)) xs z)) (f .1) rec)
+      stop-go post′ post f g z (done y m) e t′ = absurd (z (e .0))
+      stop-go post′ post f g z (stop c m) e t′ = e
 
-      more-go : (rs : List Rule) → Stored tab rules lens 0 (sides-of rs) → number ≡ length rs → (xs : Terms) (post ms : List ℕ) → Wfs 32 tab xs → MarkedAll rs ms xs → take len t ≡ ms ++ post → count xs ≡ n → (big : ℕ → Bool) →
-          Limit big most post → EndsAll tab (back (r .end) t₁ q) post n result (normalise-all rs big xs units)
+      stops : (r .verdict ≡ 0 → ⊥) → (rs : List Rule) → Stored tab rules lens 0 (sides-of rs) → number ≡ length rs → (post : List ℕ) (goal : Paid Terms) (t′ : List ℕ) (todo : Terms) (ms : List ℕ) → count todo ≡ k → Wfs 32 tab todo → MarkedAll rs ms todo →
+          take (l - p) (part p t) ≡ ms ++ post → (big : ℕ → Bool) → Limit big (most - p) post → (f : Terms → Terms) → goal ≡ and-then (normalise-all rs big todo u) (λ us m. done (f us) m) → EndsAll tab t′ post n r goal
       unfolding Wfs count
-      more-go rs st m nil post ms w h b e big lim = absurd (nz (sym e))
-      more-go rs st m (cons x xs) post ms w (more {a = c} {b = d} g h k) b e big lim =
-          subst (λ p. EndsAll tab (back (r .end) t₁ q) post n result p) (sym (normalise-cons rs big x xs units))
-          (one-go rs st m xs post d (w .1) k e big lim (normalise-in rs (λ k. big (k + sizes xs)) x units) (first-of rs st m x xs c d post (w .0) h k (b ∙ ap (λ z. z ++ post) g) big lim))
+      stops z rs st m post goal t′ nil ms c w h b big lim f g = absurd (omega arith)
+      stops z rs st m post goal t′ (cons x xs) ms c w (more {a = a} {b = d} e h v) b big lim f g =
+          subst (λ o. EndsAll tab t′ post n r o) (sym (g ∙ ap (λ o. and-then o (λ us m. done (f us) m)) (normalise-cons rs big x xs u)))
+          (stop-go (d ++ post) post _ _ z (normalise-in rs (λ j. big (j + sizes xs)) x u) (next-of rs st m x xs a d post (w .0) h v (b ∙ ap (λ z. z ++ post) e) big lim) t′)
 
-      pub all-more : (p : Out) → p ≡ out (o .verdict) (o .units) (o .len + r .end) (o .end + r .end) → SettledAll tab rules lens number t (back (r .end) t₁ q) n len most units p
-      unfolding result
-      all-more p e =
+      same-back : length (back p t q) ≡ length t₀
+      same-back = back-length p t q fits (s .bounds .same) ∙ i .same
+
+      pub row-stop : (r .verdict ≡ 0 → ⊥) → SettledAll tab rules lens number t₀ (back p t q) n len most units r
+      row-stop z =
           let d = s .bounds in
-          let g = a .bounds in
-          subst (λ p. SettledAll tab rules lens number t (back (r .end) t₁ q) n len most units p) (sym e) (record {
+          record {
             bounds = record {
-              same = back-length (r .end) t₁ q fits (g .same) ∙ d .same;
-              known = g .known;
-              ends = let x = g .ends in omega arith;
-              small = let x = g .small in let y = d .ends in let z = d .small in omega arith;
-              cost = let x = g .cost in let y = d .cost in let z = d .ends in omega arith;
+              same = same-back;
+              known = d .known;
+              ends = d .ends;
+              small = let x = d .small in omega arith;
+              cost = let x = d .cost in let y = i .cost in omega arith;
             };
-            answer = λ rs st m xs post h e big lim. more-go rs st m xs post (h .marks) (h .wfs) (h .marked) (h .text) e big lim;
-          })
+            answer = λ rs st m xs post h e big lim.
+                let a = i .ahead rs st m xs post h e big lim in
+                stops z rs st m post (normalise-all rs big xs units) (back p t q) (a .todo) (a .held .marks) (a .number) (a .held .wfs) (a .held .marked) (a .held .text) (a .big) (a .limit) (a .behind) (a .answer);
+          }
+
+      -- it is normal
+      module _ (zr : r .verdict ≡ 0) where
+        on-done : (rs : List Rule) (post : List ℕ) (goal : Paid Terms) (xs : Terms) (ms : List ℕ) → suc (count xs) ≡ k → Wfs 32 tab xs → MarkedAll rs ms xs → (big : ℕ → Bool) → Limit big (most - p) post → (a : Ahead tab rs post t n most k p l u goal) →
+            (o : Paid Term) → EndsWith tab q (ms ++ post) r o → goal ≡ and-then (and-then o (λ y m. then-others rs big xs y m)) (λ us m. done (a .behind us) m) →
+            Ahead tab rs post (back p t q) n most (k - 1) (r .end + p) (r .len + p) (r .units) goal
+        unfolding and-then size sizes count Wfs cells-all
+        on-done rs post goal xs ms c w h big lim a (stop e j) f g = absurd (zero≢code e (sym zr ∙ f .0))
+        on-done rs post goal xs ms c w h big lim a (done y j) f g =
+            let e : r .end ≡ size y = f .2 in
+            let d = s .bounds in
+            let le : r .end ≤ r .len = d .ends in
+            let sm : r .len ≤ most - p = d .small in
+            let ly : length (cells y) ≡ r .end = length-cells y ∙ sym e in
+            let lp : length (take p t) ≡ p = length-take-le p t fits in
+            let head : take (r .end) q ≡ cells y = sym (take-take (r .end) (r .len) q le) ∙ ap (take (r .end)) (f .3) ∙ take-at (cells y) (ms ++ post) (r .end) ly in
+            let front : take (r .end + p) (back p t q) ≡ take p t ++ cells y = back-take p (r .end) t q fits ∙ ap (λ z. take p t ++ z) head in
+            let whole : take (r .len + p) (back p t q) ≡ (take p t ++ cells y) ++ (ms ++ post) = back-take p (r .len) t q fits ∙ ap (λ z. take p t ++ z) (f .3) ∙ sym (append-assoc (take p t) (cells y) (ms ++ post)) in
+            let lf : length (take p t ++ cells y) ≡ r .end + p = length-append (take p t) (cells y) ∙ omega arith in
+            record {
+              todo = xs;
+              big = λ j. big (size y + j);
+              limit = λ j.
+                  let v : size y + j + length post ≡ r .end + (j + length post) = omega arith in
+                  let z : most - p - r .end ≡ most - (r .end + p) = omega arith in
+                  lim (size y + j) ∙ ap (ltb (most - p)) v ∙ ltb-less (most - p) (j + length post) (r .end) (omega arith) ∙ ap (λ m. ltb m (j + length post)) z;
+              held = record {
+                wfs = w;
+                marks = ms;
+                marked = h;
+                text = part-take (r .end + p) (r .len + p) (back p t q) ∙ ap (drop (r .end + p)) whole ∙ drop-at (take p t ++ cells y) (ms ++ post) (r .end + p) lf;
+              };
+              number = omega arith;
+              behind = λ us. a .behind (cons y us);
+              answer = g ∙ and-behind (a .behind) y (normalise-all rs (λ j. big (size y + j)) xs j) ∙ ap (λ v. and-then (normalise-all rs (λ j. big (size y + j)) xs v) (λ us m. done (a .behind (cons y us)) m)) (sym (f .1));
+              behind-size = λ us. a .behind-size (cons y us) ∙ omega arith;
+              behind-count = λ us. (let v = a .behind-count (cons y us) in omega arith);
+              behind-wf = λ us v. a .behind-wf (cons y us) (f .4, v);
+              behind-cells = λ us. a .behind-cells (cons y us) ∙ sym (append-assoc (take p t) (cells y) (cells-all us)) ∙ ap (λ z. z ++ cells-all us) (sym front);
+            }
+
+        on-go : (rs : List Rule) → Stored tab rules lens 0 (sides-of rs) → number ≡ length rs → (post : List ℕ) (goal : Paid Terms) (a : Ahead tab rs post t n most k p l u goal) (todo : Terms) (ms : List ℕ) → count todo ≡ k → Wfs 32 tab todo → MarkedAll rs ms todo →
+            take (l - p) (part p t) ≡ ms ++ post → goal ≡ and-then (normalise-all rs (a .big) todo u) (λ us m. done (a .behind us) m) → Ahead tab rs post (back p t q) n most (k - 1) (r .end + p) (r .len + p) (r .units) goal
+        unfolding Wfs count
+        on-go rs st m post goal a nil ms c w h b g = absurd (omega arith)
+        on-go rs st m post goal a (cons x xs) ms c w (more {a = y} {b = d} e h v) b g =
+            on-done rs post goal xs d c (w .1) v (a .big) (a .limit) a (normalise-in rs (λ j. a .big (j + sizes xs)) x u) (next-of rs st m x xs y d post (w .0) h v (b ∙ ap (λ z. z ++ post) e) (a .big) (a .limit))
+            (g ∙ ap (λ o. and-then o (λ us m. done (a .behind us) m)) (normalise-cons rs (a .big) x xs u))
+
+        pub row-on : Row tab rules lens number t₀ n len most units (back p t q) (k - 1) (r .end + p) (r .len + p) (r .units)
+        row-on =
+            let d = s .bounds in
+            let pl = i .place in
+            let sl = i .small in
+            record {
+              same = same-back;
+              place = let x = d .ends in omega arith;
+              small = let x = d .small in omega arith;
+              cost = let x = d .cost in let y = i .cost in omega arith;
+              ahead = λ rs st m xs post h e big lim.
+                  let a = i .ahead rs st m xs post h e big lim in
+                  on-go rs st m post (normalise-all rs big xs units) a (a .todo) (a .held .marks) (a .number) (a .held .wfs) (a .held .marked) (a .held .text) (a .answer);
+            }

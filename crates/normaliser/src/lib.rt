@@ -180,19 +180,22 @@ fn settle_all(
     requires { ⌜ (len ≤ most) × (most ≤ length (now t)) × (most ≤ 120) ⌝ }
     ensures { λ r. ⌜ SettledAll (now (table .entry)) (now (rules .entry)) (now (lens .entry)) count (now (t .entry)) (now (t .exit)) n len most units r ⌝ }
 {
-    if n == 0 {
-        return ended(0, units, len, 0);
+    let mut k = n;
+    let mut p = 0;
+    let mut l = len;
+    let mut u = units;
+    while k > 0 {
+        let m = most - p;
+        let r = settle(&mut t[p..], l - p, m, table, rules, lens, count, u);
+        if r.verdict != 0 {
+            return r;
+        }
+        l = r.len + p;
+        p = r.end + p;
+        u = r.units;
+        k -= 1;
     }
-    let r = settle(t, len, most, table, rules, lens, count, units);
-    if r.verdict != 0 {
-        return r;
-    }
-    let e = r.end;
-    let l = r.len - e;
-    let m = most - e;
-    let u = r.units;
-    let s = settle_all(&mut t[e..], n - 1, l, m, table, rules, lens, count, u);
-    ended(s.verdict, s.units, s.len + e, s.end + e)
+    ended(0, u, l, p)
 }
 
 fn cell(b: u8) -> u16

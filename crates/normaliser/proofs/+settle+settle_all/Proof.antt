@@ -1,5 +1,5 @@
 -- `settle` and `settle_all` call each other; 1000 times the units and twice the cells in use (and 1 for `settle_all`) fall. Assumes nothing. The loop
--- of `settle`: the term at hand comes to what was asked; the units fall.
+-- of `settle`: the term at hand comes to what was asked; the units fall. That of `settle_all`: the terms still to do; their number falls.
 -- Read first: specs/Stored (Settled), proofs/Settling, proofs/Together.
 use borrow.Author.Needs.{needs}
 use Prim.Native.Nat.{ℕ, _<_}
@@ -24,7 +24,7 @@ use native.Mathlib.Omega.{arith}
 use Rattle.terms.specs.Scan.{owes}
 use Rattle.normaliser.proofs.Parts.{part-length}
 use Rattle.normaliser.proofs.Settling.{Turning, turn-start, turn-empty, turn-leave, turn-stop, turn-end, turn-less, turn-on, turn-room}
-use Rattle.normaliser.proofs.Together.{all-none, all-stop, all-more}
+use Rattle.normaliser.proofs.Together.{Row, row-start, row-end, row-stop, row-on}
 
 abbrev μ-settle : Measures 4 settle-kinds.ps ℕ
 μ-settle κs a =
@@ -59,8 +59,16 @@ settle-μ-loop t₀ len most table rules lens count units l₀ u₀ t l u =
 abbrev settle-cs : ℕ → settle-lts.Claims
 settle-cs t = (ended-reads.Asked, ended-reads.Learnt, leave-reads.Asked, leave-reads.Learnt, byte-of-reads.Asked, byte-of-reads.Learnt, owed-by-reads.Asked, owed-by-reads.Learnt, settle-all-below t, settle-all.Post, rewrite-reads.Asked, rewrite-reads.Learnt)
 
+abbrev settle-all-Inv-loop : settle-all-lts.InvT-loop
+settle-all-Inv-loop t₀ n len most table rules lens count units k₀ p₀ l₀ u₀ t k p l u =
+    Row table rules lens count t₀ n len most units t k p l u
+
+abbrev settle-all-μ-loop : settle-all-lts.MeasureT-loop
+settle-all-μ-loop t₀ n len most table rules lens count units k₀ p₀ l₀ u₀ t k p l u =
+    k
+
 abbrev settle-all-cs : ℕ → settle-all-lts.Claims
-settle-all-cs t = (ended-reads.Asked, ended-reads.Learnt, settle-below t, settle.Post, settle-all-below t, settle-all.Post)
+settle-all-cs t = (settle-below t, settle.Post, ended-reads.Asked, ended-reads.Learnt)
 
 settle-loop-holds : (t : ℕ) → settle-lts.Need-loop-holds (settle-cs t) (settle-at t) settle.Post settle-Inv-loop settle-μ-loop
 settle-loop-holds t c =
@@ -113,53 +121,57 @@ settle-loop-again : (t : ℕ) → settle-lts.Need-loop-again (settle-cs t) (sett
 settle-loop-again t c =
     turn-on _ _ _ _ _ _ _ _ _ _ _ (c .before .before .before .before .before .before .before .before .before .before .before .before .before .before .before .before .before .before .before .loop .inv) (c .before .before .before .before .before .before .before .before .before .before .before .before .before .before .before .before .before .before .if1 .left) (c .before .before .before .before .before .before .before .before .before .before .before .before .before .before .before .before .if2 .left) (let p = c .before .before .before .before .before .before .before .before .before .before .before .before .before .before .before .before .before .before .before .before .before .before .before .before .pre .1 .1 in let s = c .before .before .before .before .before .before .before .before .before .before .before .before .before .before .before .before .before .before .before .loop .inv .same in omega arith) _ (c .before .before .before .before .before .before .before .before .before .before .before .before .before .before .owed-by .ensures .0 ∙ ap (owes (c .before .before .before .before .before .before .before .before .before .before .before .before .before .before .before .before .before .before .before .before .before .before .before .before .args .table .now)) (c .before .before .before .before .before .before .before .before .before .before .before .before .before .before .before .byte-of .ensures)) _ _ (c .before .before .before .before .before .before .before .before .before .before .before .before .settle-all .ensures) (c .before .before .before .before .before .before .before .before .if3 .left) _ _ (c .before .before .before .before .rewrite .ensures) (let p = c .before .before .before .before .before .before .before .before .before .before .before .before .before .before .before .before .before .before .before .before .before .before .before .before .pre .1 .1 in omega arith) (c .if4 .left)
 
-settle-all-returns : (t : ℕ) → settle-all-lts.Need-returns (settle-all-cs t) (settle-all-at t) settle-all.Post
-settle-all-returns t c =
-    all-none _ _ _ _ _ _ _ _ _ (c .before .if1 .taken) (search needs) _ (c .ended .ensures)
+settle-all-loop-holds : (t : ℕ) → settle-all-lts.Need-loop-holds (settle-all-cs t) (settle-all-at t) settle-all.Post settle-all-Inv-loop settle-all-μ-loop
+settle-all-loop-holds t c =
+    row-start _ _ _ _ _ _ _ _ _ (search needs)
 
-settle-all-returns-2 : (t : ℕ) → settle-all-lts.Need-returns-2 (settle-all-cs t) (settle-all-at t) settle-all.Post
-settle-all-returns-2 t c =
-    all-stop _ _ _ _ _ _ _ _ _ (c .before .before .before .before .before .before .if1 .left) _ _ (c .before .before .before .before .settle .ensures) (c .if2 .taken)
-
-settle-all-settle-all-requires : (t : ℕ) → settle-all-lts.Need-settle-all-requires (settle-all-cs t) (settle-all-at t) settle-all.Post
-settle-all-settle-all-requires t c κs =
-    let p = c .before .before .before .before .before .before .before .before .before .before .before .before .before .pre in
-    let s = c .before .before .before .before .before .before .settle .ensures in
-    let d = s .bounds in
-    let f = s .first (c .before .before .if2 .left) in
-    let x = d .same in
-    let y = d .ends in
-    let z = d .small in
-    let k = d .cost in
-    let n = c .before .before .before .before .before .before .before .before .if1 .left in
-    let e = part-length (c .before .before .before .before .before .before .settle .result .end) (c .before .before .before .before .before .before .settle .last .0) in
+settle-all-settle-requires : (t : ℕ) → settle-all-lts.Need-settle-requires (settle-all-cs t) (settle-all-at t) settle-all.Post settle-all-Inv-loop settle-all-μ-loop
+settle-all-settle-requires t c κs =
+    let i = c .before .before .loop .inv in
+    let s = i .same in
+    let a = i .place in
+    let b = i .small in
+    let k = i .cost in
+    let p = c .before .before .before .before .before .before .before .pre in
+    let e = part-length (c .before .before .loop .p) (c .before .before .loop .t) in
     (omega arith, (p .1 .0, (omega arith, omega arith, omega arith)))
 
-settle-all-add-ended : (t : ℕ) → settle-all-lts.Need-add-ended (settle-all-cs t) (settle-all-at t) settle-all.Post
-settle-all-add-ended t c =
-    let p = c .before .before .before .before .before .before .before .before .before .before .before .before .before .before .before .before .before .pre .1 .1 in
-    let d = c .before .before .before .before .before .before .before .before .before .before .settle .ensures .bounds in
-    let y = d .ends in
+settle-all-same-length : (t : ℕ) → settle-all-lts.Need-same-length (settle-all-cs t) (settle-all-at t) settle-all.Post settle-all-Inv-loop settle-all-μ-loop
+settle-all-same-length t c =
+    row-stop _ _ _ _ _ _ _ _ _ (let p = c .before .before .before .before .before .before .before .before .before .before .before .before .pre .1 .1 in omega arith) _ _ _ _ _ (c .before .before .before .before .before .before .before .loop .inv) (c .before .before .before .before .before .before .loop-test .taken) _ _ (c .before .before .before .before .settle .ensures) (c .if1 .taken) .bounds .same
+
+settle-all-returns : (t : ℕ) → settle-all-lts.Need-returns (settle-all-cs t) (settle-all-at t) settle-all.Post settle-all-Inv-loop settle-all-μ-loop
+settle-all-returns t c =
+    row-stop _ _ _ _ _ _ _ _ _ (let p = c .before .before .before .before .before .before .before .before .before .before .before .before .pre .1 .1 in omega arith) _ _ _ _ _ (c .before .before .before .before .before .before .before .loop .inv) (c .before .before .before .before .before .before .loop-test .taken) _ _ (c .before .before .before .before .settle .ensures) (c .if1 .taken)
+
+settle-all-add-l : (t : ℕ) → settle-all-lts.Need-add-l (settle-all-cs t) (settle-all-at t) settle-all.Post settle-all-Inv-loop settle-all-μ-loop
+settle-all-add-l t c =
+    let q = c .before .before .before .before .before .before .before .before .before .before .before .before .before .pre .1 .1 in
+    let d = c .before .before .before .before .before .settle .ensures .bounds in
     let z = d .small in
-    let b = c .before .before .before .settle-all .ensures .bounds in
-    let v = b .ends in
-    let w = b .small in
+    let i = c .before .before .before .before .before .before .before .before .loop .inv in
+    let a = i .place in
+    let b = i .small in
     search needs
 
-settle-all-add-ended-2 : (t : ℕ) → settle-all-lts.Need-add-ended-2 (settle-all-cs t) (settle-all-at t) settle-all.Post
-settle-all-add-ended-2 t c =
-    let p = c .before .before .before .before .before .before .before .before .before .before .before .before .before .before .before .before .before .before .pre .1 .1 in
-    let d = c .before .before .before .before .before .before .before .before .before .before .before .settle .ensures .bounds in
+settle-all-add-p : (t : ℕ) → settle-all-lts.Need-add-p (settle-all-cs t) (settle-all-at t) settle-all.Post settle-all-Inv-loop settle-all-μ-loop
+settle-all-add-p t c =
+    let q = c .before .before .before .before .before .before .before .before .before .before .before .before .before .before .pre .1 .1 in
+    let d = c .before .before .before .before .before .before .settle .ensures .bounds in
     let y = d .ends in
     let z = d .small in
-    let b = c .before .before .before .before .settle-all .ensures .bounds in
-    let v = b .ends in
-    let w = b .small in
+    let i = c .before .before .before .before .before .before .before .before .before .loop .inv in
+    let a = i .place in
+    let b = i .small in
     search needs
 
-settle-all-returns-3 : (t : ℕ) → settle-all-lts.Need-returns-3 (settle-all-cs t) (settle-all-at t) settle-all.Post
-settle-all-returns-3 t c =
-    all-more _ _ _ _ _ _ _ _ _ (c .before .before .before .before .before .before .before .before .before .before .before .before .before .before .if1 .left) _ _ (c .before .before .before .before .before .before .before .before .before .before .before .before .settle .ensures) (c .before .before .before .before .before .before .before .before .if2 .left) (let p = c .before .before .before .before .before .before .before .before .before .before .before .before .before .before .before .before .before .before .before .pre .1 .1 in omega arith) _ _ (c .before .before .before .before .before .settle-all .ensures) _ (c .ended2 .ensures)
+settle-all-loop-again : (t : ℕ) → settle-all-lts.Need-loop-again (settle-all-cs t) (settle-all-at t) settle-all.Post settle-all-Inv-loop settle-all-μ-loop
+settle-all-loop-again t c =
+    row-on _ _ _ _ _ _ _ _ _ (let p = c .before .before .before .before .before .before .before .before .before .before .before .before .before .before .pre .1 .1 in omega arith) _ _ _ _ _ (c .before .before .before .before .before .before .before .before .before .loop .inv) (c .before .before .before .before .before .before .before .before .loop-test .taken) _ _ (c .before .before .before .before .before .before .settle .ensures) (c .before .before .if1 .left)
+
+settle-all-returns-2 : (t : ℕ) → settle-all-lts.Need-returns-2 (settle-all-cs t) (settle-all-at t) settle-all.Post settle-all-Inv-loop settle-all-μ-loop
+settle-all-returns-2 t c =
+    row-end _ _ _ _ _ _ _ _ _ (let p = c .before .before .before .before .before .before .before .pre .1 .1 in omega arith) _ _ _ _ _ (c .before .before .loop .inv) (search needs) _ (c .ended .ensures)
 
 pub +settle+settle-all-spec : {M : Type 1} → statement M
 +settle+settle-all-spec = close μ-settle μ-settle-all (λ t. settle-lts.spec (settle-cs t)
@@ -196,21 +208,23 @@ pub +settle+settle-all-spec : {M : Type 1} → statement M
     (settle-all-cs t)
     (settle-all-at t)
     settle-all.Post
-    (λ c κs. search needs)
+    settle-all-Inv-loop
+    settle-all-μ-loop
+    (settle-all-loop-holds t)
+    (λ c. search needs)
+    (λ c. search needs)
+    (λ c. search needs)
+    (λ c. search needs)
+    (λ c. search needs)
+    (λ c. search needs)
+    (settle-all-settle-requires t)
+    (settle-all-same-length t)
     (settle-all-returns t)
+    (settle-all-add-l t)
+    (settle-all-add-p t)
+    (λ c. search needs)
+    (λ c. search needs)
+    (settle-all-loop-again t)
     (λ c κs. search needs)
     (λ c. search needs)
     (settle-all-returns-2 t)
-    (λ c. search needs)
-    (λ c. search needs)
-    (λ c. search needs)
-    (λ c. search needs)
-    (λ c. search needs)
-    (λ c. search needs)
-    (λ c. search needs)
-    (settle-all-settle-all-requires t)
-    (settle-all-add-ended t)
-    (settle-all-add-ended-2 t)
-    (λ c κs. search needs)
-    (λ c. search needs)
-    (settle-all-returns-3 t)
