@@ -83,12 +83,12 @@ module _ (tab rules lens : List ℕ) (number : ℕ) (t₀ : List ℕ) (n len mos
     fits = let a = i .same in let b = i .place in let c = i .small in omega arith
 
     -- no term is left
-    end-go : (rs : List Rule) (post : List ℕ) (goal : Paid Terms) → k ≡ 0 → Ahead tab rs post t n most k p l u goal → (todo : Terms) (ms : List ℕ) → count todo ≡ k → MarkedAll rs ms todo → take (l - p) (part p t) ≡ ms ++ post →
-        (big : ℕ → Bool) → (behind : Terms → Terms) → behind nil ≡ behind nil → goal ≡ and-then (normalise-all rs big todo u) (λ us m. done (behind us) m) →
+    end-go : (rs : List Rule) (post : List ℕ) (goal : Paid Terms) → k ≡ 0 → (todo : Terms) (ms : List ℕ) → count todo ≡ k → MarkedAll rs ms todo → take (l - p) (part p t) ≡ ms ++ post →
+        (big : ℕ → Bool) (behind : Terms → Terms) → goal ≡ and-then (normalise-all rs big todo u) (λ us m. done (behind us) m) →
         sizes (behind nil) ≡ p + sizes nil → count (behind nil) + k ≡ n + count nil → Wfs 32 tab (behind nil) → cells-all (behind nil) ≡ take p t ++ cells-all nil → EndsAll tab t post n (out 0 u l p) goal
     unfolding count sizes cells-all and-then
-    end-go rs post goal z a (cons x xs) ms c h b big f r g s d w e = absurd (omega arith)
-    end-go rs post goal z a nil ms c (no-more q) b big f r g s d w e =
+    end-go rs post goal z (cons x xs) ms c h b big f g s d w e = absurd (omega arith)
+    end-go rs post goal z nil ms c (no-more q) b big f g s d w e =
         let v : goal ≡ done (f nil) u = g ∙ ap (λ o. and-then o (λ us m. done (f us) m)) (normalise-nil rs big u) in
         let y : drop p (take l t) ≡ post = sym (part-take p l t) ∙ b ∙ ap (λ z. z ++ post) q in
         let x : take p (take l t) ≡ cells-all (f nil) = take-take p l t (i .place) ∙ sym (append-nil (take p t)) ∙ sym e in
@@ -100,7 +100,7 @@ module _ (tab rules lens : List ℕ) (number : ℕ) (t₀ : List ℕ) (n len mos
       bounds = record { same = i .same; known = omega arith; ends = i .place; small = i .small; cost = i .cost };
       answer = λ rs st m xs post h e big lim.
           let a = i .ahead rs st m xs post h e big lim in
-          end-go rs post (normalise-all rs big xs units) z a (a .todo) (a .held .marks) (a .number) (a .held .marked) (a .held .text) (a .big) (a .behind) refl (a .answer) (a .behind-size nil) (a .behind-count nil) (a .behind-wf nil tt) (a .behind-cells nil);
+          end-go rs post (normalise-all rs big xs units) z (a .todo) (a .held .marks) (a .number) (a .held .marked) (a .held .text) (a .big) (a .behind) (a .answer) (a .behind-size nil) (a .behind-count nil) (a .behind-wf nil tt) (a .behind-cells nil);
     })
 
     -- the next term
