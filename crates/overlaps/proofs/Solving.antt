@@ -4,7 +4,9 @@ use mathlib.Core.Path.{_≡_, refl, sym, ap, ap₂, subst, _∙_}
 use mathlib.Core.Bool.{Bool, true, false, not}
 use mathlib.Core.List.{List, [], _∷_, _++_, append-assoc, append-nil}
 use mathlib.Core.Option.{Option, none, some}
-use Prim.Native.Nat.{ℕ, zero, suc, _+_, _<_}
+use Prim.Native.Nat.{ℕ, zero, suc, _+_, _-_, _≤_, _<_}
+use lib.ListN.{length, take, drop, replicate, length-replicate}
+use lib.Seq.{length-take-le}
 use native.Mathlib.Omega.{arith}
 use lib.Dec.{ltb}
 use Rattle.terms.specs.Base.{is-some}
@@ -187,3 +189,12 @@ module _ (l tab : List ℕ) (p n a b : ℕ) (L R L′ R′ : List ℕ) (ends cs 
             solved-says l tab p n a b x y z w f h en ea eb t q ends cs zs L′ R′ TooLarge k
             (λ x′ y′ z′ u v j. large-says L′ R′ s y′ z′ (ltb 120 (size x′)) (ltb 120 (size y′)) (ltb 120 (size z′)) (g .answer x′ y′ z′ u v j) e);
       }
+
+-- a part of a buffer of 600
+part-of : (d : List ℕ) (n : ℕ) → n ≤ length d → n ≤ length (take (n - 0) (drop 0 d))
+part-of d n h =
+    let z : n - 0 ≡ n = omega arith in
+    omega (arith, ap (λ k. length (take k d)) z, length-take-le n d h)
+
+pub part-long : (n : ℕ) → n ≤ 600 → n ≤ length (take (n - 0) (drop 0 (replicate {A = ℕ} 600 0)))
+part-long n h = part-of (replicate 600 0) n (omega (arith, length-replicate {A = ℕ} 600 0))

@@ -1,0 +1,38 @@
+-- `solve`: parts of its buffers as long as the nodes are enough for `solve_in`, whose answer it passes on. Assumes nothing.
+-- Read first: specs/Answer (Solves), proofs/Solving.
+use Rattle.overlaps.proofs.Solving.{part-long}
+use borrow.Author.Needs.{needs}
+use Rattle.overlaps.proofs.solve.Statement.{statement}
+use Rattle.overlaps.proofs.solve.Tie as tie
+use Rattle.overlaps.proofs.solve.Reads as reads
+use Rattle.overlaps.proofs.solve.Lts as lts
+
+solve-in-requires : tie.Need-solve-in-requires
+solve-in-requires c κs = let h = part-long _ (c .before .before .before .before .before .before .before .before .before .pre .0 .0) in (c .before .before .before .before .before .before .before .before .before .pre .0, ((h, h, h), c .before .before .before .before .before .before .before .before .before .pre .1))
+
+same-length : tie.Need-same-length
+same-length c = c .before .before .before .before .before .before .before .solve-in .ensures .kept .left
+
+same-length-2 : tie.Need-same-length-2
+same-length-2 c = c .before .before .before .before .before .before .before .solve-in .ensures .kept .right
+
+returns : tie.Need-returns
+returns c = c .before .before .before .before .before .before .before .solve-in .ensures
+
+pub solve-spec : {M : Type 1} → statement M
+solve-spec =
+    tie.close
+    (tie.spec
+    (λ c. search needs)
+    (λ c. search needs)
+    (λ c. search needs)
+    (λ c. search needs)
+    (λ c. search needs)
+    (λ c. search needs)
+    (λ c. search needs)
+    (λ c. search needs)
+    (λ c. search needs)
+    solve-in-requires
+    same-length
+    same-length-2
+    returns)
