@@ -2,11 +2,10 @@
 -- Read first: specs/Sifting (Removes), proofs/Siftings.
 use Rattle.collapse.proofs.Siftings.{removes}
 use Rattle.store.proofs.Patching.{part-is}
-use lib.ListN.{length, take, drop}
-use lib.Seq.{length-take-le}
+use lib.ListN.{take, drop}
 use native.Mathlib.Omega.{arith}
 use mathlib.Core.Path.{_∙_, ap}
-use Prim.Native.Nat.{_+_, _-_, _*_, _≤_}
+use Prim.Native.Nat.{_*_}
 use borrow.Author.Needs.{needs}
 use Rattle.collapse.proofs.rewrites.Statement.{statement}
 use Rattle.collapse.proofs.rewrites.Tie as tie
@@ -23,13 +22,11 @@ part-reducible-end c =
     search needs
 
 -- a left side has at most 120 bytes
-asked : tie.Need-reducible-requires
-asked c κs =
-    let i = c .before .before .before .before .before .before .before .before .args .i in
-    let t = c .before .before .before .before .before .before .before .before .pre .0 .short (2 * i) (omega arith) in
+reducible-requires : tie.Need-reducible-requires
+reducible-requires c κs =
+    let s = c .before .before .before .before .before .before .before .before .pre .0 .slots in
+    let t = c .before .before .before .before .before .before .before .before .pre .0 .short (2 * (c .before .before .before .before .before .before .before .before .args .i)) (omega arith) in
     let w = c .before .wide .ensures .0 in
-    let n = length-take-le (240 * i + (c .before .wide .result) - 240 * i) (drop (240 * i) (c .before .before .before .before .before .before .before .before .args .rules .now)) in
-    let q : length (take (240 * i + (c .before .wide .result) - 240 * i) (drop (240 * i) (c .before .before .before .before .before .before .before .before .args .rules .now))) ≤ 120 = omega arith in
     search needs
 
 returns : tie.Need-returns
@@ -48,5 +45,5 @@ rewrites-spec =
     (λ c. search needs)
     (λ c. search needs)
     part-reducible-end
-    asked
+    reducible-requires
     returns)
