@@ -19,7 +19,7 @@ returns : tie.Need-returns
 returns c = overlap-beyond _ _ _ _ _ _ _ _ _ (c .before .side .ensures .0) (c .if1 .taken)
 
 returns-2 : tie.Need-returns-2
-returns-2 c = overlap-open _ _ _ _ _ _ _ _ _ (c .before .before .before .side .ensures .0) (c .if2 .taken)
+returns-2 c = overlap-open _ _ _ _ _ _ _ _ _ (c .before .before .before .side .ensures .0) (omega (arith, c .if2 .taken))
 
 side-requires-2 : tie.Need-side-requires-2
 side-requires-2 c κs = side-there _ _ _ _ _ (c .before .before .before .before .before .before .before .before .before .pre .0 .1) (omega arith)
@@ -37,7 +37,7 @@ meet-requires : tie.Need-meet-requires
 meet-requires c κs = ((c .before .before .before .side3 .ensures .1, c .before .before .side4 .ensures .1, c .before .before .before .before .before .before .before .before .before .side .ensures .1, c .before .before .before .before .before .side2 .ensures .1), ((c .before .before .before .before .before .before .before .before .if1 .left, omega (arith, c .before .before .before .before .if3 .left)), c .before .before .before .before .before .before .before .before .before .before .before .before .before .before .before .pre .1))
 
 returns-4 : tie.Need-returns-4
-returns-4 c = overlap-met _ _ _ _ _ _ _ _ _ (c .before .before .before .before .before .before .before .before .before .before .before .before .before .before .side .ensures .0) _ (c .before .before .before .before .before .before .before .before .before .before .side2 .ensures .0) (c .before .before .before .before .before .before .before .before .before .before .before .if2 .left) (c .before .before .before .before .before .before .before .before .before .before .before .before .before .if1 .left) _ _ (c .before .before .before .before .before .before .before .before .side3 .ensures .0) (c .before .before .before .before .before .before .before .side4 .ensures .0) _ _ _ (c .before .before .before .before .meet .ensures)
+returns-4 c = overlap-met _ _ _ _ _ _ _ _ _ (c .before .before .before .before .before .before .before .before .before .before .before .before .before .before .side .ensures .0) _ (c .before .before .before .before .before .before .before .before .before .before .side2 .ensures .0) (omega (arith, c .before .before .before .before .before .before .before .before .before .before .before .if2 .left)) (c .before .before .before .before .before .before .before .before .before .before .before .before .before .if1 .left) _ _ (c .before .before .before .before .before .before .before .before .side3 .ensures .0) (c .before .before .before .before .before .before .before .side4 .ensures .0) _ _ _ (c .before .before .before .before .meet .ensures)
 
 pub overlap-spec : {M : Type 1} → statement M
 overlap-spec =
