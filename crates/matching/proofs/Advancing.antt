@@ -14,15 +14,12 @@ use lib.Seq.{getD-set-same, getD-set-other, take-suc, take-all}
 use Rattle.terms.specs.Base.{if_then_else_}
 use Rattle.terms.specs.Term.{Term, size, same}
 use Rattle.terms.proofs.Places.{size-pos}
-use Rattle.terms.proofs.Shape.{Says, eqb-says, same-says}
+use Rattle.terms.proofs.Shape.{none≢some, Says, eqb-says, Decides, same-says}
 use Rattle.unify.specs.Unify.{Binding}
 use Rattle.rewriting.specs.Rewrite.{bound, bind-to}
 use Rattle.matching.specs.Cells.{cells, Stands}
 use Rattle.matching.specs.Held.{Slot, Rep, Spot, Within, Again, BoundTo, Advanced}
 use Rattle.matching.proofs.Celled.{cells-unique, stands-size, stands-run, stands-length}
-
-abbrev pub Tells : Bool → Type 0 → Type 0
-Tells r P = (r ≡ true → P) × (P → r ≡ true)
 
 slot-free : (tab T : List ℕ) (n k : ℕ) (o : Option Term) → k ≡ 0 → Slot tab T n k o → o ≡ none
 slot-free tab T n zero none e s = refl
@@ -55,7 +52,7 @@ module _ (T : List ℕ) (a j n e : ℕ) (l : j < length T) (nn : n ≡ getD T a 
     other = λ tab m u v s o q. refl;
   }
 
-  module _ (r : Bool) (t : Tells r (take (a + n - a) (drop a T) ≡ take (e - j) (drop j T))) where
+  module _ (r : Bool) (t : Decides r (take (a + n - a) (drop a T) ≡ take (e - j) (drop j T))) where
     tells : (tab : List ℕ) (m : ℕ) (u v : Term) → Stands tab T m j u → Stands tab T m a v → v ≡ u → r ≡ true
     tells tab m u v s o q =
         let g : n ≡ size v = nn ∙ stands-size tab T m a v o in
@@ -184,7 +181,7 @@ module _ (T : List ℕ) (b j : ℕ) (B : List ℕ) (w : Within T B) (l : j < len
           free-bound : (tab : List ℕ) (m : ℕ) (u : Term) (bs : List Binding) → Stands tab T m j u → Rep tab T m B bs → (o : Option Term) → o ≡ none → BoundTo tab T m j u (j + n) (set B x (j + 1)) (bind-to x u bs o)
           unfolding bind-to bound
           free-bound tab m u bs s r none z = (ap (λ k. j + k) (nn ∙ stands-size tab T m j u s), λ y g. free-go tab m u bs s r y g (eqb y x) (eqb-says y x))
-          free-bound tab m u bs s r (some a) z = absurd (let i : _≡_ {A = ℕ} 0 1 = cc in omega arith)
+          free-bound tab m u bs s r (some a) z = absurd (none≢some (sym z))
 
           pub adv-free : getD B x 0 ≡ 0 → Advanced T b j B (j + n) (set B x (j + 1))
           adv-free z = record {

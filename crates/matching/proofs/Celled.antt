@@ -1,7 +1,7 @@
 -- A term's cells: one a node; the root's gives its byte and its size; they determine the term. What stands at a place of cells. Assumes nothing.
 -- Read first: specs/Cells.
 use mathlib.Core.Path.{_≡_, refl, sym, _∙_, ap, ap₂}
-use mathlib.Core.List.{List, [], _∷_, _++_}
+use mathlib.Core.List.{List, [], _∷_, _++_, map-append}
 use Prim.Native.Nat.{ℕ, suc, _+_, _-_, _*_, _/_, _%_, _<_}
 use native.Mathlib.Omega.{arith}
 use lib.ListN.{length, getD, drop, take, length-append, length-drop}
@@ -46,8 +46,7 @@ length-below x = sym (ap length (cells-root x)) ∙ length-cells x
 -- the bytes of cells
 pub bytes-append : (l m : List ℕ) → node-bytes (l ++ m) ≡ node-bytes l ++ node-bytes m
 unfolding node-bytes
-bytes-append [] m = refl
-bytes-append (c ∷ l) m = ap (λ z. (c % 256) ∷ z) (bytes-append l m)
+bytes-append l m = map-append (λ c. c % 256) l m
 
 mutual
   unfolding cells term-bytes node-bytes Wf

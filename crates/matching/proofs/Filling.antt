@@ -8,35 +8,35 @@ use native.Mathlib.Omega.{arith}
 use native.Mathlib.Numerals.{add-one}
 use lib.Dec.{ltb}
 use borrow.Author.Tests.{lt-ltb, le-ltb, ltb-true}
-use lib.ListN.{length, getD, drop, take, set, length-set, length-append, length-drop, drop-of-length-le}
-use lib.Seq.{drop-cons, take-all, take-suc-set, length-take-le, take-length, paste, paste-zero, paste-suc, length-paste, take-paste}
+use lib.ListN.{length, getD, drop, take, set, length-set, length-append, drop-of-length-le}
+use lib.Seq.{drop-cons, take-suc-set, length-take-le, take-length, paste, paste-zero, paste-suc, length-paste, take-paste}
+use Rattle.terms.specs.Base.{if_then_else_}
+use Rattle.terms.proofs.Starts.{from-drop}
 use Rattle.matching.specs.Held.{Spot, Within}
-use Rattle.matching.specs.Pieces.{pickℕ, slot-of, first-cell, piece-at, piece, pieces, Put}
+use Rattle.matching.specs.Pieces.{slot-of, first-cell, piece-at, piece, pieces, Put}
+use Rattle.matching.proofs.Clearing.{free-spot}
 
 -- `slot`
 pub slot-symbol : (B : List ℕ) (b : ℕ) → b < 128 → slot-of B b ≡ 0
-unfolding slot-of
+unfolding slot-of if_then_else_
 slot-symbol B b h = rw (lt-ltb b 128 h)
 
 pub slot-high : (B : List ℕ) (b x : ℕ) → 128 ≤ b → x ≡ b - 128 → 16 ≤ x → slot-of B b ≡ 0
-unfolding slot-of
+unfolding slot-of if_then_else_
 slot-high B b x h e k = rw (le-ltb b 128 h, ← e, le-ltb x 16 k)
 
 pub slot-variable : (B : List ℕ) (b x : ℕ) → 128 ≤ b → x ≡ b - 128 → x < 16 → slot-of B b ≡ getD B x 0
-unfolding slot-of
+unfolding slot-of if_then_else_
 slot-variable B b x h e k = rw (le-ltb b 128 h, ← e, lt-ltb x 16 k)
 
 -- a byte's place is one of those that B holds, or 0
 pub slot-spot : (T B : List ℕ) (b k : ℕ) → Within T B → k ≡ slot-of B b → Spot T k
-unfolding slot-of
+unfolding slot-of if_then_else_
 slot-spot T B b k w e = go (ltb b 128) (ltb (b - 128) 16) refl e
   where
-    free : k ≡ 0 → Spot T k
-    free z = record { place = omega arith; sized = λ n. absurd (n z); inside = λ n. absurd (n z) }
-
-    go : (p q : Bool) → ltb (b - 128) 16 ≡ q → k ≡ pickℕ p 0 (pickℕ q (getD B (b - 128) 0) 0) → Spot T k
-    go true q g d = free d
-    go false false g d = free d
+    go : (p q : Bool) → ltb (b - 128) 16 ≡ q → k ≡ (if p then 0 else if q then getD B (b - 128) 0 else 0) → Spot T k
+    go true q g d = free-spot T k d
+    go false false g d = free-spot T k d
     go false true g d = subst (λ z. Spot T z) (sym d) (w (b - 128) (ltb-true (b - 128) 16 g))
 
 -- `first`
@@ -51,8 +51,8 @@ first-later zero c n = absurd (n refl)
 first-later (suc a) c n = refl
 
 -- `put_run` and `put_cell`
-pub put-over : (out : List ℕ) (w most : ℕ) (p : List ℕ) → most - w < length p → w ≤ most → Put out out w most (most + 1) p
-put-over out w most p h k = record { same = refl; next = λ l. absurd (omega arith); cells = λ l. absurd (omega arith); over = λ l. omega arith }
+pub put-over : (out : List ℕ) (w most : ℕ) (p : List ℕ) → most - w < length p → Put out out w most (most + 1) p
+put-over out w most p h = record { same = refl; next = λ l. absurd (omega arith); cells = λ l. absurd (omega arith); over = λ l. omega arith }
 
 pub put-cell : (out : List ℕ) (w most c : ℕ) → w < most → most ≤ length out → Put out (set out w c) w most (w + 1) (c ∷ [])
 put-cell out w most c h k = record {
@@ -166,7 +166,7 @@ module _ (T B right out₀ out : List ℕ) (most i w : ℕ) (f : Filled T B righ
   pub fill-done : length right ≤ i → (end : ℕ) (out′ : List ℕ) (r : ℕ) → Put out out′ w most r (take (length T - end) (drop end T)) → Put out₀ out′ 0 most r (pieces T B right ++ drop end T)
   unfolding pieces
   fill-done h end out′ r p =
-      let d : take (length T - end) (drop end T) ≡ drop end T = take-all (length T - end) (drop end T) (omega (arith, length-drop end T)) in
+      let d : take (length T - end) (drop end T) ≡ drop end T = from-drop T end in
       let e : take w out ≡ pieces T B right = sym (append-nil (take w out)) ∙ ap (λ z. take w out ++ pieces T B z) (sym (drop-of-length-le right h)) ∙ f .so-far in
       let lw : length (take w out) ≡ w = length-take-le w out (let q = f .room in let s = f .same in omega arith) in
       let n : length (pieces T B right ++ drop end T) ≡ w + length (drop end T) = length-append (pieces T B right) (drop end T) ∙ ap (λ z. z + length (drop end T)) (sym (ap length e) ∙ lw) in

@@ -2,7 +2,7 @@
 -- Read first: specs/Held (Rep, Advanced, Matched), proofs/Celled, rewriting/specs/Rewrite (matching).
 use mathlib.Core.Path.{_≡_, refl, sym, _∙_, ap, subst}
 use mathlib.Core.Bool.{Bool, true, false}
-use mathlib.Core.List.{List, [], _∷_, _++_, append-assoc, append-nil}
+use mathlib.Core.List.{List, [], _∷_, _++_, append-assoc, append-nil, nil≢cons}
 use mathlib.Core.Option.{Option, none, some}
 use Prim.Native.Nat.{ℕ, zero, suc, _+_, _*_, _%_, _<_, _≤_}
 use native.Mathlib.Omega.{arith}
@@ -21,6 +21,7 @@ use Rattle.rewriting.specs.Rewrite.{bound, bind-to, matching, matching-all}
 use Rattle.matching.specs.Cells.{cells, cells-all, Stands}
 use Rattle.matching.specs.Held.{Slot, Rep, Within, Cleared, BoundTo, Advanced, Answers, Matched}
 use Rattle.matching.proofs.Celled.{length-cells, cell-byte}
+use Rattle.matching.proofs.Clearing.{cleared-within}
 
 unfoldable pub join : Terms → Terms → Terms
 join nil us = us
@@ -109,15 +110,12 @@ goes-start left T B c tab l x w e s = record {
   answer = after-some (matching l x []) (λ q. matching-all nil nil q) (λ q. refl);
 }
 
-apart : {b : ℕ} {l : List ℕ} → [] ≡ b ∷ l → ⊥
-apart e = let z : _≡_ {A = ℕ} 0 1 = cc in omega arith
-
 done-go : (tab T : List ℕ) (n : ℕ) (B : List ℕ) (ls xs : Terms) (bs : List Binding) (m : Option (List Binding)) → [] ≡ terms-bytes ls → count ls ≡ count xs → Rep tab T n B bs → matching-all ls xs bs ≡ m → Answers tab T n true B m
 unfolding terms-bytes term-bytes count matching-all
 done-go tab T n B nil nil bs m e c r a = subst (λ z. Answers tab T n true B z) a (refl, r)
 done-go tab T n B nil (cons x xs) bs m e c r a = absurd (omega arith)
-done-go tab T n B (cons (var y) ls) xs bs m e c r a = absurd (apart e)
-done-go tab T n B (cons (node f ps) ls) xs bs m e c r a = absurd (apart e)
+done-go tab T n B (cons (var y) ls) xs bs m e c r a = absurd (nil≢cons e)
+done-go tab T n B (cons (node f ps) ls) xs bs m e c r a = absurd (nil≢cons e)
 
 pub goes-done : (left T : List ℕ) (i j : ℕ) (B₀ B : List ℕ) → length left ≤ i → length B ≡ length B₀ → Within T B → Goes left T i j B → Matched left T B₀ true B
 goes-done left T i j B₀ B h s w g = record {
@@ -128,10 +126,10 @@ goes-done left T i j B₀ B h s w g = record {
 
 none-left : (b : ℕ) (p : List ℕ) (ls xs : Terms) (rest : List ℕ) → b ∷ p ≡ terms-bytes ls → count ls ≡ count xs → [] ≡ cells-all xs ++ rest → ⊥
 unfolding terms-bytes term-bytes cells-all cells count
-none-left b p nil xs rest e n d = apart (sym e)
+none-left b p nil xs rest e n d = nil≢cons (sym e)
 none-left b p (cons l ls) nil rest e n d = omega arith
-none-left b p (cons l ls) (cons (var y) xs) rest e n d = apart d
-none-left b p (cons l ls) (cons (node f ys) xs) rest e n d = apart d
+none-left b p (cons l ls) (cons (var y) xs) rest e n d = nil≢cons d
+none-left b p (cons l ls) (cons (node f ys) xs) rest e n d = nil≢cons d
 
 pub goes-over : (left T : List ℕ) (i j : ℕ) (B₀ B : List ℕ) → i < length left → length T ≤ j → length B ≡ length B₀ → Within T B → Goes left T i j B → Matched left T B₀ false B
 goes-over left T i j B₀ B h k s w g = record {
@@ -210,7 +208,7 @@ module _ (tab left T : List ℕ) (n i j : ℕ) (B : List ℕ) (r : ℕ) (B′ : 
   turn-go : (ls xs : Terms) (bs : List Binding) → Wfs 16 tab ls → Wfs 32 tab xs → count ls ≡ count xs → getD left i 0 ∷ drop (suc i) left ≡ terms-bytes ls →
       getD T j 0 ∷ drop (suc j) T ≡ cells-all xs ++ rest → drop j T ≡ cells-all xs ++ rest → Rep tab T n B bs → matching-all ls xs bs ≡ m → Turned tab left T n i r B′ m
   unfolding terms-bytes term-bytes cells-all cells Wfs Wf count matching-all matching
-  turn-go nil xs bs w v c p s s′ o q = absurd (apart (sym p))
+  turn-go nil xs bs w v c p s s′ o q = absurd (nil≢cons (sym p))
   turn-go (cons l ls) nil bs w v c p s s′ o q = absurd (omega arith)
   turn-go (cons (var y) ls) (cons x xs) bs w v c p s s′ o q =
       let st : Stands tab T n j x = stands x xs (v .0) (s′ ∙ append-assoc (cells x) (cells-all xs) rest) in
@@ -243,9 +241,6 @@ module _ (left T : List ℕ) (i j : ℕ) (B : List ℕ) (r : ℕ) (B′ : List �
     within = a .within;
     answer = λ tab l x w e s. subst (λ o. Answers tab T (size x) false B′ o) (sym (turn tab left T (size x) i j B r B′ h k a (matching l x []) (g tab l x w e s) .0 z)) refl;
   }
-
-cleared-within : (T B : List ℕ) → Cleared B → Within T B
-cleared-within T B c x h = let e : getD B x 0 ≡ 0 = c x h in record { place = omega arith; sized = λ n. absurd (n e); inside = λ n. absurd (n e) }
 
 -- what the loop keeps
 pub record Here (left T B₀ B : List ℕ) (i j : ℕ) : Type 0 where

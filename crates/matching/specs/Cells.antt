@@ -1,6 +1,6 @@
 -- Terms in cells: a node's byte, and 256 times the size of its subterm. Assumes nothing.
 use mathlib.Core.Path.{_≡_}
-use mathlib.Core.List.{List, [], _∷_, _++_}
+use mathlib.Core.List.{List, [], _∷_, _++_, map}
 use Prim.Native.Nat.{ℕ, suc, _+_, _*_, _%_, _≤_}
 use lib.ListN.{drop}
 use Rattle.terms.specs.Term.{Term, Terms, var, node, nil, cons, size, sizes}
@@ -33,5 +33,4 @@ pub record Stands (tab T : List ℕ) (n k : ℕ) (u : Term) : Type 0 where
 
 -- the nodes' bytes
 unfoldable pub node-bytes : List ℕ → List ℕ
-node-bytes [] = []
-node-bytes (c ∷ l) = (c % 256) ∷ node-bytes l
+node-bytes l = map (λ c. c % 256) l

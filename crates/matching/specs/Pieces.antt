@@ -1,18 +1,14 @@
 -- A right side's instance in cells: what stands for each byte, and cells put into a buffer. Assumes nothing.
 use mathlib.Core.Path.{_≡_}
-use mathlib.Core.Bool.{Bool, true, false}
 use mathlib.Core.List.{List, [], _∷_, _++_}
 use Prim.Native.Nat.{ℕ, zero, suc, _+_, _-_, _/_, _%_, _<_, _≤_}
 use lib.Dec.{ltb}
 use lib.ListN.{length, getD, drop, take}
-
-abbrev pub pickℕ : Bool → ℕ → ℕ → ℕ
-pickℕ true a b = a
-pickℕ false a b = b
+use Rattle.terms.specs.Base.{if_then_else_}
 
 -- the place plus one of a variable's term, or 0
 unfoldable pub slot-of : List ℕ → ℕ → ℕ
-slot-of B b = pickℕ (ltb b 128) 0 (pickℕ (ltb (b - 128) 16) (getD B (b - 128) 0) 0)
+slot-of B b = if ltb b 128 then 0 else if ltb (b - 128) 16 then getD B (b - 128) 0 else 0
 
 -- the first cell c of the term at a: at 0 stands the redex, which is not normal
 unfoldable pub first-cell : ℕ → ℕ → ℕ

@@ -3,7 +3,7 @@
 ghost use mathlib.Core.Path.{_≡_};
 ghost use mathlib.Core.Bool.{true};
 ghost use mathlib.Core.List.{[], _∷_, _++_};
-ghost use Prim.Native.Nat.{ℕ, _+_, _*_, _/_, _%_, _<_, _≤_};
+ghost use Prim.Native.Nat.{_+_, _*_, _/_, _%_, _<_, _≤_};
 ghost use lib.ListN.{length, getD, drop, take};
 ghost use Rattle.matching.specs.Held.{Within, Cleared, Again, Advanced, Matched};
 ghost use Rattle.matching.specs.Pieces.{Put, slot-of, first-cell, piece, pieces, replaced};

@@ -8,7 +8,7 @@ use Rattle.matching.proofs.put_cell.Lts as lts
 use Rattle.matching.proofs.Filling.{put-over, put-cell}
 
 returns : tie.Need-returns
-returns c = put-over _ _ _ _ (search needs) (search needs)
+returns c = put-over _ _ _ _ (search needs)
 
 returns-2 : tie.Need-returns-2
 returns-2 c = put-cell _ _ _ _ (search needs) (search needs)

@@ -19,7 +19,7 @@ abbrev μ-loop : tie.MeasureT-loop
     length run - i
 
 returns : tie.Need-returns Inv-loop μ-loop
-returns c = put-over _ _ _ _ (search needs) (search needs)
+returns c = put-over _ _ _ _ (search needs)
 
 loop-holds : tie.Need-loop-holds Inv-loop μ-loop
 loop-holds c = paste-start _ _ _ (search needs)

@@ -1,7 +1,6 @@
 -- `replace`: too long for the buffer (`replace-over`), or put back (`replace-done`). Assumes nothing.
 -- Read first: specs/Pieces (replaced), proofs/Replacing.
 use Rattle.matching.proofs.Replacing.{take-less-zero, part-within, contracted, replace-over, replace-done}
-use native.Mathlib.Omega.{arith}
 use borrow.Author.Needs.{needs}
 use Rattle.matching.proofs.replace.Statement.{statement}
 use Rattle.matching.proofs.replace.Tie as tie
@@ -17,7 +16,7 @@ returns : tie.Need-returns
 returns c = let a = c .before .before .before .before .before .before .before .before .before .args in replace-over _ _ _ _ _ _ _ (contracted (a .t .now) (a .binds .now) _ (a .right .now) (a .len) (a .end) (take-less-zero (a .len) (a .t .now))) (c .before .before .contract .ensures) (c .if1 .taken)
 
 returns-2 : tie.Need-returns-2
-returns-2 c = let a = c .before .before .before .before .before .before .before .before .before .before .before .before .before .before .before .args in replace-done _ _ _ _ _ _ _ (contracted (a .t .now) (a .binds .now) _ (a .right .now) (a .len) (a .end) (take-less-zero (a .len) (a .t .now))) (c .before .before .before .before .before .before .before .before .contract .ensures) (c .before .before .before .before .before .before .if1 .left) (let p = c .before .before .before .before .before .before .before .before .before .before .before .before .before .before .before .pre .0 in omega arith) _ _ (c .before .before .put-run .ensures)
+returns-2 c = let a = c .before .before .before .before .before .before .before .before .before .before .before .before .before .before .before .args in replace-done _ _ _ _ _ _ _ (contracted (a .t .now) (a .binds .now) _ (a .right .now) (a .len) (a .end) (take-less-zero (a .len) (a .t .now))) (c .before .before .before .before .before .before .before .before .contract .ensures) (c .before .before .before .before .before .before .if1 .left) _ _ (c .before .before .put-run .ensures)
 
 pub replace-spec : {M : Type 1} → statement M
 replace-spec =
