@@ -109,15 +109,19 @@ module _ (T : List ℕ) (b j : ℕ) (B : List ℕ) (w : Within T B) (l : j < len
   }
 
   module _ (x : ℕ) (p : x ≡ b - 128) (q : 128 ≤ b) where
-    pub adv-high : 16 ≤ x → Advanced T b j B 0 B
-    adv-high h = record {
+    -- a variable out of range, or no sized cell
+    adv-not : (x < 16 → (tab : List ℕ) (n : ℕ) (u : Term) → Stands tab T n j u → ⊥) → Advanced T b j B 0 B
+    adv-not z = record {
       same = refl;
       within = w;
       place = omega arith;
       differs = λ k. absurd (omega arith);
       symbol = λ k. absurd (omega arith);
-      variable = λ y e m. absurd (omega arith);
+      variable = λ y c m tab n u s. absurd (z (omega arith) tab n u s);
     }
+
+    pub adv-high : 16 ≤ x → Advanced T b j B 0 B
+    adv-high h = adv-not λ i. absurd (omega arith)
 
     module _ (h : x < 16) where
       -- a variable that is bound
@@ -142,23 +146,13 @@ module _ (T : List ℕ) (b j : ℕ) (B : List ℕ) (w : Within T B) (l : j < len
             (rw i (bound-go r tab n a u v bs g s st o (same v u) (same-says v u)));
       }
 
-      -- a variable that is free so far, and no sized cell
-      adv-not : ((tab : List ℕ) (n : ℕ) (u : Term) → Stands tab T n j u → ⊥) → Advanced T b j B 0 B
-      adv-not z = record {
-        same = refl;
-        within = w;
-        place = omega arith;
-        differs = λ k. absurd (omega arith);
-        symbol = λ k. absurd (omega arith);
-        variable = λ y c m tab n u s. absurd (z tab n u s);
-      }
-
+      -- a variable that is free so far
       module _ (n : ℕ) (nn : n ≡ getD T j 0 / 256) where
         pub adv-none : n ≡ 0 → Advanced T b j B 0 B
-        adv-none z = adv-not λ tab m u s. omega (arith, size-pos u, stands-size tab T m j u s)
+        adv-none z = adv-not λ i tab m u s. omega (arith, size-pos u, stands-size tab T m j u s)
 
         pub adv-long : length T < j + n → Advanced T b j B 0 B
-        adv-long z = adv-not λ tab m u s. omega (arith, stands-length tab T m j u s l, stands-size tab T m j u s)
+        adv-long z = adv-not λ i tab m u s. omega (arith, stands-length tab T m j u s l, stands-size tab T m j u s)
 
         -- its place is written
         module _ (v : 16 ≤ length B) (nz : n ≡ 0 → ⊥) (f : j + n ≤ length T) where

@@ -4,31 +4,22 @@ use mathlib.Core.Path.{_≡_, refl, sym, _∙_, ap, subst}
 use mathlib.Core.Bool.{Bool, true, false, true≢false, false≢true}
 use mathlib.Core.List.{List, [], _∷_}
 use mathlib.Core.Option.{Option, none, some}
-use Prim.Native.Nat.{ℕ, zero, suc, _+_, _-_, _*_, _%_, _<_, _≤_}
+use Prim.Native.Nat.{ℕ, _+_, _-_, _*_, _%_, _<_, _≤_}
 use native.Mathlib.Omega.{arith}
 use native.Mathlib.Numerals.{add-one}
 use lib.Dec.{eqb}
 use lib.ListN.{length, getD, drop, take}
-use lib.Seq.{getD-take, getD-drop}
 use Rattle.terms.specs.Base.{if_then_else_, mapped, or-else}
 use Rattle.terms.specs.Term.{Term, var, node, term-bytes, terms-bytes, size}
 use Rattle.terms.proofs.Shape.{Says, eqb-says}
 use Rattle.unify.specs.Unify.{Binding}
 use Rattle.rewriting.specs.Overlap.{Rule, sides-of}
-use Rattle.rewriting.specs.Rewrite.{matching, root-step}
+use Rattle.rewriting.specs.Rewrite.{matching, matching-all, root-step}
 use Rattle.matching.specs.Cells.{root-byte, Stands}
 use Rattle.matching.specs.Held.{Answers, Matched}
 use Rattle.matching.proofs.Celled.{stands-byte}
 use Rattle.normaliser.specs.Stored.{Layout, Stored, Fitted, Choice, Found}
-
--- the root's byte stands first
-pub head-of : (rules : List ℕ) (n a b : ℕ) (l : List ℕ) → take n (drop a rules) ≡ b ∷ l → getD rules a 0 ≡ b
-head-of rules zero a b l e = absurd (let z : _≡_ {A = ℕ} 0 1 = cc in omega arith)
-head-of rules (suc n) a b l e =
-    let q : getD (take (suc n) (drop a rules)) 0 0 ≡ b = ap (λ z. getD z 0 0) e in
-    let h : 0 < suc n = omega arith in
-    let i : a + 0 ≡ a = omega arith in
-    sym (getD-take (suc n) (drop a rules) 0 0 h ∙ getD-drop a rules 0 0 ∙ ap (λ z. getD rules z 0) i) ∙ q
+use Rattle.normaliser.proofs.Parts.{head-of}
 
 module _ (rules lens T : List ℕ) (k : ℕ) (B : List ℕ) where
   pub fits-by : (left : List ℕ) (r : Bool) (B′ : List ℕ) → take (getD lens (2 * k) 0) (drop (240 * k) rules) ≡ left → Matched left T B r B′ → Fitted rules lens T k B r B′
@@ -44,7 +35,7 @@ module _ (rules lens T : List ℕ) (k : ℕ) (B : List ℕ) where
   root-none (node f ps) (var y) n e h z = refl
   root-none (node f ps) (node g ys) n e h z = go (eqb f g) (eqb-says f g)
     where
-      go : (b : Bool) → Says (f ≡ g) b → (if b then Rattle.rewriting.specs.Rewrite.matching-all ps ys [] else none) ≡ none
+      go : (b : Bool) → Says (f ≡ g) b → (if b then matching-all ps ys [] else none) ≡ none
       go true q = absurd (z (sym q ∙ sym (head-of rules n (240 * k) f (terms-bytes ps) e)))
       go false q = refl
 

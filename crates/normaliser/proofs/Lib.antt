@@ -7,4 +7,3 @@ pub mod Settling
 pub mod Together
 pub mod Loading
 pub mod Whole
-pub mod Slots

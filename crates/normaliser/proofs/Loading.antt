@@ -4,15 +4,14 @@ use mathlib.Core.Path.{_≡_, refl, sym, _∙_, ap, ap₂, subst}
 use mathlib.Core.List.{List, [], _∷_, _++_}
 use Prim.Native.Nat.{ℕ, zero, suc, _+_, _%_, _<_, _≤_}
 use native.Mathlib.Omega.{arith}
-use lib.ListN.{length, getD, drop, set}
+use lib.ListN.{length, length-map, getD, drop, set}
 use lib.Seq.{take-all}
 use Rattle.matching.specs.Cells.{node-bytes}
 use Rattle.matching.proofs.Filling.{Pasted, paste-start, paste-more}
 
 pub bytes-length : (l : List ℕ) → length (node-bytes l) ≡ length l
 unfolding node-bytes
-bytes-length [] = refl
-bytes-length (c ∷ l) = ap suc (bytes-length l)
+bytes-length l = length-map l (λ c. c % 256)
 
 pub bytes-at : (l : List ℕ) (i : ℕ) → i < length l → getD (node-bytes l) i 0 ≡ getD l i 0 % 256
 unfolding node-bytes

@@ -15,6 +15,7 @@ use Rattle.terms.specs.Base.{mapped, or-else}
 use Rattle.terms.specs.Term.{Term, Terms, var, node, nil, cons, term-bytes, terms-bytes, size, sizes, subst-term, subst-terms}
 use Rattle.terms.specs.Flat.{Wf, Wfs}
 use Rattle.terms.proofs.Places.{size-pos}
+use Rattle.terms.proofs.Shape.{none≢some}
 use Rattle.unify.specs.Unify.{Binding}
 use Rattle.rewriting.specs.Overlap.{Rule}
 use Rattle.rewriting.specs.Rewrite.{bound, bound-or-variable, instantiate, root-step, step, step-in}
@@ -39,6 +40,16 @@ module _ (tab T : List ℕ) (n k : ℕ) (u : Term) (s : Stands tab T n k u) wher
 piece-later : (tab T : List ℕ) (n k : ℕ) (u : Term) → Stands tab T n (suc k) u → (b : ℕ) → piece-at T b (suc (suc k)) ≡ cells u
 unfolding piece-at first-cell
 piece-later tab T n k u s b = ap₂ (λ c l. c ∷ l) (stands-cell tab T n (suc k) u s) (piece-below tab T n (suc k) u s) ∙ sym (cells-root u)
+
+both-none : {A : Type 0} (o q : Option A) → or-else o q ≡ none → (o ≡ none) × (q ≡ none)
+unfolding or-else
+both-none none q e = (refl, e)
+both-none (some a) q e = absurd (none≢some (sym e))
+
+mapped-none : {A B : Type 0} (f : A → B) (o : Option A) → mapped f o ≡ none → o ≡ none
+unfolding mapped
+mapped-none f none e = refl
+mapped-none f (some a) e = absurd (none≢some (sym e))
 
 module _ (rs : List Rule) where
   mutual
@@ -65,34 +76,15 @@ module _ (rs : List Rule) where
     marked-lengths (more {a = a} {b = b} e h k) = ap length e ∙ length-append a b ∙ ap₂ _+_ (marked-length h) (marked-lengths k)
 
   -- the parts of a normal term are normal
-  some≢none : {A : Type 0} {a : A} → some a ≡ none → ⊥
-  some≢none e = let z : _≡_ {A = ℕ} 0 1 = cc in omega arith
-
-  first-none : {A B : Type 0} (f : A → B) (o : Option A) (q : Option B) → or-else (mapped f o) q ≡ none → o ≡ none
-  unfolding or-else mapped
-  first-none f none q e = refl
-  first-none f (some a) q e = absurd (some≢none e)
-
-  second-none : {A B : Type 0} (f : A → B) (o : Option A) (q : Option B) → or-else (mapped f o) q ≡ none → q ≡ none
-  unfolding or-else mapped
-  second-none f none q e = e
-  second-none f (some a) q e = absurd (some≢none e)
-
-  mapped-none : {A B : Type 0} (f : A → B) (o : Option A) → mapped f o ≡ none → o ≡ none
-  unfolding mapped
-  mapped-none f none e = refl
-  mapped-none f (some a) e = absurd (some≢none e)
-
   node-none : (f : ℕ) (ts : Terms) → step rs (node f ts) ≡ none → step-in rs ts ≡ none
   unfolding step
-  node-none f ts e = first-none (node f) (step-in rs ts) (root-step rs (node f ts)) e
+  node-none f ts e = mapped-none (node f) (step-in rs ts) (both-none (mapped (node f) (step-in rs ts)) (root-step rs (node f ts)) e .0)
 
   cons-none : (t : Term) (ts : Terms) → step-in rs (cons t ts) ≡ none → (step rs t ≡ none) × (step-in rs ts ≡ none)
   unfolding step-in
-  cons-none t ts e = (
-    first-none (λ u. cons u ts) (step rs t) (mapped (cons t) (step-in rs ts)) e,
-    mapped-none (cons t) (step-in rs ts) (second-none (λ u. cons u ts) (step rs t) (mapped (cons t) (step-in rs ts)) e),
-  )
+  cons-none t ts e =
+      let (a, b) = both-none (mapped (λ u. cons u ts) (step rs t)) (mapped (cons t) (step-in rs ts)) e in
+      (mapped-none (λ u. cons u ts) (step rs t) a, mapped-none (cons t) (step-in rs ts) b)
 
   normal-all : (ts : Terms) → step-in rs ts ≡ none → MarkedAll rs (cells-all ts) ts
   unfolding cells-all

@@ -8,7 +8,7 @@ use native.Mathlib.Omega.{arith}
 use lib.Dec.{ltb}
 use borrow.Author.Tests.{lt-ltb, le-ltb}
 use lib.ListN.{length, getD, drop, take, set, length-set, length-append}
-use lib.Seq.{drop-at, take-set-lt, getD-take}
+use lib.Seq.{drop-at, take-set-lt}
 use Rattle.terms.specs.Term.{Term, Terms, var, node, nil, cons, size, subst-term, subst-terms}
 use Rattle.terms.specs.Flat.{Wf, Wfs}
 use Rattle.terms.proofs.Subst.{count-subst}
@@ -23,6 +23,7 @@ use Rattle.normaliser.specs.Marks.{Marked, ArgumentsNormal, open-cells}
 use Rattle.normaliser.specs.Stored.{Stored, right-side, Choice, Found, out, Tested, Wrote, Rewritten}
 use Rattle.normaliser.specs.declared.Out.{Out}
 use Rattle.normaliser.proofs.Marking.{instance-marked, marked-length}
+use Rattle.normaliser.proofs.Parts.{head-of}
 
 -- an instance is well-formed
 module _ (tab T : List ℕ) (n : ℕ) (B : List ℕ) (bs : List Binding) (rep : Rep tab T n B bs) where
@@ -60,7 +61,7 @@ contracted-by rules lens t t′ B k len end most m w e p =
 rooted : (tab t : List ℕ) (len end c : ℕ) (x : Term) (post : List ℕ) → 0 < len → c ≡ getD t 0 0 % 256 + 256 * end → Wf 32 tab x → take len t ≡ open-cells x ++ post → end ≡ size x → take len (set t 0 c) ≡ cells x ++ post
 unfolding open-cells
 rooted tab t len end c x post h e w b d =
-    let g : getD t 0 0 ≡ root-byte x = sym (getD-take len t 0 0 h) ∙ ap (λ l. getD l 0 0) b in
+    let g : getD t 0 0 ≡ root-byte x = head-of t len 0 (root-byte x) (cells-below x ++ post) b in
     let l : root-byte x < 256 = root-low tab x w in
     let q : c ≡ root-byte x + 256 * size x = omega arith in
     take-set-lt len t 0 c h ∙ ap (λ l. set l 0 c) b ∙ ap (λ z. z ∷ (cells-below x ++ post)) q ∙ ap (λ l. l ++ post) (sym (cells-root x))

@@ -11,6 +11,7 @@ use Rattle.terms.specs.Base.{if_then_else_, mapped, or-else}
 use Rattle.terms.specs.Term.{Term, Terms, var, node, nil, cons, size, sizes}
 use Rattle.rewriting.specs.Overlap.{Rule}
 use Rattle.rewriting.specs.Rewrite.{step, step-in, root-step, Paid, done, stop, spent, too-large, Paying, and-then, normalise}
+use Rattle.rewriting.proofs.Holds.{stop≢done}
 use Rattle.normaliser.specs.Inside.{pay-for, iterate, normalise-in, normalise-all}
 
 module _ {A : Type 0} (one : A → Option A) (big : A → Bool) where
@@ -30,20 +31,17 @@ module _ {A : Type 0} (one : A → Option A) (big : A → Bool) where
   iterate-step t (suc left) = suc-go t left (one t)
 
 -- what comes to its end has no step
-done≢stop : {A : Type 0} {a : A} {n m : ℕ} {e : Rattle.rewriting.specs.Rewrite.End} → stop e m ≡ done a n → ⊥
-done≢stop p = let z : _≡_ {A = ℕ} 0 1 = cc in omega arith
-
 module _ {A : Type 0} (one : A → Option A) (big : A → Bool) where
   if-done : (b : Bool) (m : ℕ) (rest : Paid A) (u : A) (n : ℕ) → (if b then stop too-large m else rest) ≡ done u n → rest ≡ done u n
   unfolding if_then_else_
-  if-done true m rest u n e = absurd (done≢stop e)
+  if-done true m rest u n e = absurd (stop≢done e)
   if-done false m rest u n e = e
 
   pay-done : (t : A) (left : ℕ) (u : A) (n : ℕ) (o : Option A) → one t ≡ o → ((v : A) (m : ℕ) → left ≡ suc m → iterate one big v m ≡ done u n → one u ≡ none) →
       pay-for big (λ u n. iterate one big u n) t o left ≡ done u n → one u ≡ none
   unfolding pay-for
   pay-done t left u n none e ih p = let q : t ≡ u = cc in rw q at e
-  pay-done t zero u n (some v) e ih p = absurd (done≢stop p)
+  pay-done t zero u n (some v) e ih p = absurd (stop≢done p)
   pay-done t (suc m) u n (some v) e ih p = ih v m refl (if-done (big v) m (iterate one big v m) u n p)
 
   pub iterate-normal : (left : ℕ) (t u : A) (n : ℕ) → iterate one big t left ≡ done u n → one u ≡ none

@@ -9,12 +9,14 @@ use native.Mathlib.Omega.{arith}
 use native.Mathlib.Nat.{mod-eq-of-lt}
 use lib.Dec.{ltb}
 use lib.ListN.{length, getD, drop, take, length-append, length-take}
-use lib.Seq.{take-take, getD-take}
+use lib.Seq.{take-take}
 use Rattle.terms.specs.Base.{if_then_else_}
 use Rattle.terms.specs.Term.{Term, Terms, var, node, nil, cons, size, sizes}
 use Rattle.terms.specs.Flat.{Wf, Wfs}
 use Rattle.terms.specs.Scan.{count, owes}
+use Rattle.terms.proofs.Places.{size-pos}
 use Rattle.terms.proofs.Scans.{owes-symbol, owes-other}
+use Rattle.terms.proofs.Starts.{from}
 use Rattle.rewriting.specs.Overlap.{Rule, sides-of}
 use Rattle.rewriting.specs.Rewrite.{root-step, step, step-in, Paid, done, stop, too-large, and-then}
 use Rattle.matching.specs.Cells.{cells, cells-all, root-byte, cells-below}
@@ -24,9 +26,8 @@ use Rattle.normaliser.specs.Marks.{Marked, MarkedAll, leaf, visit, leave
 use Rattle.normaliser.specs.Stored.{Stored, Holds, HoldsAll, Tested, Wrote, Rewritten, out, Left, EndsWith, EndsAll, Limit, Settled, SettledAll}
 use Rattle.normaliser.specs.declared.Out.{Out}
 use Rattle.normaliser.proofs.Sequence.{at-root, iterate-normal, normalise-normal, normalise-var, normalise-node, normalise-nil}
-use Rattle.terms.proofs.Places.{size-pos}
 use Rattle.normaliser.proofs.Marking.{marked-length}
-use Rattle.normaliser.proofs.Parts.{part, back, part-take, back-length, back-take, ltb-less, zero≢code}
+use Rattle.normaliser.proofs.Parts.{back, head-of, from-take, back-length, back-take, ltb-less, zero≢code}
 
 -- `leave`
 pub leave-long : (c len units e : ℕ) (o : Out) → o ≡ out 4 units len 0 → e ≡ c / 256 → len < e → Left c len units o
@@ -105,15 +106,11 @@ module _ (tab rules lens : List ℕ) (number : ℕ) where
       answer = λ rs st n x post h big lim. let p = i .place rs st n x post h big lim in absurd (none-held tab rs t l (p .term) post e (p .held));
     })
 
-    -- the first cell
-    head : (l ≡ 0 → ⊥) → (b : ℕ) (m : List ℕ) → take l t ≡ b ∷ m → getD t 0 0 ≡ b
-    head ne b m e = let nz : 0 < l = omega arith in sym (getD-take l t 0 0 nz) ∙ ap (λ z. getD z 0 0) e
-
     -- a term whose root has its size is normal
     module _ (ne : l ≡ 0 → ⊥) (k : 256 ≤ getD t 0 0) (o : Out) (lf : Left (getD t 0 0) l u o) where
       leave-term : (rs : List Rule) (big : ℕ → Bool) (y : Term) (post : List ℕ) → Wf 32 tab y → take l t ≡ cells y ++ post → step rs y ≡ none → EndsWith tab t post o (normalise-in rs big y u)
       leave-term rs big y post w b n =
-          let g : getD t 0 0 ≡ root-byte y + 256 * size y = head ne (root-byte y + 256 * size y) (cells-below y ++ post) (b ∙ ap (λ z. z ++ post) (cells-root y)) in
+          let g : getD t 0 0 ≡ root-byte y + 256 * size y = head-of t l 0 (root-byte y + 256 * size y) (cells-below y ++ post) (b ∙ ap (λ z. z ++ post) (cells-root y)) in
           let d : getD t 0 0 / 256 ≡ size y = ap (λ c. c / 256) g ∙ cell-size (root-byte y) (size y) (root-low tab y w) in
           let f : size y ≤ l = omega (arith, length-take l t, ap length b ∙ length-append (cells y) post, length-cells y) in
           let a = lf .answer (omega arith) in
@@ -121,9 +118,9 @@ module _ (tab rules lens : List ℕ) (number : ℕ) where
 
       leave-go : (rs : List Rule) (big : ℕ → Bool) (y : Term) (post ms : List ℕ) → Wf 32 tab y → Marked rs ms y → take l t ≡ ms ++ post → EndsWith tab t post o (normalise-in rs big y u)
       unfolding Wf
-      leave-go rs big (var y) post ms w (leaf d) b = absurd (let z = head ne (128 + y) post (b ∙ ap (λ z. z ++ post) d) in omega arith)
+      leave-go rs big (var y) post ms w (leaf d) b = absurd (let z = head-of t l 0 (128 + y) post (b ∙ ap (λ z. z ++ post) d) in omega arith)
       leave-go rs big (node f ts) post ms w (visit {m = m} d h) b =
-          absurd (let z = head ne f (m ++ post) (b ∙ ap (λ z. z ++ post) d) in let g : f < 16 = w .0 in omega arith)
+          absurd (let z = head-of t l 0 f (m ++ post) (b ∙ ap (λ z. z ++ post) d) in let g : f < 16 = w .0 in omega arith)
       leave-go rs big (var y) post ms w (leave d n) b = leave-term rs big (var y) post w (b ∙ ap (λ z. z ++ post) d) n
       leave-go rs big (node f ts) post ms w (leave d n) b = leave-term rs big (node f ts) post w (b ∙ ap (λ z. z ++ post) d) n
 
@@ -140,7 +137,7 @@ module _ (tab rules lens : List ℕ) (number : ℕ) where
                 subst (λ z. EndsWith tab t post o z) (sym (p .answer)) (leave-go rs big (p .term) post (g .marks) (g .wf) (g .marked) (g .text));
           }
 
-    module _ (ne : l ≡ 0 → ⊥) (um : getD t 0 0 < 256) (room : most ≤ length t) (n : ℕ) (nn : n ≡ owes tab (getD t 0 0 % 256)) (q : List ℕ) (r : Out) (a : SettledAll tab rules lens number (part 1 t) q n (l - 1) (most - 1) u r) where
+    module _ (ne : l ≡ 0 → ⊥) (um : getD t 0 0 < 256) (room : most ≤ length t) (n : ℕ) (nn : n ≡ owes tab (getD t 0 0 % 256)) (q : List ℕ) (r : Out) (a : SettledAll tab rules lens number (from t 1) q n (l - 1) (most - 1) u r) where
       one : 1 ≤ length t
       one = let s = i .small in let nz : 0 < l = omega arith in omega arith
 
@@ -156,17 +153,17 @@ module _ (tab rules lens : List ℕ) (number : ℕ) where
 
       -- a term whose root has no size: its byte, its arguments' cells, and what follows
       sized-not : (y : Term) (post : List ℕ) → take l t ≡ cells y ++ post → ⊥
-      sized-not y post b = omega (arith, size-pos y, head ne (root-byte y + 256 * size y) (cells-below y ++ post) (b ∙ ap (λ z. z ++ post) (cells-root y)))
+      sized-not y post b = omega (arith, size-pos y, head-of t l 0 (root-byte y + 256 * size y) (cells-below y ++ post) (b ∙ ap (λ z. z ++ post) (cells-root y)))
 
-      opened : (rs : List Rule) (y : Term) (post ms : List ℕ) → Wf 32 tab y → Marked rs ms y → take l t ≡ ms ++ post → Opened rs t l y post
-      unfolding args root-byte Wf
-      opened rs (var y) post ms w (leaf d) b = record { marks = []; marked = no-more refl; text = b ∙ ap (λ z. z ++ post) d }
-      opened rs (node f ts) post ms w (visit {m = m} d h) b = record { marks = m; marked = h; text = b ∙ ap (λ z. z ++ post) d }
-      opened rs (var y) post ms w (leave d n) b = absurd (sized-not (var y) post (b ∙ ap (λ z. z ++ post) d))
-      opened rs (node f ts) post ms w (leave d n) b = absurd (sized-not (node f ts) post (b ∙ ap (λ z. z ++ post) d))
+      opened : (rs : List Rule) (y : Term) (post ms : List ℕ) → Marked rs ms y → take l t ≡ ms ++ post → Opened rs t l y post
+      unfolding args root-byte
+      opened rs (var y) post ms (leaf d) b = record { marks = []; marked = no-more refl; text = b ∙ ap (λ z. z ++ post) d }
+      opened rs (node f ts) post ms (visit {m = m} d h) b = record { marks = m; marked = h; text = b ∙ ap (λ z. z ++ post) d }
+      opened rs (var y) post ms (leave d n) b = absurd (sized-not (var y) post (b ∙ ap (λ z. z ++ post) d))
+      opened rs (node f ts) post ms (leave d n) b = absurd (sized-not (node f ts) post (b ∙ ap (λ z. z ++ post) d))
 
       open-held : (rs : List Rule) (y : Term) (post : List ℕ) → Holds tab rs t l y post → Opened rs t l y post
-      open-held rs y post h = opened rs y post (h .marks) (h .wf) (h .marked) (h .text)
+      open-held rs y post h = opened rs y post (h .marks) (h .marked) (h .text)
 
       number-go : (y : Term) → Wf 32 tab y → getD t 0 0 ≡ root-byte y → count (args y) ≡ n
       unfolding args root-byte Wf count
@@ -174,7 +171,7 @@ module _ (tab rules lens : List ℕ) (number : ℕ) where
       number-go (node f ts) w e = w .1 ∙ sym (nn ∙ ap (owes tab) (mod-eq-of-lt um ∙ e) ∙ owes-symbol tab f (w .0))
 
       number-of : (rs : List Rule) (y : Term) (post : List ℕ) → Wf 32 tab y → Opened rs t l y post → count (args y) ≡ n
-      number-of rs y post w o = number-go y w (head ne (root-byte y) (o .marks ++ post) (o .text))
+      number-of rs y post w o = number-go y w (head-of t l 0 (root-byte y) (o .marks ++ post) (o .text))
 
       args-wf : (y : Term) → Wf 32 tab y → Wfs 32 tab (args y)
       unfolding args Wf Wfs
@@ -184,7 +181,7 @@ module _ (tab rules lens : List ℕ) (number : ℕ) where
       inner : (rs : List Rule) → Stored tab rules lens 0 (sides-of rs) → number ≡ length rs → (y : Term) (post : List ℕ) → Wf 32 tab y → Opened rs t l y post → (big : ℕ → Bool) → Limit big most post →
           EndsAll tab q post n r (normalise-all rs (λ k. big (suc k)) (args y) u)
       inner rs st m y post w o big lim =
-          let h : HoldsAll tab rs (part 1 t) (l - 1) (args y) post = record { wfs = args-wf y w; marks = o .marks; marked = o .marked; text = part-take 1 l t ∙ ap (drop 1) (o .text) } in
+          let h : HoldsAll tab rs (from t 1) (l - 1) (args y) post = record { wfs = args-wf y w; marks = o .marks; marked = o .marked; text = from-take 1 l t (omega arith) ∙ ap (drop 1) (o .text) } in
           a .answer rs st m (args y) post h (number-of rs y post w o) (λ k. big (suc k)) (low big post lim)
 
       pub turn-room : (length (back 1 t q) ≡ length t) × (0 < r .end + 1) × (r .end + 1 ≤ r .len + 1) × (r .len + 1 ≤ most)
@@ -227,11 +224,11 @@ module _ (tab rules lens : List ℕ) (number : ℕ) where
         wf-with (var x) us v k e d = v
         wf-with (node f ts) us v k e d = (v .0, e ∙ sym d ∙ v .1, k)
 
-        size-with : (y : Term) (us : Terms) → Wf 32 tab y → count us ≡ n → count (args y) ≡ n → r .end ≡ sizes us → r .end + 1 ≡ size (with-args y us)
+        size-with : (y : Term) (us : Terms) → count us ≡ n → count (args y) ≡ n → r .end ≡ sizes us → r .end + 1 ≡ size (with-args y us)
         unfolding with-args size args count
-        size-with (var x) nil v e d o = omega arith
-        size-with (var x) (cons b us) v e d o = absurd (omega arith)
-        size-with (node f ts) us v e d o = omega arith
+        size-with (var x) nil e d o = omega arith
+        size-with (var x) (cons b us) e d o = absurd (omega arith)
+        size-with (node f ts) us e d o = omega arith
 
         cells-with : (y : Term) (us : Terms) (post ms : List ℕ) → take l t ≡ root-byte y ∷ ms → count us ≡ n → count (args y) ≡ n → take (r .len) q ≡ cells-all us ++ post → take (r .len + 1) (back 1 t q) ≡ open-cells (with-args y us) ++ post
         unfolding with-args open-cells root-byte cells-below cells-all args count
@@ -272,7 +269,7 @@ module _ (tab rules lens : List ℕ) (number : ℕ) where
             let d = number-of rs y post v b in
             let f = wf-with y us v (e .4) (e .5) d in
             let g = cells-with y us post (b .marks ++ post) (b .text) (e .5) d (e .3) in
-            let h = size-with y us v (e .5) d (e .2) in
+            let h = size-with y us (e .5) d (e .2) in
             let nb = normal-with rs y us (iterate-normal (step-in rs) (λ us. big (suc (sizes us))) u (args y) us k j) in
             root-go rs big post lim (with-args y us) f h (root-step rs (with-args y us)) k
             (subst (λ j. Wrote tab rs t′ (with-args y us) post most j s (root-step rs (with-args y us))) (e .1) (w .answer tab rs st m (with-args y us) post f g h nb))

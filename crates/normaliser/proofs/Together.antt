@@ -12,6 +12,7 @@ use lib.Seq.{drop-at, take-at, take-take, length-take-le}
 use Rattle.terms.specs.Term.{Term, Terms, nil, cons, size, sizes}
 use Rattle.terms.specs.Flat.{Wf, Wfs}
 use Rattle.terms.specs.Scan.{count}
+use Rattle.terms.proofs.Starts.{from}
 use Rattle.rewriting.specs.Overlap.{Rule, sides-of}
 use Rattle.rewriting.specs.Rewrite.{Paid, done, stop, and-then}
 use Rattle.matching.specs.Cells.{cells, cells-all}
@@ -22,14 +23,14 @@ use Rattle.normaliser.specs.Stored.{Stored, HoldsAll, out, EndsWith, End
 use Rattle.normaliser.specs.declared.Out.{Out}
 use Rattle.normaliser.proofs.Sequence.{normalise-nil, normalise-cons, then-others}
 use Rattle.normaliser.proofs.Marking.{marked-lengths}
-use Rattle.normaliser.proofs.Parts.{part, back, part-take, back-length, back-take, ltb-less, zero≢code}
+use Rattle.normaliser.proofs.Parts.{back, from-take, back-length, back-take, ltb-less, zero≢code}
 
 -- Of n terms k are still to do, from the cell p on; `behind` puts those in front of them that are done, and all come to `goal`.
 pub record Ahead (tab : List ℕ) (rs : List Rule) (post t : List ℕ) (n most k p l u : ℕ) (goal : Paid Terms) : Type 0 where
   pub todo : Terms
   pub big : ℕ → Bool
   pub limit : Limit big (most - p) post
-  pub held : HoldsAll tab rs (part p t) (l - p) todo post
+  pub held : HoldsAll tab rs (from t p) (l - p) todo post
   pub number : count todo ≡ k
   pub behind : Terms → Terms
   pub answer : goal ≡ and-then (normalise-all rs big todo u) (λ us m. done (behind us) m)
@@ -67,7 +68,7 @@ module _ (tab rules lens : List ℕ) (number : ℕ) (t₀ : List ℕ) (n len mos
       todo = xs;
       big = big;
       limit = λ j. lim j ∙ (let z : most ≡ most - 0 = omega arith in ap (λ m. ltb m (j + length post)) z);
-      held = record { wfs = h .wfs; marks = h .marks; marked = h .marked; text = part-take 0 len t₀ ∙ h .text };
+      held = record { wfs = h .wfs; marks = h .marks; marked = h .marked; text = from-take 0 len t₀ (omega arith) ∙ h .text };
       number = e;
       behind = λ us. us;
       answer = and-done (normalise-all rs big xs units);
@@ -83,14 +84,14 @@ module _ (tab rules lens : List ℕ) (number : ℕ) (t₀ : List ℕ) (n len mos
     fits = let a = i .same in let b = i .place in let c = i .small in omega arith
 
     -- no term is left
-    end-go : (rs : List Rule) (post : List ℕ) (goal : Paid Terms) → k ≡ 0 → (todo : Terms) (ms : List ℕ) → count todo ≡ k → MarkedAll rs ms todo → take (l - p) (part p t) ≡ ms ++ post →
+    end-go : (rs : List Rule) (post : List ℕ) (goal : Paid Terms) → k ≡ 0 → (todo : Terms) (ms : List ℕ) → count todo ≡ k → MarkedAll rs ms todo → take (l - p) (from t p) ≡ ms ++ post →
         (big : ℕ → Bool) (behind : Terms → Terms) → goal ≡ and-then (normalise-all rs big todo u) (λ us m. done (behind us) m) →
         sizes (behind nil) ≡ p + sizes nil → count (behind nil) + k ≡ n + count nil → Wfs 32 tab (behind nil) → cells-all (behind nil) ≡ take p t ++ cells-all nil → EndsAll tab t post n (out 0 u l p) goal
     unfolding count sizes cells-all and-then
     end-go rs post goal z (cons x xs) ms c h b big f g s d w e = absurd (omega arith)
     end-go rs post goal z nil ms c (no-more q) b big f g s d w e =
         let v : goal ≡ done (f nil) u = g ∙ ap (λ o. and-then o (λ us m. done (f us) m)) (normalise-nil rs big u) in
-        let y : drop p (take l t) ≡ post = sym (part-take p l t) ∙ b ∙ ap (λ z. z ++ post) q in
+        let y : drop p (take l t) ≡ post = sym (from-take p l t (i .place)) ∙ b ∙ ap (λ z. z ++ post) q in
         let x : take p (take l t) ≡ cells-all (f nil) = take-take p l t (i .place) ∙ sym (append-nil (take p t)) ∙ sym e in
         subst (λ o. EndsAll tab t post n (out 0 u l p) o) (sym v) (refl, refl, omega arith, sym (take-append-drop p (take l t)) ∙ ap₂ _++_ x y, w, omega arith)
 
@@ -104,13 +105,13 @@ module _ (tab rules lens : List ℕ) (number : ℕ) (t₀ : List ℕ) (n len mos
     })
 
     -- the next term
-    module _ (nz : 0 < k) (q : List ℕ) (r : Out) (s : Settled tab rules lens number (part p t) q (l - p) (most - p) u r) where
+    module _ (nz : 0 < k) (q : List ℕ) (r : Out) (s : Settled tab rules lens number (from t p) q (l - p) (most - p) u r) where
       next-lim : (rs : List Rule) (xs : Terms) (ms post : List ℕ) (big : ℕ → Bool) → MarkedAll rs ms xs → Limit big (most - p) post → Limit (λ j. big (j + sizes xs)) (most - p) (ms ++ post)
       next-lim rs xs ms post big h lim j =
           let e : j + sizes xs + length post ≡ j + length (ms ++ post) = omega (arith, length-append ms post, marked-lengths rs h) in
           lim (j + sizes xs) ∙ ap (ltb (most - p)) e
 
-      next-of : (rs : List Rule) → Stored tab rules lens 0 (sides-of rs) → number ≡ length rs → (x : Term) (xs : Terms) (a b post : List ℕ) → Wf 32 tab x → Marked rs a x → MarkedAll rs b xs → take (l - p) (part p t) ≡ (a ++ b) ++ post →
+      next-of : (rs : List Rule) → Stored tab rules lens 0 (sides-of rs) → number ≡ length rs → (x : Term) (xs : Terms) (a b post : List ℕ) → Wf 32 tab x → Marked rs a x → MarkedAll rs b xs → take (l - p) (from t p) ≡ (a ++ b) ++ post →
           (big : ℕ → Bool) → Limit big (most - p) post → EndsWith tab q (b ++ post) r (normalise-in rs (λ j. big (j + sizes xs)) x u)
       next-of rs st m x xs a b post w h g e big lim =
           s .answer rs st m x (b ++ post) (record { wf = w; marks = a; marked = h; text = e ∙ append-assoc a b post }) (λ j. big (j + sizes xs)) (next-lim rs xs b post big g lim)
@@ -122,7 +123,7 @@ module _ (tab rules lens : List ℕ) (number : ℕ) (t₀ : List ℕ) (n len mos
       stop-go post′ post f g z (stop c m) e t′ = e
 
       stops : (r .verdict ≡ 0 → ⊥) → (rs : List Rule) → Stored tab rules lens 0 (sides-of rs) → number ≡ length rs → (post : List ℕ) (goal : Paid Terms) (t′ : List ℕ) (todo : Terms) (ms : List ℕ) → count todo ≡ k → Wfs 32 tab todo → MarkedAll rs ms todo →
-          take (l - p) (part p t) ≡ ms ++ post → (big : ℕ → Bool) → Limit big (most - p) post → (f : Terms → Terms) → goal ≡ and-then (normalise-all rs big todo u) (λ us m. done (f us) m) → EndsAll tab t′ post n r goal
+          take (l - p) (from t p) ≡ ms ++ post → (big : ℕ → Bool) → Limit big (most - p) post → (f : Terms → Terms) → goal ≡ and-then (normalise-all rs big todo u) (λ us m. done (f us) m) → EndsAll tab t′ post n r goal
       unfolding Wfs count
       stops z rs st m post goal t′ nil ms c w h b big lim f g = absurd (omega arith)
       stops z rs st m post goal t′ (cons x xs) ms c w (more {a = a} {b = d} e h v) b big lim f g =
@@ -177,7 +178,7 @@ module _ (tab rules lens : List ℕ) (number : ℕ) (t₀ : List ℕ) (n len mos
                 wfs = w;
                 marks = ms;
                 marked = h;
-                text = part-take (r .end + p) (r .len + p) (back p t q) ∙ ap (drop (r .end + p)) whole ∙ drop-at (take p t ++ cells y) (ms ++ post) (r .end + p) lf;
+                text = from-take (r .end + p) (r .len + p) (back p t q) (omega arith) ∙ ap (drop (r .end + p)) whole ∙ drop-at (take p t ++ cells y) (ms ++ post) (r .end + p) lf;
               };
               number = omega arith;
               behind = λ us. a .behind (cons y us);
@@ -189,7 +190,7 @@ module _ (tab rules lens : List ℕ) (number : ℕ) (t₀ : List ℕ) (n len mos
             }
 
         on-go : (rs : List Rule) → Stored tab rules lens 0 (sides-of rs) → number ≡ length rs → (post : List ℕ) (goal : Paid Terms) (a : Ahead tab rs post t n most k p l u goal) (todo : Terms) (ms : List ℕ) → count todo ≡ k → Wfs 32 tab todo → MarkedAll rs ms todo →
-            take (l - p) (part p t) ≡ ms ++ post → goal ≡ and-then (normalise-all rs (a .big) todo u) (λ us m. done (a .behind us) m) → Ahead tab rs post (back p t q) n most (k - 1) (r .end + p) (r .len + p) (r .units) goal
+            take (l - p) (from t p) ≡ ms ++ post → goal ≡ and-then (normalise-all rs (a .big) todo u) (λ us m. done (a .behind us) m) → Ahead tab rs post (back p t q) n most (k - 1) (r .end + p) (r .len + p) (r .units) goal
         unfolding Wfs count
         on-go rs st m post goal a nil ms c w h b g = absurd (omega arith)
         on-go rs st m post goal a (cons x xs) ms c w (more {a = y} {b = d} e h v) b g =

@@ -1,7 +1,7 @@
 // Rules in slots, and normalising terms by them. Inside, a term stands in cells: a subterm that is known to be normal has its size in its cell.
 ghost use mathlib.Core.Path.{_≡_};
 ghost use mathlib.Core.List.{[], _++_};
-ghost use Prim.Native.Nat.{ℕ, _+_, _*_, _<_, _≤_};
+ghost use Prim.Native.Nat.{_+_, _<_, _≤_};
 ghost use lib.ListN.{length, drop, take};
 ghost use Rattle.matching.specs.Cells.{node-bytes};
 ghost use Rattle.matching.specs.Held.{Within};

@@ -22,7 +22,7 @@ use mathlib.Core.Path.{_∙_, ap}
 use Prim.Native.Nat.{_+_, _*_}
 use native.Mathlib.Omega.{arith}
 use Rattle.terms.specs.Scan.{owes}
-use Rattle.normaliser.proofs.Parts.{part-length}
+use Rattle.normaliser.proofs.Parts.{from-length}
 use Rattle.normaliser.proofs.Settling.{Turning, turn-start, turn-empty, turn-leave, turn-stop, turn-end, turn-less, turn-on, turn-room}
 use Rattle.normaliser.proofs.Together.{Row, row-start, row-end, row-stop, row-on}
 
@@ -90,7 +90,7 @@ settle-settle-all-requires t c κs =
     let k = i .cost in
     let p = c .before .before .before .before .before .before .before .before .before .before .before .pre in
     let n = c .before .before .before .before .before .if1 .left in
-    let e = part-length 1 (c .before .before .before .before .before .before .loop .t) in
+    let e = from-length 1 (c .before .before .before .before .before .before .loop .t) in
     (omega arith, (p .1 .0, (omega arith, omega arith, omega arith)))
 
 settle-returns-3 : (t : ℕ) → settle-lts.Need-returns-3 (settle-cs t) (settle-at t) settle.Post settle-Inv-loop settle-μ-loop
@@ -133,7 +133,7 @@ settle-all-settle-requires t c κs =
     let b = i .small in
     let k = i .cost in
     let p = c .before .before .before .before .before .before .before .pre in
-    let e = part-length (c .before .before .loop .p) (c .before .before .loop .t) in
+    let e = from-length (c .before .before .loop .p) (c .before .before .loop .t) in
     (omega arith, (p .1 .0, (omega arith, omega arith, omega arith)))
 
 settle-all-same-length : (t : ℕ) → settle-all-lts.Need-same-length (settle-all-cs t) (settle-all-at t) settle-all.Post settle-all-Inv-loop settle-all-μ-loop
