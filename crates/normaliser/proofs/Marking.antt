@@ -19,6 +19,7 @@ use Rattle.terms.proofs.Shape.{none≢some}
 use Rattle.unify.specs.Unify.{Binding}
 use Rattle.rewriting.specs.Overlap.{Rule}
 use Rattle.rewriting.specs.Rewrite.{bound, bound-or-variable, instantiate, root-step, step, step-in}
+use Rattle.rewriting.proofs.Matching.{by}
 use Rattle.matching.specs.Cells.{cells, cells-all, root-byte, cells-below, Stands}
 use Rattle.matching.specs.Held.{Slot, Rep}
 use Rattle.matching.specs.Pieces.{slot-of, first-cell, piece-at, piece, pieces}
@@ -166,11 +167,11 @@ module _ (rs : List Rule) where
     mutual
       unfolding pieces term-bytes subst-term Wf Wfs
 
-      term-marked : (r : Term) → Wf 16 tab r → Marked rs (pieces T B (term-bytes r)) (subst-term (λ y. bound-or-variable y (bound bs y)) r)
+      term-marked : (r : Term) → Wf 16 tab r → Marked rs (pieces T B (term-bytes r)) (subst-term (by bs) r)
       term-marked (var y) v = subst (λ l. Marked rs l (bound-or-variable y (bound bs y))) (sym (append-nil (piece T B (128 + y)))) (variable-marked y v)
       term-marked (node f ts) v = visit (ap (λ z. z ++ pieces T B (terms-bytes ts)) (symbol-piece f (v .0))) (terms-marked ts (v .2))
 
-      terms-marked : (ts : Terms) → Wfs 16 tab ts → MarkedAll rs (pieces T B (terms-bytes ts)) (subst-terms (λ y. bound-or-variable y (bound bs y)) ts)
+      terms-marked : (ts : Terms) → Wfs 16 tab ts → MarkedAll rs (pieces T B (terms-bytes ts)) (subst-terms (by bs) ts)
       terms-marked nil v = no-more refl
       terms-marked (cons t ts) v = more (pieces-append (term-bytes t) (terms-bytes ts)) (term-marked t (v .0)) (terms-marked ts (v .1))
 

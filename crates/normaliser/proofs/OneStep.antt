@@ -11,10 +11,11 @@ use lib.ListN.{length, getD, drop, take, set, length-set, length-append}
 use lib.Seq.{drop-at, take-set-lt}
 use Rattle.terms.specs.Term.{Term, Terms, var, node, nil, cons, size, subst-term, subst-terms}
 use Rattle.terms.specs.Flat.{Wf, Wfs}
-use Rattle.terms.proofs.Subst.{count-subst}
+use Rattle.terms.proofs.Subst.{Subst, count-subst}
 use Rattle.unify.specs.Unify.{Binding}
 use Rattle.rewriting.specs.Overlap.{Rule, sides-of}
 use Rattle.rewriting.specs.Rewrite.{bound, bound-or-variable, instantiate, root-step}
+use Rattle.rewriting.proofs.Matching.{by}
 use Rattle.matching.specs.Cells.{cells, root-byte, cells-below, Stands}
 use Rattle.matching.specs.Held.{Slot, Rep, Within}
 use Rattle.matching.specs.Pieces.{Put, pieces, replaced}
@@ -26,28 +27,27 @@ use Rattle.normaliser.proofs.Marking.{instance-marked, marked-length}
 use Rattle.normaliser.proofs.Parts.{head-of}
 
 -- an instance is well-formed
-module _ (tab T : List ℕ) (n : ℕ) (B : List ℕ) (bs : List Binding) (rep : Rep tab T n B bs) where
-  slot-wf : (x : ℕ) → x < 16 → (k : ℕ) (o : Option Term) → Slot tab T n k o → Wf 32 tab (bound-or-variable x o)
-  unfolding bound-or-variable Wf
-  slot-wf x h zero none s = omega arith
-  slot-wf x h zero (some u) s = absurd s
-  slot-wf x h (suc k) none s = absurd s
-  slot-wf x h (suc k) (some u) s = s .wf
+mutual
+  unfolding Wf Wfs subst-term
 
-  mutual
-    unfolding Wf Wfs subst-term
+  wf-subst : (m n : ℕ) (tab : List ℕ) (σ : Subst) → ((x : ℕ) → x < m → Wf n tab (σ x)) → (t : Term) → Wf m tab t → Wf n tab (subst-term σ t)
+  wf-subst m n tab σ h (var x) w = h x w
+  wf-subst m n tab σ h (node f ts) w = (w .0, count-subst σ ts ∙ w .1, wf-substs m n tab σ h ts (w .2))
 
-    wf-subst : (r : Term) → Wf 16 tab r → Wf 32 tab (subst-term (λ x. bound-or-variable x (bound bs x)) r)
-    wf-subst (var x) w = slot-wf x w (getD B x 0) (bound bs x) (rep x w)
-    wf-subst (node f ts) w = (w .0, count-subst (λ x. bound-or-variable x (bound bs x)) ts ∙ w .1, wf-substs ts (w .2))
+  wf-substs : (m n : ℕ) (tab : List ℕ) (σ : Subst) → ((x : ℕ) → x < m → Wf n tab (σ x)) → (ts : Terms) → Wfs m tab ts → Wfs n tab (subst-terms σ ts)
+  wf-substs m n tab σ h nil w = tt
+  wf-substs m n tab σ h (cons t ts) w = (wf-subst m n tab σ h t (w .0), wf-substs m n tab σ h ts (w .1))
 
-    wf-substs : (ts : Terms) → Wfs 16 tab ts → Wfs 32 tab (subst-terms (λ x. bound-or-variable x (bound bs x)) ts)
-    wf-substs nil w = tt
-    wf-substs (cons t ts) w = (wf-subst t (w .0), wf-substs ts (w .1))
+slot-wf : (tab T : List ℕ) (n x : ℕ) → x < 16 → (k : ℕ) (o : Option Term) → Slot tab T n k o → Wf 32 tab (bound-or-variable x o)
+unfolding bound-or-variable Wf
+slot-wf tab T n x h zero none s = omega arith
+slot-wf tab T n x h zero (some u) s = absurd s
+slot-wf tab T n x h (suc k) none s = absurd s
+slot-wf tab T n x h (suc k) (some u) s = s .wf
 
-  wf-instance : (r : Term) → Wf 16 tab r → Wf 32 tab (instantiate bs r)
-  unfolding instantiate
-  wf-instance r w = wf-subst r w
+wf-instance : (tab T : List ℕ) (n : ℕ) (B : List ℕ) (bs : List Binding) → Rep tab T n B bs → (r : Term) → Wf 16 tab r → Wf 32 tab (instantiate bs r)
+unfolding instantiate
+wf-instance tab T n B bs rep r w = wf-subst 16 32 tab (by bs) (λ x h. slot-wf tab T n x h (getD B x 0) (bound bs x) (rep x h)) r w
 
 -- the part of a slot that is its right side
 pub contracted-by : (rules lens t t′ B : List ℕ) (k len end most m w : ℕ) → m ≡ getD lens (2 * k + 1) 0 → Put t t′ 0 most w (replaced (take len t) B (take (240 * k + 120 + m - (240 * k + 120)) (drop (240 * k + 120) rules)) end) →
@@ -76,36 +76,25 @@ module _ (rules lens t : List ℕ) (number len end most units k : ℕ) (B B′ T
   stands : (tab : List ℕ) (x : Term) (post : List ℕ) → Wf 32 tab x → take len t ≡ open-cells x ++ post → end ≡ size x → Stands tab T (size x) 0 x
   stands tab x post w b d = record { wf = w; rest = post; text = eT ∙ text tab x post w b d; inside = omega arith }
 
+  -- no step: the length and the end stay
+  stays : (t′ : List ℕ) (v u : ℕ) → length t′ ≡ length t → v ≤ 2 → u ≤ units →
+      ((tab : List ℕ) (rs : List Rule) → Stored tab rules lens 0 (sides-of rs) → number ≡ length rs → (x : Term) (post : List ℕ) → Wf 32 tab x → take len t ≡ open-cells x ++ post → end ≡ size x → ArgumentsNormal rs x →
+      Wrote tab rs t′ x post most units (out v u len end) (root-step rs x)) → Rewritten rules lens number t t′ len end most units (out v u len end)
+  stays t′ v u s l h a = record { same = s; known = omega arith; ends = p; small = q; left-over = h; paid = λ z. absurd (omega arith); place = λ z. (refl, refl); answer = a }
+
   pub step-none : k ≡ number → Rewritten rules lens number t (set t 0 c) len end most units (out 0 units len end)
-  step-none e = record {
-    same = length-set t 0 c;
-    known = omega arith;
-    ends = p;
-    small = q;
-    left-over = omega arith;
-    paid = λ z. absurd (omega arith);
-    place = λ z. (refl, refl);
-    answer = λ tab rs st n x post w b d nb.
-        subst (λ o. Wrote tab rs (set t 0 c) x post most units (out 0 units len end) o) (sym (f .missing e tab rs st n x (stands tab x post w b d))) (refl, refl, text tab x post w b d);
-  }
+  step-none e = stays (set t 0 c) 0 units (length-set t 0 c) (omega arith) (omega arith) λ tab rs st n x post w b d nb.
+      subst (λ o. Wrote tab rs (set t 0 c) x post most units (out 0 units len end) o) (sym (f .missing e tab rs st n x (stands tab x post w b d))) (refl, refl, text tab x post w b d)
 
   module _ (ne : k ≡ number → ⊥) where
     chosen : (tab : List ℕ) (rs : List Rule) → Stored tab rules lens 0 (sides-of rs) → number ≡ length rs → (x : Term) (post : List ℕ) → Wf 32 tab x → take len t ≡ open-cells x ++ post → end ≡ size x → Choice tab rules lens T B′ k x (root-step rs x)
     chosen tab rs st n x post w b d = f .lowest (let i = f .bounded in omega arith) tab rs st n x (stands tab x post w b d)
 
     pub step-spent : units ≡ 0 → Rewritten rules lens number t (set t 0 c) len end most units (out 1 0 len end)
-    step-spent u = record {
-      same = length-set t 0 c;
-      known = omega arith;
-      ends = p;
-      small = q;
-      left-over = omega arith;
-      paid = λ z. absurd (omega arith);
-      place = λ z. (refl, refl);
-      answer = λ tab rs st n x post w b d nb. let h = chosen tab rs st n x post w b d in
-          subst (λ o. Wrote tab rs (set t 0 c) x post most units (out 1 0 len end) o) (sym (h .result))
-          (subst (λ m. Wrote tab rs (set t 0 c) x post most m (out 1 0 len end) (some (instantiate (h .bindings) (h .rule .right)))) (sym u) (refl, refl));
-    }
+    step-spent u = stays (set t 0 c) 1 0 (length-set t 0 c) (omega arith) (omega arith) λ tab rs st n x post w b d nb.
+        let h = chosen tab rs st n x post w b d in
+        subst (λ o. Wrote tab rs (set t 0 c) x post most units (out 1 0 len end) o) (sym (h .result))
+        (subst (λ m. Wrote tab rs (set t 0 c) x post most m (out 1 0 len end) (some (instantiate (h .bindings) (h .rule .right)))) (sym u) (refl, refl))
 
     pub found-within : Within (take len (set t 0 c)) B′
     found-within = subst (λ l. Within l B′) eT (f .within (let i = f .bounded in omega arith))
@@ -160,16 +149,8 @@ module _ (rules lens t : List ℕ) (number len end most units k : ℕ) (B B′ T
             subst (λ z. Wrote tab rs t′ x post most (suc n) (out 2 (suc n - 1) len end) z) (sym (h .result)) (rw g (large-go tab rs x post wf b d nb o h n l))
 
         pub step-large : most < w → Rewritten rules lens number t t′ len end most units (out 2 (units - 1) len end)
-        step-large l = record {
-          same = pt .same ∙ length-set t 0 c;
-          known = omega arith;
-          ends = p;
-          small = q;
-          left-over = omega arith;
-          paid = λ z. absurd (omega arith);
-          place = λ z. (refl, refl);
-          answer = λ tab rs st n x post wf b d nb. wrote-large tab rs x post wf b d nb l (root-step rs x) (chosen tab rs st n x post wf b d) units refl;
-        }
+        step-large l = stays t′ 2 (units - 1) (pt .same ∙ length-set t 0 c) (omega arith) (omega arith) λ tab rs st n x post wf b d nb.
+            wrote-large tab rs x post wf b d nb l (root-step rs x) (chosen tab rs st n x post wf b d) units refl
 
         wrote-done : (tab : List ℕ) (rs : List Rule) (x : Term) (post : List ℕ) → Wf 32 tab x → take len t ≡ open-cells x ++ post → end ≡ size x → ArgumentsNormal rs x → w ≤ most → (o : Option Term) → Choice tab rules lens T B′ k x o →
             (v : ℕ) → v ≡ units → Wrote tab rs t′ x post most v (out 3 (v - 1) w 0) o

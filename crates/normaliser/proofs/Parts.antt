@@ -1,4 +1,4 @@
--- Parts of a list, lent and given back; the limit less what stands before; and no end has the code 0. Assumes nothing.
+-- Parts of a list, lent and given back, and what stands first in one; the limit less what stands before; and no end has the code 0. Assumes nothing.
 -- Read first: specs/Stored (code), terms/proofs/Starts (from).
 use mathlib.Core.Path.{_≡_, refl, sym, _∙_, ap, ap₂}
 use mathlib.Core.Bool.{Bool, true, false}
