@@ -44,7 +44,13 @@ walked-on (short z f) n next = absurd (omega arith)
 walked-on (large z f) n next = absurd (omega arith)
 walked-on (on z f) n next = f next
 
-room-from : {L R L′ R′ L″ R″ : List ℕ} {units u : ℕ} {w : Walk} → length L′ ≡ length L → length R′ ≡ length R → u ≤ units → Room L′ R′ L″ R″ u w → Room L R L″ R″ units w
+-- an answer with no pair
+pub bare-room : {L R L′ R′ : List ℕ} {v u units : ℕ} {w : Walk} → Bare v u w → length L′ ≡ length L → length R′ ≡ length R → u ≤ units → Room L R L′ R′ units w
+bare-room b p q l =
+    record { left-kept = p; right-kept = q; left-few = let h = b .no-left in omega arith; right-few = let h = b .no-right in omega arith; left-over = let h = b .units in omega arith }
+
+-- an answer from buffers of the same lengths, with no more units
+pub room-from : {L R L′ R′ L″ R″ : List ℕ} {units u : ℕ} {w : Walk} → length L′ ≡ length L → length R′ ≡ length R → u ≤ units → Room L′ R′ L″ R″ u w → Room L R L″ R″ units w
 room-from p q l r =
     record { left-kept = r .left-kept ∙ p; right-kept = r .right-kept ∙ q; left-few = r .left-few; right-few = r .right-few; left-over = let h = r .left-over in omega arith }
 
@@ -74,7 +80,7 @@ module _ {W : Type 0} {H : W → Type 0} {d : W → Part} {tab L R L′ R′ : L
   pub going-end : {w : Walk} → Over H e → Bare 3 u w → Walks H d tab L R L′ R′ units w
   going-end {w} o b =
       record {
-        room = record { left-kept = g .left-kept; right-kept = g .right-kept; left-few = let z = b .no-left in omega arith; right-few = let z = b .no-right in omega arith; left-over = let z = b .units in let y = g .within in omega arith };
+        room = bare-room b (g .left-kept) (g .right-kept) (g .within);
         answer = λ x h. on (b .verdict) (λ next. g .reaches x h next ∙ ap (λ (f : Paying Candidate). f u) (o .is x h next) ∙ ap next (let z = b .units in omega arith));
       }
 

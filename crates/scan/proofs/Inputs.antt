@@ -17,11 +17,11 @@ use Rattle.completion.specs.Calls.{origin-bytes}
 use Rattle.completion.proofs.Limits.{length-candidates}
 use Rattle.normaliser.specs.Stored.{Layout, RuleAt}
 use Rattle.store.specs.Slots.{patched}
-use Rattle.store.proofs.Patching.{length-patched, patched-here}
+use Rattle.store.proofs.Patching.{length-patched, front-more}
 use Rattle.store.proofs.Listing.{short-at}
 use Rattle.scan.specs.declared.Walk.{Walk}
 use Rattle.scan.specs.Walk.{compared, visits, visit-inputs, Walked, found, short, large, on, Walks, Holds, of-rules, PairWalk, SlotWalk, World, inputs-of, Given, no-candidate, of-input, of-inputs, rules-part, of-all, Finds, Scanned}
-use Rattle.scan.proofs.Going.{Unrolls, Over}
+use Rattle.scan.proofs.Going.{Unrolls, Over, room-from}
 use Rattle.scan.proofs.Placing.{stored-at}
 use Rattle.scan.proofs.Places.{scan-visits}
 
@@ -31,7 +31,7 @@ module _ (bytes : List ℕ) (a m : ℕ) (d d′ : List ℕ) (e : d′ ≡ patche
   part-length = length-take-le m (drop a bytes) (omega (arith, length-drop a bytes))
 
   front : take m d′ ≡ take m (drop a bytes)
-  front = ap (take m) e ∙ ap (λ n. take n (patched 0 (take m (drop a bytes)) d)) (sym part-length) ∙ patched-here 0 (take m (drop a bytes)) d (omega (arith, part-length))
+  front = ap (take m) e ∙ front-more 0 m (take m (drop a bytes)) d (omega (arith, part-length)) (omega (arith, part-length))
 
   kept-length : length d′ ≡ length d
   kept-length = ap length e ∙ length-patched 0 (take m (drop a bytes)) d (omega (arith, part-length))
@@ -64,7 +64,7 @@ module _ (tab bytes sizes : List ℕ) (k : ℕ) (lay : Layout tab bytes sizes (k
   pub slot-walk : {rules lens : List ℕ} {count : ℕ} {L₂ R₂ from : List ℕ} {units : ℕ} {w : Walk} → PairWalk tab rules lens count L₁ m R₁ n L₂ R₂ from units w → SlotWalk tab rules lens count bytes sizes k L R L₂ R₂ from units w
   slot-walk p =
       record {
-        room = record { left-kept = p .room .left-kept ∙ left-kept; right-kept = p .room .right-kept ∙ right-kept; left-few = p .room .left-few; right-few = p .room .right-few; left-over = p .room .left-over };
+        room = room-from left-kept right-kept (omega arith) (p .room);
         answer = λ rs st ct o e fr at.
             p .answer rs st ct o e fr (widen 16 32 tab (e .left) (omega arith) (at .left-wf)) (widen 16 32 tab (e .right) (omega arith) (at .right-wf))
             (front bytes (240 * k) m L L₁ el fits-left (let f = few-left in omega arith) ∙ ap (λ j. take j (drop (240 * k) bytes)) zm ∙ at .left-bytes)

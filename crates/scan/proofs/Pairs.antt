@@ -1,5 +1,5 @@
 -- `scan_pair` by its returns: a side that does not come to a normal form, equal forms, different forms. Assumes nothing.
--- Read first: specs/Walk (PairWalk, compared), normaliser/specs/Stored (Normalised).
+-- Read first: specs/Walk (PairWalk, compared), normaliser/specs/Stored (Normalised), proofs/Going (bare-room).
 use mathlib.Core.Path.{_≡_, refl, sym, _∙_, ap, subst}
 use mathlib.Core.Bool.{Bool, true, false}
 use mathlib.Core.List.{List, [], append-nil}
@@ -15,11 +15,13 @@ use Rattle.rewriting.specs.Overlap.{Rule, sides-of}
 use Rattle.rewriting.specs.Rewrite.{End, complete, neither-above, spent, too-large, rules-full, log-full, Paid, done, stop, Paying, return, and-then, _>>=_, normalise, normalise-pair}
 use Rattle.completion.specs.Turn.{Origin, Candidate, if-different}
 use Rattle.completion.specs.Calls.{origin-bytes}
+use Rattle.matching.proofs.Replacing.{take-less-zero}
 use Rattle.normaliser.specs.Stored.{Stored, code, NormalIs, Normalised}
 use Rattle.normaliser.specs.declared.Normal.{Normal}
 use Rattle.normaliser.proofs.Parts.{zero≢code}
 use Rattle.scan.specs.declared.Walk.{Walk}
 use Rattle.scan.specs.Walk.{Part, compared, Walked, found, short, large, on, Room, Bare, PairWalk}
+use Rattle.scan.proofs.Going.{bare-room}
 
 -- what the definition does with a pair, by what its sides come to
 module _ (rs : List Rule) (o : Origin) (e : Pair) (next : Paying Candidate) (u : ℕ) where
@@ -39,10 +41,6 @@ module _ (rs : List Rule) (o : Origin) (e : Pair) (next : Paying Candidate) (u :
       compared rs o e next u ≡ done (record { origin = o; sides = record { left = y; right = y′ } }) z
   unfolding compared normalise-pair _>>=_ and-then return if-different if_then_else_
   forms-differ y v y′ z q r s = rw (q, r, s)
-
-pub bare-room : {L R L′ R′ : List ℕ} {v u units : ℕ} {w : Walk} → Bare v u w → length L′ ≡ length L → length R′ ≡ length R → u ≤ units → Room L R L′ R′ units w
-bare-room b p q l =
-    record { left-kept = p; right-kept = q; left-few = let h = b .no-left in omega arith; right-few = let h = b .no-right in omega arith; left-over = let h = b .units in omega arith }
 
 -- a part that stops because normalising does
 ends : {tab L R : List ℕ} {d : Part} {u v : ℕ} {w : Walk} (l : Normal) (x : End) (k : ℕ) → l .verdict ≤ 4 → Bare (l .verdict) (v - l .paid) w →
@@ -92,10 +90,10 @@ module _ (tab rules lens : List ℕ) (count : ℕ) (L : List ℕ) (m : ℕ) (R :
         go rs o e y k q z by wy (stop x k′) q′ h = ends r x k′ (hr .known) (subst (λ j. Bare (r .verdict) (j - r .paid) w) (sym z) b) h (λ next. right-stops rs o e next units y k x k′ q q′)
 
     uncut : take (l .len - 0) L′ ≡ take (r .len - 0) R′ → take (l .len) L′ ≡ take (r .len) R′
-    uncut e = let a : l .len ≡ l .len - 0 = omega arith in let b : r .len - 0 ≡ r .len = omega arith in ap (λ k. take k L′) a ∙ e ∙ ap (λ k. take k R′) b
+    uncut e = sym (take-less-zero (l .len) L′) ∙ e ∙ take-less-zero (r .len) R′
 
     uncut⁻¹ : take (l .len) L′ ≡ take (r .len) R′ → take (l .len - 0) L′ ≡ take (r .len - 0) R′
-    uncut⁻¹ e = let a : l .len - 0 ≡ l .len = omega arith in let b : r .len ≡ r .len - 0 = omega arith in ap (λ k. take k L′) a ∙ e ∙ ap (λ k. take k R′) b
+    uncut⁻¹ e = take-less-zero (l .len) L′ ∙ e ∙ sym (take-less-zero (r .len) R′)
 
     -- the two forms are compared as bytes
     forms : (y y′ : Term) → take (l .len) L′ ≡ term-bytes y → take (r .len) R′ ≡ term-bytes y′ → Wf 32 tab y → Wf 32 tab y′ → take (l .len) L′ ≡ take (r .len) R′ → y ≡ y′

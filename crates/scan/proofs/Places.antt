@@ -5,6 +5,7 @@ use mathlib.Core.Bool.{Bool, true, false}
 use mathlib.Core.List.{List, [], _∷_, _++_}
 use mathlib.Core.Option.{Option, none, some}
 use Prim.Native.Nat.{ℕ, suc, _+_, _-_, _*_, _<_, _≤_}
+use native.Mathlib.Nat.{sub-zero}
 use native.Mathlib.Omega.{arith}
 use native.Mathlib.Numerals.{add-one}
 use lib.Dec.{ltb}
@@ -76,9 +77,7 @@ module _ (rs : List Rule) where
 
   all-positions : (i o : ℕ) (next : Paying Candidate) → visits rs (places (rule-at rs i) (rule-at rs o) (positions (rule-at rs o))) next ≡ at-positions i o 0 rs next
   unfolding at-positions positions
-  all-positions i o next =
-      let e : left-size o ≡ left-size o - 0 = omega arith in
-      ap (λ n. visits rs (places (rule-at rs i) (rule-at rs o) (count-from 0 n)) next) e
+  all-positions i o next = ap (λ n. visits rs (places (rule-at rs i) (rule-at rs o) (count-from 0 n)) next) (sym (sub-zero (left-size o)))
 
   -- a rule with the earlier rules
   with-more : (a b : ℕ) (next : Paying Candidate) → a < b → b < length rs → with-earlier a b rs next ≡ at-positions a b 0 rs (at-positions b a 0 rs (with-earlier (a + 1) b rs next))

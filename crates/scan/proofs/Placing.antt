@@ -1,5 +1,5 @@
 -- `scan_at` by what the overlap there is: none, too large (its peak or a side), or a pair that `scan_pair` compares. Assumes nothing.
--- Read first: specs/Walk (visit, at-place), overlaps/specs/Answer (Overlapped), proofs/WellFormed, proofs/Pairs, proofs/Going.
+-- Read first: specs/Walk (visit, at-place), overlaps/specs/Answer (Overlapped), proofs/WellFormed, proofs/Going.
 use mathlib.Core.Path.{_≡_, refl, sym, _∙_, ap, subst}
 use mathlib.Core.Bool.{Bool, true, false}
 use mathlib.Core.List.{List, [], _∷_, _++_, map}
@@ -12,6 +12,7 @@ use lib.Seq.{length-take-le}
 use Rattle.terms.specs.Base.{number-bytes}
 use Rattle.terms.specs.Term.{Pair, term-bytes, size, renamed}
 use Rattle.terms.proofs.Bytes.{length-bytes}
+use Rattle.terms.proofs.Shape.{zero≢one}
 use Rattle.rewriting.specs.Overlap.{Rule, Overlap, overlap, Place}
 use Rattle.rewriting.specs.Rewrite.{too-large, Paid, done, stop, Paying, return, end-with, and-then, _>>=_, end-if, hold, normalise-pair}
 use Rattle.completion.specs.Turn.{Origin, overlapping, Candidate, scan-overlap, if-different, if-different-overlap}
@@ -24,8 +25,7 @@ use Rattle.scan.specs.declared.Walk.{Walk}
 use Rattle.scan.specs.declared.spots.Spot.{Spot}
 use Rattle.scan.specs.Walk.{compared, visit, rule-at, no-rule, Holds, at-place, Walked, short, large, on, Bare, Walks, PairWalk}
 use Rattle.scan.proofs.WellFormed.{overlap-wf}
-use Rattle.scan.proofs.Pairs.{bare-room}
-use Rattle.scan.proofs.Going.{walked-from}
+use Rattle.scan.proofs.Going.{bare-room, room-from, walked-from}
 
 -- the definition at a place
 module _ (rs : List Rule) (at : Place) (next : Paying Candidate) where
@@ -71,7 +71,7 @@ stored-at sides d {tab} {b} {l} k (x ∷ xs) h zero q = subst (λ j. RuleAt tab 
 stored-at sides d {tab} {b} {l} k (x ∷ xs) h (suc i) q = subst (λ j. RuleAt tab b l j (sides (getD xs i d))) (omega arith) (stored-at sides d (suc k) xs (h .1) i (omega arith))
 
 module _ {tab rules lens numbers : List ℕ} {count : ℕ} {rs : List Rule} (h : Holds tab rules lens numbers count rs) where
-  pub rule-stands : (k : ℕ) → k < count → RuleAt tab rules lens k (rule-at rs k .sides)
+  rule-stands : (k : ℕ) → k < count → RuleAt tab rules lens k (rule-at rs k .sides)
   rule-stands k l = subst (λ j. RuleAt tab rules lens j (rule-at rs k .sides)) (omega arith) (stored-at (λ (r : Rule). r .sides) no-rule 0 rs (h .stored) k (let c = h .counted in omega arith))
 
   pub left-size : Layout tab rules lens count → (k : ℕ) → k < count → getD lens (2 * k) 0 ≡ size (rule-at rs k .sides .left)
@@ -96,15 +96,15 @@ module _ (tab rules lens numbers : List ℕ) (count : ℕ) (at : Spot) (L R L′
     unfolding at-place
     place-nothing e b = record { room = bare-room b (M .kept .left) (M .kept .right) (omega arith); answer = λ rs h. go rs (overlap (rule-at rs (at .inner) .sides) (rule-at rs (at .outer) .sides) (at .position)) refl (said rs h) }
       where
-        clash : (v : Overlap) (a b c : Bool) → Answered L′ R′ m (size (v .sides .left)) (size (v .sides .right)) (renamed (v .sides)) a b c → _≡_ {A = ℕ} 0 1
-        clash v true b c s = cc
-        clash v false true c s = cc
-        clash v false false true s = cc
-        clash v false false false s = let z = s .0 in cc
+        clash : (v : Overlap) (a b c : Bool) → Answered L′ R′ m (size (v .sides .left)) (size (v .sides .right)) (renamed (v .sides)) a b c → ⊥
+        clash v true b c s = zero≢one (cc)
+        clash v false true c s = zero≢one (cc)
+        clash v false false true s = zero≢one (cc)
+        clash v false false false s = let z = s .0 in zero≢one (cc)
 
         go : (rs : List Rule) (o : Option Overlap) → overlap (rule-at rs (at .inner) .sides) (rule-at rs (at .outer) .sides) (at .position) ≡ o → Says L′ R′ m o → Walked tab L′ R′ (visit rs (place rs)) units w
         go rs none q s = on (b .verdict) (λ next. ap (λ (f : Paying Candidate). f units) (visit-none rs (place rs) next q) ∙ ap next (let z = b .units in omega arith))
-        go rs (some v) q s = absurd (let z = clash v (ltb 120 (size (v .peak))) (ltb 120 (size (v .sides .left))) (ltb 120 (size (v .sides .right))) s in omega arith)
+        go rs (some v) q s = absurd (clash v (ltb 120 (size (v .peak))) (ltb 120 (size (v .sides .left))) (ltb 120 (size (v .sides .right))) s)
 
     pub place-large : m ≡ TooLarge → Bare 2 units w → Walks (Holds tab rules lens numbers count) (at-place at) tab L R L′ R′ units w
     unfolding at-place
@@ -119,10 +119,10 @@ module _ (tab rules lens numbers : List ℕ) (count : ℕ) (at : Spot) (L R L′
         sized rs v q true b c x y z s = stops rs (λ next. visit-peak rs (place rs) next units v q x)
         sized rs v q false true c x y z s = stops rs (λ next. visit-left rs (place rs) next units v q x y)
         sized rs v q false false true x y z s = stops rs (λ next. visit-right rs (place rs) next units v q x y z)
-        sized rs v q false false false x y z s = absurd (let k = s .0 in let i : _≡_ {A = ℕ} 0 1 = cc in omega arith)
+        sized rs v q false false false x y z s = absurd (let k = s .0 in zero≢one (cc))
 
         go : (rs : List Rule) (o : Option Overlap) → overlap (rule-at rs (at .inner) .sides) (rule-at rs (at .outer) .sides) (at .position) ≡ o → Says L′ R′ m o → Walked tab L′ R′ (visit rs (place rs)) units w
-        go rs none q s = absurd (let z : _≡_ {A = ℕ} 0 1 = cc in omega arith)
+        go rs none q s = absurd (zero≢one (cc))
         go rs (some v) q s = sized rs v q (ltb 120 (size (v .peak))) (ltb 120 (size (v .sides .left))) (ltb 120 (size (v .sides .right))) refl refl refl s
 
     module _ (a b : ℕ) (from L″ R″ : List ℕ) where
@@ -131,7 +131,7 @@ module _ (tab rules lens numbers : List ℕ) (count : ℕ) (at : Spot) (L R L′
       unfolding at-place origin-bytes
       place-pair e f k =
           record {
-            room = record { left-kept = k .room .left-kept ∙ M .kept .left; right-kept = k .room .right-kept ∙ M .kept .right; left-few = k .room .left-few; right-few = k .room .right-few; left-over = k .room .left-over };
+            room = room-from (M .kept .left) (M .kept .right) (omega arith) (k .room);
             answer = λ rs h. go rs h (overlap (rule-at rs (at .inner) .sides) (rule-at rs (at .outer) .sides) (at .position)) refl (said rs h);
           }
         where
@@ -149,9 +149,9 @@ module _ (tab rules lens numbers : List ℕ) (count : ℕ) (at : Spot) (L R L′
           sized : (rs : List Rule) → Holds tab rules lens numbers count rs → (v : Overlap) → overlap (rule-at rs (at .inner) .sides) (rule-at rs (at .outer) .sides) (at .position) ≡ some v → (x y z : Bool) →
               ltb 120 (size (v .peak)) ≡ x → ltb 120 (size (v .sides .left)) ≡ y → ltb 120 (size (v .sides .right)) ≡ z →
               Answered L′ R′ m (size (v .sides .left)) (size (v .sides .right)) (renamed (v .sides)) x y z → Walked tab L″ R″ (visit rs (place rs)) units w
-          sized rs h v q true y z t₁ t₂ t₃ s = absurd (let i : _≡_ {A = ℕ} 0 1 = cc in omega arith)
-          sized rs h v q false true z t₁ t₂ t₃ s = absurd (let i : _≡_ {A = ℕ} 0 1 = cc in omega arith)
-          sized rs h v q false false true t₁ t₂ t₃ s = absurd (let i : _≡_ {A = ℕ} 0 1 = cc in omega arith)
+          sized rs h v q true y z t₁ t₂ t₃ s = absurd (zero≢one (cc))
+          sized rs h v q false true z t₁ t₂ t₃ s = absurd (zero≢one (cc))
+          sized rs h v q false false true t₁ t₂ t₃ s = absurd (zero≢one (cc))
           sized rs h v q false false false t₁ t₂ t₃ s =
               let k : m ≡ Found (size (v .sides .left)) (size (v .sides .right)) = s .0 in
               let g : size (v .sides .left) ≡ a = cc in
@@ -159,10 +159,10 @@ module _ (tab rules lens numbers : List ℕ) (count : ℕ) (at : Spot) (L R L′
               walked-from (λ next. visit-pair rs (place rs) next units v q t₁ t₂ t₃) (walk rs h v q (subst (λ n. take n L′ ≡ term-bytes (renamed (v .sides) .left)) g (s .1)) (subst (λ n. take n R′ ≡ term-bytes (renamed (v .sides) .right)) j (s .2)))
 
           go : (rs : List Rule) → Holds tab rules lens numbers count rs → (o : Option Overlap) → overlap (rule-at rs (at .inner) .sides) (rule-at rs (at .outer) .sides) (at .position) ≡ o → Says L′ R′ m o → Walked tab L″ R″ (visit rs (place rs)) units w
-          go rs h none q s = absurd (let z : _≡_ {A = ℕ} 0 1 = cc in omega arith)
+          go rs h none q s = absurd (zero≢one (cc))
           go rs h (some v) q s = sized rs h v q (ltb 120 (size (v .peak))) (ltb 120 (size (v .sides .left))) (ltb 120 (size (v .sides .right))) refl refl refl s
 
--- what `scan_at` asks of the functions that it calls
+-- what `scan_pair` asks, of a pair that was found
 pub found-fits : {tab rules lens : List ℕ} {inner outer p : ℕ} {L R L′ R′ : List ℕ} {m : Met} {a b : ℕ} → Overlapped tab rules lens inner outer p L R L′ R′ m → m ≡ Found a b →
     120 ≤ length L → 120 ≤ length R → (a ≤ 120) × (120 ≤ length L′) × (b ≤ 120) × (120 ≤ length R′)
 found-fits {a = a} {b = b} M e l r =

@@ -9,6 +9,7 @@ use lib.ListN.{length}
 use Rattle.terms.specs.Term.{Term, var, node, Terms, nil, cons, Pair, pair-variables, renamed}
 use Rattle.terms.specs.Scan.{arity}
 use Rattle.terms.specs.Flat.{Wf, Wfs}
+use Rattle.terms.proofs.Flats.{wf-made}
 use Rattle.terms.proofs.Limits.{Made, MadeAll, made-vars, variables-few, renamed-left-made, renamed-right-made}
 use Rattle.rewriting.specs.Overlap.{Overlap, overlap}
 use Rattle.rewriting.proofs.Limits.{OverlapMade, MaybeOverlap, overlap-made}
@@ -58,17 +59,6 @@ module _ (tab : List ℕ) where
     wf-overs n (cons t ts) w = (wf-over n t (w .0), wf-overs n ts (w .1))
 
   mutual
-    unfolding Wf Made
-
-    wf-made : (n : ℕ) (t : Term) → Wf n tab t → Made Low16 (λ x. x < n) t
-    wf-made n (var x) w = w
-    wf-made n (node f ts) w = (w .0, wf-mades n ts (w .2))
-
-    wf-mades : (n : ℕ) (ts : Terms) → Wfs n tab ts → MadeAll Low16 (λ x. x < n) ts
-    wf-mades n nil w = tt
-    wf-mades n (cons t ts) w = (wf-made n t (w .0), wf-mades n ts (w .1))
-
-  mutual
     unfolding Wf Made Over
 
     over-wf : (n : ℕ) (t : Term) → Over symbols t → Made Low16 (λ x. x < n) t → Wf n tab t
@@ -90,6 +80,6 @@ module _ (tab : List ℕ) where
 
   pub overlap-wf : (inner outer : Pair) (p : ℕ) (o : Overlap) → overlap inner outer p ≡ some o → WfPair 16 inner → WfPair 16 outer → WfPair 32 (renamed (o .sides))
   overlap-wf inner outer p o e wi wo =
-      let k : MaybeOverlap Low16 (overlap inner outer p) = overlap-made Low16 inner outer p (wf-made 16 _ (wi .0), wf-made 16 _ (wi .1)) (wf-made 16 _ (wo .0), wf-made 16 _ (wo .1)) in
+      let k : MaybeOverlap Low16 (overlap inner outer p) = overlap-made Low16 inner outer p (wf-made 16 tab _ (wi .0), wf-made 16 tab _ (wi .1)) (wf-made 16 tab _ (wo .0), wf-made 16 tab _ (wo .1)) in
       let h : OverlapMade Low16 o = subst (MaybeOverlap Low16) e k in
       renamed-wf (o .sides) (over-overlap symbols inner outer p o e (wf-over 16 _ (wi .0), wf-over 16 _ (wi .1)) (wf-over 16 _ (wo .0), wf-over 16 _ (wo .1)) .1) (h .left-made) (h .right-made)
