@@ -10,13 +10,13 @@ use Rattle.terms.specs.Term.{Pair}
 use Rattle.problem.specs.Problem.{Problem}
 use Rattle.rewriting.specs.Overlap.{Rule, sides-of}
 use Rattle.rewriting.specs.Rewrite.{End, neither-above, too-large, rules-full, Paid, done, stop}
-use Rattle.normaliser.specs.Stored.{Stored, code}
+use Rattle.normaliser.specs.Stored.{Layout, Stored, code}
 use Rattle.completion.specs.Turn.{Origin, State as RunState, Taken, kept, removed, normalise-rights, make-rule}
 use Rattle.completion.specs.Calls.{origin-bytes, end-number}
 use Rattle.completion.proofs.Turning.{new-rule, make-stops, make-rules-full, make-rights-stop, make-done}
 use Rattle.compose.specs.Rights.{AllIs}
 use Rattle.compose.specs.declared.Composed.{Composed}
-use Rattle.engine.specs.State.{Whole, Represents}
+use Rattle.engine.specs.State.{Whole, FineBut, Represents}
 use Rattle.engine.specs.Steps.{LoggedState}
 use Rattle.orient.specs.Oriented.{oriented, OrientedIs}
 use Rattle.normaliser.proofs.Parts.{zero≢code}
@@ -52,11 +52,25 @@ with-slots st b l = record {
   units = st .units;
 }
 
+pub slots-fine : {k : ℕ} {st : Whole} (b l : List ℕ) → FineBut k st → Layout [] b l (st .count) → length b ≡ 7920 → FineBut k (with-slots st b l)
+slots-fine b l F y room =
+    record {
+      rules-fit = y;
+      waiting-fit = F .waiting-fit;
+      live = F .live;
+      together = F .together;
+      log-few = F .log-few;
+      made-few = F .made-few;
+      rules-room = room;
+      waiting-room = F .waiting-room;
+      log-room = F .log-room;
+    }
+
 abbrev with-rules : RunState → List Rule → RunState
 with-rules s rules = record { rules = rules; made = s .made; waiting = s .waiting; log = s .log }
 
 module _ (tab : List ℕ) (st : Whole) (s : RunState) (rs : List Rule) (R : Represents tab st s) where
-  slots-represent : (b l : List ℕ) → Stored tab b l 0 (sides-of rs) → st .count ≡ length rs → map (λ r. r .number) rs ≡ map (λ r. r .number) (s .rules) →
+  pub slots-represent : (b l : List ℕ) → Stored tab b l 0 (sides-of rs) → st .count ≡ length rs → map (λ r. r .number) rs ≡ map (λ r. r .number) (s .rules) →
       Represents tab (with-slots st b l) (with-rules s rs)
   slots-represent b l h n k =
       record {

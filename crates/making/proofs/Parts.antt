@@ -1,11 +1,11 @@
--- `finish`, `make_rule`, `settled` and `make`: from what their callees promise to the whole of their own promises. Assumes nothing.
--- Read first: specs/Made (Finishes, Makes, SettledTurn, MakesTurn), proofs/Making, proofs/Turns.
+-- `finish`, `make_rule`, `with_rule`, `settled` and `make`: from what their callees promise to the whole of their own promises. Assumes nothing.
+-- Read first: specs/Made (Finishes, Makes, WithRule, SettledTurn, MakesTurn), proofs/Making, proofs/Turns.
 use mathlib.Core.Path.{_≡_, refl, sym, ap, _∙_, subst}
 use mathlib.Core.Logic.{_⊎_, inl, inr}
 use mathlib.Core.List.{List, [], _∷_, _++_}
-use Prim.Native.Nat.{ℕ, zero, suc, _+_, _*_, _<_, _≤_}
+use Prim.Native.Nat.{ℕ, _+_, _<_, _≤_}
 use native.Mathlib.Omega.{arith}
-use lib.ListN.{length, getD, length-append}
+use lib.ListN.{length, length-append}
 use Rattle.terms.specs.Term.{Pair}
 use Rattle.order.specs.Walk.{rank}
 use Rattle.problem.specs.Problem.{rank-of, Problem}
@@ -13,6 +13,7 @@ use Rattle.rewriting.specs.Overlap.{Rule, sides-of}
 use Rattle.rewriting.specs.Rewrite.{End, too-large, neither-above, Paid, done, stop}
 use Rattle.normaliser.specs.Stored.{Layout, Sides, Stored, RuleAt}
 use Rattle.store.specs.Slots.{ShortAt}
+use Rattle.store.proofs.Listing.{layout-of}
 use Rattle.completion.specs.Turn.{State as RunState, Taken, normalise-rights, make-rule}
 use Rattle.completion.specs.Calls.{end-number}
 use Rattle.completion.proofs.Turning.{new-rule}
@@ -23,7 +24,7 @@ use Rattle.engine.specs.Steps.{LoggedState, CollapsedState, OrientedState, Take
 use Rattle.orient.specs.Oriented.{oriented, OrientedIs, Placed}
 use Rattle.making.specs.Made.{Outcome, Stops, Stays, Safe, Finishes, without-taken, Makes, WithRule, SettledTurn, MakesTurn}
 use Rattle.making.proofs.Keeping.{said}
-use Rattle.making.proofs.Making.{finish-stops, finish-done, with-slots, make-neither, make-large, make-full, make-finished}
+use Rattle.making.proofs.Making.{finish-stops, finish-done, with-slots, slots-fine, make-neither, make-large, make-full, make-finished}
 use Rattle.normaliser.proofs.Choosing.{layout-front}
 use Rattle.making.proofs.Turns.{turn-full, turn-settled, turn-made, turn-not-made}
 
@@ -79,19 +80,8 @@ module _ (st : Whole) (tab b l origin : List ℕ) (older units : ℕ) (c : Compo
             (A .answer rules new (behind s rules new q R) (slots-of s rules new q R)) v q (sym n) R G g y;
       }
 
-pub slots-fine : (st : Whole) (tab b l : List ℕ) (older units : ℕ) (c : Composed) → All tab (st .rules) (st .lens) b l older units c → older + 1 ≡ st .count → FineBut 1 st → FineBut 1 (with-slots st b l)
-slots-fine st tab b l older units c A n F =
-    record {
-      rules-fit = layout-front _ _ _ _ _ _ (A .kept .layout) (omega (arith, n));
-      waiting-fit = F .waiting-fit;
-      live = F .live;
-      together = F .together;
-      log-few = F .log-few;
-      made-few = F .made-few;
-      rules-room = A .kept .same-bytes ∙ F .rules-room;
-      waiting-room = F .waiting-room;
-      log-room = F .log-room;
-    }
+pub composed-fine : (st : Whole) (tab b l : List ℕ) (older units : ℕ) (c : Composed) → All tab (st .rules) (st .lens) b l older units c → older + 1 ≡ st .count → FineBut 1 st → FineBut 1 (with-slots st b l)
+composed-fine st tab b l older units c A n F = slots-fine b l F (layout-front _ _ _ _ _ _ (A .kept .layout) (omega (arith, n))) (A .kept .same-bytes ∙ F .rules-room)
 
 pub one-behind : (st : Whole) → Fine st → FineBut 1 st
 one-behind st F =
@@ -99,18 +89,7 @@ one-behind st F =
 
 -- `make_rule`
 pub one-slot : (tab l b : List ℕ) → 240 ≤ length b → 2 ≤ length l → ShortAt l 0 → Layout tab b l 1
-one-slot tab l b p q h =
-    record {
-      slots = omega arith;
-      lengths = omega arith;
-      few = omega arith;
-      short = λ i lt. go i lt (h .left) (h .right);
-    }
-  where
-    go : (i : ℕ) → i < 2 * 1 → getD l (2 * 0) 0 ≤ 120 → getD l (2 * 0 + 1) 0 ≤ 120 → getD l i 0 ≤ 120
-    go zero lt x y = x
-    go (suc zero) lt x y = y
-    go (suc (suc i)) lt x y = absurd (omega arith)
+one-slot tab l b p q h = layout-of tab b l 1 (omega arith) (omega arith) (omega arith) (λ k lt. subst (ShortAt l) (let e : 0 ≡ k = omega arith in e) h)
 
 module _ (st : Whole) (tab left right origin b l b′ l′ : List ℕ) (units r : ℕ) (o : Outcome) (A : Placed tab left right b l 0 r b′ l′) where
   abbrev answered : (P : Problem) → rank-of (P .symbols) ≡ rank tab → (t : Taken) → Sides 32 tab left right (t .pair .sides) → OrientedIs tab b′ l′ 0 r (t .pair .sides) units (oriented P (t .pair .sides) units)

@@ -1,11 +1,11 @@
 -- `finish`: a right side came to a stop (`finishes-stop`), or all are normal and the entry is logged (`finishes-done`). Assumes nothing.
--- Read first: specs/Made (Finishes), compose/specs/Rights (All), proofs/Parts.
+-- Read first: specs/Made (Finishes), compose/specs/Rights (All), proofs/Copying, proofs/Parts.
 use native.Mathlib.Omega.{arith}
 use mathlib.Core.Path.{refl, _∙_}
 use Rattle.making.proofs.Keeping.{stays}
 use Rattle.making.proofs.Copying.{copied, pasted-room, logged-copy}
 use Rattle.normaliser.proofs.Choosing.{layout-front}
-use Rattle.making.proofs.Parts.{finishes-stop, finishes-done, slots-fine}
+use Rattle.making.proofs.Parts.{finishes-stop, finishes-done, composed-fine}
 use borrow.Author.Needs.{needs}
 use Rattle.making.proofs.finish.Statement.{statement}
 use Rattle.making.proofs.finish.Tie as tie
@@ -40,7 +40,7 @@ returns-2 c =
       kept = λ v. absurd (v (c .stopped2 .ensures .verdict-is));
       finishes = λ waiting fine.
           finishes-done _ _ _ _ _ _ _ _ _ (c .before .before .before .before .before .before .before .before .before .before .before .before .before .before .before .before .before .compose .ensures) (omega arith) (c .before .before .before .before .before .before .before .before .before .before .before .before .if1 .left) _
-          (logged-copy _ _ _ _ _ C (c .before .before .before .with-entry .ensures .logged _ waiting (slots-fine _ _ _ _ _ _ _ (c .before .before .before .before .before .before .before .before .before .before .before .before .before .before .before .before .before .compose .ensures) (omega arith) fine))) (stays (c .stopped2 .ensures) _ _ _);
+          (logged-copy _ _ _ _ _ C (c .before .before .before .with-entry .ensures .logged _ waiting (composed-fine _ _ _ _ _ _ _ (c .before .before .before .before .before .before .before .before .before .before .before .before .before .before .before .before .before .compose .ensures) (omega arith) fine))) (stays (c .stopped2 .ensures) _ _ _);
     }
 
 pub finish-spec : {M : Type 1} → statement M

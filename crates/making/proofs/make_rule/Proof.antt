@@ -1,5 +1,5 @@
--- `make_rule`: a lemma for each return: neither side above, too many variables, 32 rules live, or what `finish` answers. Assumes nothing.
--- Read first: specs/Made (Makes), orient/specs/Oriented (Placed), engine/specs/Steps (CollapsedState, OrientedState), proofs/Parts.
+-- `make_rule`: a lemma for each return: neither side above, too many variables, or what `with_rule` answers. Assumes nothing.
+-- Read first: specs/Made (Makes, WithRule), orient/specs/Oriented (Placed), proofs/Parts.
 use mathlib.Core.Path.{refl}
 use Rattle.making.proofs.Keeping.{stops}
 use Rattle.making.proofs.Parts.{one-slot, makes-neither, makes-large, makes-with}

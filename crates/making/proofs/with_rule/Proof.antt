@@ -1,9 +1,8 @@
 -- `with_rule`: a stop of too many rules (the copy is dropped) or of `finish`, or the finished turn; the rules are changed in a copy of them. Assumes nothing.
--- Read first: specs/Made (WithRule), proofs/Making, `with_rule` in src/lib.rt.
+-- Read first: specs/Made (WithRule), `with_rule` in src/lib.rt, proofs/Copying, proofs/Parts.
 use lib.ListN.{length}
 use mathlib.Core.Path.{_≡_, refl}
 use native.Mathlib.Omega.{arith}
-use Rattle.engine.specs.State.{whole}
 use Rattle.making.proofs.Keeping.{stops}
 use Rattle.making.proofs.Copying.{copied, copied-fine, collapsed-copy}
 use Rattle.making.proofs.Parts.{rule-full, rule-finished}
@@ -23,7 +22,7 @@ collapse-requires c κs =
     let F = c .before .before .before .before .before .before .before .before .before .before .before .before .before .before .pre .0 .0 in
     let room : length (c .before .before .before .paste .last .0) ≡ 7920 = search needs in
     let C = copied _ _ _ _ (F .rules-room) (F .rules-fit .few) (c .before .before .before .paste .ensures) room in
-    let G = copied-fine (whole (c .before .before .before .before .before .before .before .before .before .before .before .before .before .before .args .st) (c .before .before .before .before .before .before .before .before .before .before .before .before .before .before .args .rules .now) (c .before .before .before .before .before .before .before .before .before .before .before .before .before .before .args .waiting .now) (c .before .before .before .before .before .before .before .before .before .before .before .before .before .before .args .log .now)) _ C 0 F in
+    let G = copied-fine F C in
     ((G .rules-fit, F .waiting-fit, c .before .before .before .before .before .before .before .before .before .before .before .before .before .before .pre .1), (F .live, F .together, room, F .waiting-room))
 
 returns : tie.Need-returns
@@ -31,7 +30,7 @@ returns c =
     let F = c .before .before .before .before .before .before .before .before .before .before .before .before .before .before .before .before .before .before .before .before .before .pre .0 .0 in
     let room : length (c .before .before .before .before .before .before .before .before .before .before .paste .last .0) ≡ 7920 = search needs in
     let C = copied _ _ _ _ (F .rules-room) (F .rules-fit .few) (c .before .before .before .before .before .before .before .before .before .before .paste .ensures) room in
-    let K = c .before .before .before .before .before .before .collapse .ensures .collapsed (c .before .before .before .before .before .before .before .before .before .before .before .before .before .before .before .before .before .before .before .before .before .args .log .now) (copied-fine (whole (c .before .before .before .before .before .before .before .before .before .before .before .before .before .before .before .before .before .before .before .before .before .args .st) (c .before .before .before .before .before .before .before .before .before .before .before .before .before .before .before .before .before .before .before .before .before .args .rules .now) (c .before .before .before .before .before .before .before .before .before .before .before .before .before .before .before .before .before .before .before .before .before .args .waiting .now) (c .before .before .before .before .before .before .before .before .before .before .before .before .before .before .before .before .before .before .before .before .before .args .log .now)) _ C 0 F) in
+    let K = c .before .before .before .before .before .before .collapse .ensures .collapsed (c .before .before .before .before .before .before .before .before .before .before .before .before .before .before .before .before .before .before .before .before .before .args .log .now) (copied-fine F C) in
     rule-full _ _ _ _ _ _ _ _ (collapsed-copy _ _ _ _ _ _ C F K) (c .before .if1 .taken) (stops (c .stopped .ensures) _ _ _ _ _ _ refl refl)
 
 orient-requires : tie.Need-orient-requires
@@ -39,7 +38,7 @@ orient-requires c κs =
     let F = c .before .before .before .before .before .before .before .before .before .before .before .before .before .before .before .before .before .before .before .before .before .pre .0 .0 in
     let room : length (c .before .before .before .before .before .before .before .before .before .before .paste .last .0) ≡ 7920 = search needs in
     let C = copied _ _ _ _ (F .rules-room) (F .rules-fit .few) (c .before .before .before .before .before .before .before .before .before .before .paste .ensures) room in
-    let K = c .before .before .before .before .before .before .collapse .ensures .collapsed (c .before .before .before .before .before .before .before .before .before .before .before .before .before .before .before .before .before .before .before .before .before .args .log .now) (copied-fine (whole (c .before .before .before .before .before .before .before .before .before .before .before .before .before .before .before .before .before .before .before .before .before .args .st) (c .before .before .before .before .before .before .before .before .before .before .before .before .before .before .before .before .before .before .before .before .before .args .rules .now) (c .before .before .before .before .before .before .before .before .before .before .before .before .before .before .before .before .before .before .before .before .before .args .waiting .now) (c .before .before .before .before .before .before .before .before .before .before .before .before .before .before .before .before .before .before .before .before .before .args .log .now)) _ C 0 F) in
+    let K = c .before .before .before .before .before .before .collapse .ensures .collapsed (c .before .before .before .before .before .before .before .before .before .before .before .before .before .before .before .before .before .before .before .before .before .args .log .now) (copied-fine F C) in
     let h = c .before .if1 .left in
     let p = K .fine .made-few in
     let q = K .entries in
@@ -51,7 +50,7 @@ finish-requires c κs =
     let F = c .before .before .before .before .before .before .before .before .before .before .before .before .before .before .before .before .before .before .before .before .before .before .before .before .before .before .pre .0 .0 in
     let room : length (c .before .before .before .before .before .before .before .before .before .before .before .before .before .before .before .paste .last .0) ≡ 7920 = search needs in
     let C = copied _ _ _ _ (F .rules-room) (F .rules-fit .few) (c .before .before .before .before .before .before .before .before .before .before .before .before .before .before .before .paste .ensures) room in
-    let K = c .before .before .before .before .before .before .before .before .before .before .before .collapse .ensures .collapsed (c .before .before .before .before .before .before .before .before .before .before .before .before .before .before .before .before .before .before .before .before .before .before .before .before .before .before .args .log .now) (copied-fine (whole (c .before .before .before .before .before .before .before .before .before .before .before .before .before .before .before .before .before .before .before .before .before .before .before .before .before .before .args .st) (c .before .before .before .before .before .before .before .before .before .before .before .before .before .before .before .before .before .before .before .before .before .before .before .before .before .before .args .rules .now) (c .before .before .before .before .before .before .before .before .before .before .before .before .before .before .before .before .before .before .before .before .before .before .before .before .before .before .args .waiting .now) (c .before .before .before .before .before .before .before .before .before .before .before .before .before .before .before .before .before .before .before .before .before .before .before .before .before .before .args .log .now)) _ C 0 F) in
+    let K = c .before .before .before .before .before .before .before .before .before .before .before .collapse .ensures .collapsed (c .before .before .before .before .before .before .before .before .before .before .before .before .before .before .before .before .before .before .before .before .before .before .before .before .before .before .args .log .now) (copied-fine F C) in
     let t = K .together in
     let u = c .before .before .before .before .before .before .before .before .before .before .before .before .before .before .before .before .before .before .before .before .before .before .before .before .before .before .pre .0 .1 in
     let N = c .before .before .before .before .orient .ensures .oriented _ _ (K .fine) (omega arith) in
@@ -67,7 +66,7 @@ returns-2 c =
     let F = c .before .before .before .before .before .before .before .before .before .before .before .before .before .before .before .before .before .before .before .before .before .before .before .before .before .before .before .before .before .before .before .before .pre .0 .0 in
     let room : length (c .before .before .before .before .before .before .before .before .before .before .before .before .before .before .before .before .before .before .before .before .before .paste .last .0) ≡ 7920 = c .before .before .before .before .before .before .before .before .before .before .before .before .before .before .before .before .before .before .before .before .next2 .given in
     let C = copied _ _ _ _ (F .rules-room) (F .rules-fit .few) (c .before .before .before .before .before .before .before .before .before .before .before .before .before .before .before .before .before .before .before .before .before .paste .ensures) room in
-    let K = c .before .before .before .before .before .before .before .before .before .before .before .before .before .before .before .before .before .collapse .ensures .collapsed (c .before .before .before .before .before .before .before .before .before .before .before .before .before .before .before .before .before .before .before .before .before .before .before .before .before .before .before .before .before .before .before .before .args .log .now) (copied-fine (whole (c .before .before .before .before .before .before .before .before .before .before .before .before .before .before .before .before .before .before .before .before .before .before .before .before .before .before .before .before .before .before .before .before .args .st) (c .before .before .before .before .before .before .before .before .before .before .before .before .before .before .before .before .before .before .before .before .before .before .before .before .before .before .before .before .before .before .before .before .args .rules .now) (c .before .before .before .before .before .before .before .before .before .before .before .before .before .before .before .before .before .before .before .before .before .before .before .before .before .before .before .before .before .before .before .before .args .waiting .now) (c .before .before .before .before .before .before .before .before .before .before .before .before .before .before .before .before .before .before .before .before .before .before .before .before .before .before .before .before .before .before .before .before .args .log .now)) _ C 0 F) in
+    let K = c .before .before .before .before .before .before .before .before .before .before .before .before .before .before .before .before .before .collapse .ensures .collapsed (c .before .before .before .before .before .before .before .before .before .before .before .before .before .before .before .before .before .before .before .before .before .before .before .before .before .before .before .before .before .before .before .before .args .log .now) (copied-fine F C) in
     let t = K .together in
     let u = c .before .before .before .before .before .before .before .before .before .before .before .before .before .before .before .before .before .before .before .before .before .before .before .before .before .before .before .before .before .before .before .before .pre .0 .1 in
     let h = c .before .before .before .before .before .before .before .before .before .before .before .before .if1 .left in
