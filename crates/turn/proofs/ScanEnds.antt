@@ -1,15 +1,13 @@
 -- The definition's scan ends with complete, spent or too large, and with no other end. Assumes nothing.
--- Read first: completion/specs/Turn (scan), rewriting/specs/Rewrite (End, normalise).
-use mathlib.Core.Path.{_≡_, refl, subst}
-use mathlib.Core.Bool.{Bool, true, false}
+-- Read first: completion/specs/Turn (scan), rewriting/proofs/Holds (Holds, Pays).
+use mathlib.Core.Path.{_≡_, subst}
 use mathlib.Core.List.{List, [], _∷_}
 use mathlib.Core.Option.{Option, none, some}
-use Prim.Native.Nat.{ℕ, zero, suc}
-use lib.Dec.{ltb}
-use Rattle.terms.specs.Base.{if_then_else_}
-use Rattle.terms.specs.Term.{Term, Pair, same, size, renamed}
-use Rattle.rewriting.specs.Overlap.{Rule, Overlap, overlap, Place}
-use Rattle.rewriting.specs.Rewrite.{step, End, complete, neither-above, spent, too-large, rules-full, log-full, Paid, done, stop, Paying, return, end-with, and-then, _>>=_, end-if, hold, normalise, normalise-pair}
+use Prim.Native.Nat.{ℕ}
+use Rattle.terms.specs.Term.{Pair, renamed}
+use Rattle.rewriting.specs.Overlap.{Rule, Overlap, Place}
+use Rattle.rewriting.specs.Rewrite.{End, complete, neither-above, spent, too-large, rules-full, log-full, stop, Paying, normalise-pair}
+use Rattle.rewriting.proofs.Holds.{Holds, Forms, Pays, bind-holds, return-holds, end-with-holds, if-holds, hold-holds, normalise-pair-holds}
 use Rattle.completion.specs.Turn.{Origin, Candidate, scan-overlap, if-different, if-different-overlap, scan-inputs, scan}
 
 abbrev pub ScanEnd : End → Type 0
@@ -20,82 +18,44 @@ ScanEnd rules-full = ⊥
 ScanEnd log-full = ⊥
 ScanEnd (neither-above e) = ⊥
 
-abbrev pub Scans : {A : Type 0} → Paid A → Type 0
-Scans (done a left) = Unit {0}
-Scans (stop e left) = ScanEnd e
+-- with any units left, and whatever is answered
+abbrev E : End → ℕ → Type 0
+E e left = ScanEnd e
 
-then-scans : {A B : Type 0} (p : Paid A) (next : A → Paying B) → Scans p → ((a : A) (n : ℕ) → Scans (next a n)) → Scans (and-then p next)
-unfolding and-then
-then-scans (done a left) next h k = k a left
-then-scans (stop e left) next h k = h
+abbrev Any : {A : Type 0} → A → Type 0
+Any a = Unit {0}
 
-normalise-scans : (rules : List Rule) (t : Term) (left : ℕ) → Scans (normalise rules t left)
-unfolding normalise if_then_else_
-normalise-scans rules t zero = go (step rules t) refl
-  where
-    go : (o : Option Term) → step rules t ≡ o → Scans (normalise rules t zero)
-    go none e = rw (e, normalise) tt
-    go (some u) e = rw (e, normalise) tt
-normalise-scans rules t (suc left) = go (step rules t) refl (λ u. normalise-scans rules u left)
-  where
-    test : (b : Bool) (p : Paid Term) → Scans p → Scans (if b then stop too-large left else p)
-    test true p h = tt
-    test false p h = h
+pair-scans : (rules : List Rule) (e : Pair) → Pays (Forms rules e) E (normalise-pair rules e)
+pair-scans rules e = normalise-pair-holds E rules tt e (λ _ _. tt) (λ _ _. tt)
 
-    go : (o : Option Term) → step rules t ≡ o → ((u : Term) → Scans (normalise rules u left)) → Scans (normalise rules t (suc left))
-    go none e k = rw (e, normalise) tt
-    go (some u) e k = rw (e, normalise) (test (ltb 120 (size u)) (normalise rules u left) (k u))
+overlap-scans : (rules : List Rule) (o : Option Overlap) → Pays Any E (scan-overlap rules o)
+unfolding scan-overlap
+overlap-scans rules none = return-holds none tt
+overlap-scans rules (some o) =
+    bind-holds _ _ (hold-holds (o .peak) (λ _ _. tt)) λ _ _.
+    bind-holds _ _ (hold-holds (o .sides .left) (λ _ _. tt)) λ _ _.
+    bind-holds _ _ (hold-holds (o .sides .right) (λ _ _. tt)) λ _ _.
+    bind-holds _ _ (pair-scans rules (renamed (o .sides))) λ forms _.
+    return-holds (some forms) tt
 
-pair-scans : (rules : List Rule) (e : Pair) (left : ℕ) → Scans (normalise-pair rules e left)
-unfolding normalise-pair _>>=_ return
-pair-scans rules e left =
-    then-scans (normalise rules (e .left) left) _ (normalise-scans rules (e .left) left) λ l n.
-    then-scans (normalise rules (e .right) n) (λ r. return (record { left = l; right = r })) (normalise-scans rules (e .right) n) λ r m. tt
+different-scans : (o : Origin) (f : Pair) (next : Paying Candidate) → Pays Any E next → Pays Any E (if-different o f next)
+unfolding if-different
+different-scans o f next k = if-holds _ _ _ (λ _. k) (λ _. return-holds _ tt)
 
-hold-scans : (t : Term) (left : ℕ) → Scans (hold t left)
-unfolding hold end-if end-with return
-hold-scans t left = go (ltb 120 (size t))
-  where
-    go : (b : Bool) → Scans (end-if b too-large left)
-    go true = tt
-    go false = tt
-
-overlap-scans : (rules : List Rule) (o : Option Overlap) (left : ℕ) → Scans (scan-overlap rules o left)
-unfolding scan-overlap _>>=_ return
-overlap-scans rules none left = tt
-overlap-scans rules (some o) left =
-    then-scans (hold (o .peak) left) _ (hold-scans (o .peak) left) λ _ a.
-    then-scans (hold (o .sides .left) a) _ (hold-scans (o .sides .left) a) λ _ b.
-    then-scans (hold (o .sides .right) b) _ (hold-scans (o .sides .right) b) λ _ c.
-    then-scans (normalise-pair rules (renamed (o .sides)) c) (λ forms. return (some forms)) (pair-scans rules (renamed (o .sides)) c) λ _ d. tt
-
-different-scans : (o : Origin) (f : Pair) (next : Paying Candidate) → ((n : ℕ) → Scans (next n)) → (left : ℕ) → Scans (if-different o f next left)
-unfolding if-different if_then_else_ return
-different-scans o f next k left = go (same (f .left) (f .right))
-  where
-    go : (b : Bool) → Scans ((if b then next else return (record { origin = o; sides = f })) left)
-    go true = k left
-    go false = tt
-
-inputs-scan : (rules : List Rule) (cs : List Candidate) (left : ℕ) → Scans (scan-inputs rules cs left)
-unfolding scan-inputs _>>=_ end-with
-inputs-scan rules [] left = tt
-inputs-scan rules (c ∷ cs) left =
-    then-scans (normalise-pair rules (c .sides) left) (λ forms. if-different (c .origin) forms (scan-inputs rules cs)) (pair-scans rules (c .sides) left) λ forms n.
-    different-scans (c .origin) forms (scan-inputs rules cs) (λ m. inputs-scan rules cs m) n
-
-different-at : (at : Place) (o : Option Pair) (next : Paying Candidate) → ((n : ℕ) → Scans (next n)) → (left : ℕ) → Scans (if-different-overlap at o next left)
+different-at : (at : Place) (o : Option Pair) (next : Paying Candidate) → Pays Any E next → Pays Any E (if-different-overlap at o next)
 unfolding if-different-overlap
-different-at at none next k left = k left
-different-at at (some f) next k left = different-scans _ f next k left
+different-at at none next k = k
+different-at at (some f) next k = different-scans _ f next k
 
-scan-scans : (rules : List Rule) (inputs : List Candidate) (ps : List Place) (left : ℕ) → Scans (scan rules inputs ps left)
-unfolding scan _>>=_
-scan-scans rules inputs [] left = inputs-scan rules inputs left
-scan-scans rules inputs (at ∷ ps) left =
-    then-scans (scan-overlap rules (overlap (at .inner .sides) (at .outer .sides) (at .position)) left) (λ forms. if-different-overlap at forms (scan rules inputs ps))
-    (overlap-scans rules (overlap (at .inner .sides) (at .outer .sides) (at .position)) left) λ forms n.
-    different-at at forms (scan rules inputs ps) (λ m. scan-scans rules inputs ps m) n
+inputs-scan : (rules : List Rule) (cs : List Candidate) → Pays Any E (scan-inputs rules cs)
+unfolding scan-inputs
+inputs-scan rules [] = end-with-holds complete (λ _. tt)
+inputs-scan rules (c ∷ cs) = bind-holds _ _ (pair-scans rules (c .sides)) λ forms _. different-scans _ forms _ (inputs-scan rules cs)
+
+scan-scans : (rules : List Rule) (inputs : List Candidate) (ps : List Place) → Pays Any E (scan rules inputs ps)
+unfolding scan
+scan-scans rules inputs [] = inputs-scan rules inputs
+scan-scans rules inputs (at ∷ ps) = bind-holds _ _ (overlap-scans rules _) λ forms _. different-at at forms _ (scan-scans rules inputs ps)
 
 pub scan-ends : (rules : List Rule) (inputs : List Candidate) (ps : List Place) (units left : ℕ) (e : End) → scan rules inputs ps units ≡ stop e left → ScanEnd e
-scan-ends rules inputs ps units left e h = subst Scans h (scan-scans rules inputs ps units)
+scan-ends rules inputs ps units left e h = subst (Holds Any E) h (scan-scans rules inputs ps .out units)

@@ -17,13 +17,13 @@ use Rattle.scan.specs.Walk.{compared, Walked, found, short, large, on, Shows, F
 use Rattle.scan.specs.declared.Walk.{Walk}
 use Rattle.making.specs.Made.{Outcome, Stops, stop-code, TakenBy}
 use Rattle.turn.specs.Turns.{Shown, TurnedIs}
-use Rattle.making.proofs.Verdicts.{not-neither}
+use Rattle.making.proofs.Verdicts.{stop-positive, not-neither}
 use Rattle.making.proofs.Keeping.{held-of}
 use Rattle.turn.proofs.ScanEnds.{ScanEnd, scan-ends}
 
 -- a stop of step 1 is a stop of the turn
 module _ (tab L R : List ℕ) (P : Problem) (s : RunState) (u i j : ℕ) (st : Whole) (w : Walk) (o : Outcome) where
-  pub stops-turn : (e : End) → take-pair P (s .rules) (s .waiting) u ≡ stop e (w .units) → w .verdict ≡ stop-code e → stop-code e ≤ 5 → Represents tab st s →
+  stops-turn : (e : End) → take-pair P (s .rules) (s .waiting) u ≡ stop e (w .units) → w .verdict ≡ stop-code e → stop-code e ≤ 5 → Represents tab st s →
       Stops st (w .verdict) (w .units) i j o → TurnedIs tab s L R o (turn P s (suc u))
   stops-turn e h v n R′ y =
       subst (TurnedIs tab s L R o) (sym (turn-stops P s u e (w .units) h))
@@ -95,9 +95,21 @@ module _ (tab L R : List ℕ) (P : Problem) (s : RunState) (c : Candidate) (cs :
       go (on z h) = absurd (m z)
 
 -- The scan.
+number-code : (e : End) → ScanEnd e → (stop-number e ≡ stop-code e) × (stop-code e ≤ 5)
+unfolding stop-code
+number-code complete h = (refl, omega arith)
+number-code (neither-above g) h = absurd h
+number-code spent h = (refl, omega arith)
+number-code too-large h = (refl, omega arith)
+number-code rules-full h = absurd h
+number-code log-full h = absurd h
+
 module _ (tab L R : List ℕ) (P : Problem) (s : RunState) (waits : s .waiting ≡ []) (u : ℕ) (w : Walk) where
   abbrev scanned : Paid Candidate
   scanned = scan (s .rules) (candidates scanned-input 1 (P .equations)) (all-places [] (s .rules)) u
+
+  scan-code : (e : End) (left : ℕ) → scanned ≡ stop e left → (stop-number e ≡ stop-code e) × (stop-code e ≤ 5)
+  scan-code e left h = number-code e (scan-ends (s .rules) (candidates scanned-input 1 (P .equations)) (all-places [] (s .rules)) u left e h)
 
   pub record ScanFound : Type 0 where
     pub pair : Candidate
@@ -114,29 +126,12 @@ module _ (tab L R : List ℕ) (P : Problem) (s : RunState) (waits : s .waiting �
         differ = scan-different (s .rules) (candidates scanned-input 1 (P .equations)) (all-places [] (s .rules)) u (w .units) c q;
         shows = f .2;
       }
-  scan-found (stop e left) h f v = absurd (positive e (sym (f .0) ∙ v))
-    where
-      positive : (e : End) → stop-number e ≡ 0 → ⊥
-      positive complete z = omega arith
-      positive (neither-above g) z = omega arith
-      positive spent z = omega arith
-      positive too-large z = omega arith
-      positive rules-full z = omega arith
-      positive log-full z = omega arith
-
-  number-code : (e : End) → ScanEnd e → (stop-number e ≡ stop-code e) × (stop-code e ≤ 5)
-  unfolding stop-code
-  number-code complete h = (refl, omega arith)
-  number-code (neither-above g) h = absurd h
-  number-code spent h = (refl, omega arith)
-  number-code too-large h = (refl, omega arith)
-  number-code rules-full h = absurd h
-  number-code log-full h = absurd h
+  scan-found (stop e left) h f v = absurd (stop-positive e (sym (scan-code e left h .0) ∙ sym (f .0) ∙ v))
 
   pub scan-stops : (p : Paid Candidate) → scanned ≡ p → Finds tab L R w p → (w .verdict ≡ 0 → ⊥) → (st : Whole) → Represents tab st s → (i j : ℕ) (o : Outcome) →
       Stops st (w .verdict) (w .units) i j o → TurnedIs tab s L R o (turn P s (suc u))
   scan-stops (done c left) h f v st R′ i j o y = absurd (v (f .0))
   scan-stops (stop e left) h f v st R′ i j o y =
       let q : scanned ≡ stop e (w .units) = h ∙ ap (stop e) (sym (f .1)) in
-      let k = number-code e (scan-ends (s .rules) (candidates scanned-input 1 (P .equations)) (all-places [] (s .rules)) u (w .units) e q) in
+      let k = scan-code e left h in
       stops-turn tab L R P s u i j st w o e (ap (λ q. take-pair P (s .rules) q u) waits ∙ take-scan-stops P (s .rules) u e (w .units) q) (f .0 ∙ k .0) (k .1) R′ y

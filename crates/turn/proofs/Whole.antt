@@ -4,8 +4,8 @@ use mathlib.Core.Path.{_≡_, refl, sym, ap, _∙_, subst}
 use mathlib.Core.List.{List, [], _∷_, _++_, map, flatMap}
 use Prim.Native.Nat.{ℕ, suc, _-_, _*_, _<_, _≤_}
 use native.Mathlib.Omega.{arith}
-use lib.ListN.{length, getD, take, length-take}
-use lib.Seq.{take-at, take-take}
+use lib.ListN.{length, getD, take}
+use lib.Seq.{length-take-le, take-at, take-take}
 use Rattle.terms.specs.Term.{Pair}
 use Rattle.problem.specs.Problem.{Problem}
 use Rattle.rewriting.specs.Overlap.{all-places}
@@ -15,6 +15,7 @@ use Rattle.matching.proofs.Replacing.{take-less-zero}
 use Rattle.store.proofs.Listing.{stored-first}
 use Rattle.completion.specs.Turn.{scanned-input, Candidate, State as RunState, candidates, scan, turn}
 use Rattle.completion.specs.Calls.{origin-bytes}
+use Rattle.completion.proofs.Limits.{candidates-sides}
 use Rattle.completion.proofs.Turning.{turn-unpaid}
 use Rattle.completion.proofs.Result.{origin-bytes-length}
 use Rattle.collapse.specs.Sifting.{origins-bytes}
@@ -22,7 +23,7 @@ use Rattle.engine.specs.State.{Whole, Represents}
 use Rattle.engine.specs.Steps.{TakenState}
 use Rattle.scan.specs.Walk.{SlotWalk, Scanned}
 use Rattle.scan.specs.Walk as walk
-use Rattle.scan.proofs.Reading.{numbered-by, candidate-sides}
+use Rattle.scan.proofs.Reading.{numbered-by}
 use Rattle.scan.specs.declared.Walk.{Walk}
 use Rattle.making.specs.Made.{Outcome, Stops, stop-code, without-taken, TurnWith, SettledTurn, MakesTurn}
 use Rattle.turn.specs.Turns.{Shown, TurnedIs, Buffers, WaitingTurn, Given, ScanTurn, WholeTurn}
@@ -70,27 +71,35 @@ oldest-origin tab st s c cs R e =
     subst (λ k. take k (st .origins) ≡ origin-bytes (c .origin)) (origin-bytes-length (c .origin))
     (front-of (st .origins) (origin-bytes (c .origin)) (origins-bytes cs) (6 * (st .waits)) (omega (arith, origin-bytes-length (c .origin))) h)
 
--- the forms that stand in the buffers, cut out
-module _ (tab L R left right : List ℕ) (m n : ℕ) (lm : left ≡ take m L) (rn : right ≡ take n R) (fm : m ≤ length L) (fn : n ≤ length R) where
-  cut-left : length left ≡ m
-  cut-left = omega (arith, ap (λ (x : List ℕ). length x) lm, length-take m L)
+-- the buffers behind a walk, and the forms that stand in them, cut out
+module _ {L R L′ R′ : List ℕ} {u : ℕ} {w : Walk} (room : walk.Room L R L′ R′ u w) where
+  buffers-kept : Buffers L R L′ R′
+  buffers-kept = record { left-kept = room .left-kept; right-kept = room .right-kept }
 
-  cut-right : length right ≡ n
-  cut-right = omega (arith, ap (λ (x : List ℕ). length x) rn, length-take n R)
+  module _ (tab left right : List ℕ) (lm : left ≡ take (w .m - 0) L′) (rn : right ≡ take (w .n - 0) R′) (long-left : 120 ≤ length L) (long-right : 120 ≤ length R) where
+    left-is : left ≡ take (w .m) L′
+    left-is = lm ∙ take-less-zero (w .m) L′
 
-  sides-cut : (e : Pair) → Shown tab L R m n e → Sides 32 tab left right e
-  sides-cut e S = record { left-wf = S .left-wf; right-wf = S .right-wf; left-bytes = lm ∙ S .left-bytes; right-bytes = rn ∙ S .right-bytes }
+    right-is : right ≡ take (w .n) R′
+    right-is = rn ∙ take-less-zero (w .n) R′
 
-  shown-cut : (o : Outcome) (e : Pair) → Shown tab L R m n e → (g : Pair) → (g ≡ e) × (o .m ≡ length left) × (o .n ≡ length right) → Shown tab L R (o .m) (o .n) g
-  shown-cut o e S g (q, x, y) =
-      subst (λ z. Shown tab L R z (o .n) g) (sym (x ∙ cut-left)) (subst (λ z. Shown tab L R m z g) (sym (y ∙ cut-right)) (subst (Shown tab L R m n) (sym q) S))
+    cut-left : length left ≡ w .m
+    cut-left = ap length left-is ∙ length-take-le (w .m) L′ (omega (arith, room .left-few, room .left-kept))
+
+    cut-right : length right ≡ w .n
+    cut-right = ap length right-is ∙ length-take-le (w .n) R′ (omega (arith, room .right-few, room .right-kept))
+
+    sides-cut : (e : Pair) → Shown tab L′ R′ (w .m) (w .n) e → Sides 32 tab left right e
+    sides-cut e S = record { left-wf = S .left-wf; right-wf = S .right-wf; left-bytes = left-is ∙ S .left-bytes; right-bytes = right-is ∙ S .right-bytes }
+
+    shown-cut : (o : Outcome) (e : Pair) → Shown tab L′ R′ (w .m) (w .n) e → (g : Pair) → (g ≡ e) × (o .m ≡ length left) × (o .n ≡ length right) → Shown tab L′ R′ (o .m) (o .n) g
+    shown-cut o e S g (q, x, y) =
+        subst (λ z. Shown tab L′ R′ z (o .n) g) (sym (x ∙ cut-left))
+        (subst (λ z. Shown tab L′ R′ (w .m) z g) (sym (y ∙ cut-right)) (subst (Shown tab L′ R′ (w .m) (w .n)) (sym q) S))
 
 -- `turn_waiting`
 module _ (st : Whole) (tab L R L′ R′ origin : List ℕ) (u : ℕ) (w : Walk) (some : 0 < st .waits) (from : origin ≡ take 6 (st .origins))
     (W : SlotWalk tab (st .rules) (st .lens) (st .count) (st .waiting) (st .lengths) 0 L R L′ R′ origin u w) where
-  buffers-kept : Buffers L R L′ R′
-  buffers-kept = record { left-kept = W .room .left-kept; right-kept = W .room .right-kept }
-
   oldest-is : (s : RunState) → Represents tab st s → Oldest s
   oldest-is s Re = oldest-of s (omega (arith, Re .waits))
 
@@ -104,7 +113,7 @@ module _ (st : Whole) (tab L R L′ R′ origin : List ℕ) (u : ℕ) (w : Walk)
       record {
         safe = X .safe;
         stays = X .stays;
-        buffers = buffers-kept;
+        buffers = buffers-kept (W .room);
         answer = λ P k s Re.
             let O = oldest-is s Re in
             let S = waiting-settles tab L′ R′ P s (O .first) (O .later) (O .is) u w (walked s Re O) v in
@@ -118,7 +127,7 @@ module _ (st : Whole) (tab L R L′ R′ origin : List ℕ) (u : ℕ) (w : Walk)
       record {
         safe = stop-safe st _ _ _ _ _ o b y (omega arith) (omega arith);
         stays = λ _. y .kept;
-        buffers = buffers-kept;
+        buffers = buffers-kept (W .room);
         answer = λ P k s Re.
             let O = oldest-is s Re in
             waiting-stops tab L′ R′ P s (O .first) (O .later) (O .is) u w (walked s Re O) b a st Re 0 0 o y;
@@ -126,21 +135,17 @@ module _ (st : Whole) (tab L R L′ R′ origin : List ℕ) (u : ℕ) (w : Walk)
 
   pub waiting-made : w .verdict ≡ 0 → (rest : Whole) → TakenState st rest → (left right : List ℕ) → left ≡ take (w .m - 0) L′ → right ≡ take (w .n - 0) R′ → 120 ≤ length L → 120 ≤ length R →
       (o : Outcome) → MakesTurn st rest tab left right origin (w .units) o → WaitingTurn st tab L R L′ R′ u o
-  waiting-made v rest K left right lm₀ rn₀ roomL roomR o X =
-      let lm : left ≡ take (w .m) L′ = lm₀ ∙ take-less-zero (w .m) L′ in
-      let rn : right ≡ take (w .n) R′ = rn₀ ∙ take-less-zero (w .n) R′ in
+  waiting-made v rest K left right lm rn long-left long-right o X =
       record {
         safe = X .safe;
         stays = X .stays;
-        buffers = buffers-kept;
+        buffers = buffers-kept (W .room);
         answer = λ P k s Re.
             let O = oldest-is s Re in
             let D = waiting-differs tab L′ R′ P s (O .first) (O .later) (O .is) u w (walked s Re O) v in
-            let fm : w .m ≤ length L′ = omega (arith, W .room .left-few, W .room .left-kept) in
-            let fn : w .n ≤ length R′ = omega (arith, W .room .right-few, W .room .right-kept) in
-            turn-map _ _ tab s o (shown-cut tab L′ R′ left right (w .m) (w .n) lm rn fm fn o (D .forms) (D .shown)) (turn P s (suc u))
+            turn-map _ _ tab s o (shown-cut (W .room) tab left right lm rn long-left long-right o (D .forms) (D .shown)) (turn P s (suc u))
             (X .answer P k s (record { pair = record { origin = O .first .origin; sides = D .forms }; waiting = O .later }) u Re (K .represents tab s (O .first) (O .later) Re (O .is))
-            (sides-cut tab L′ R′ left right (w .m) (w .n) lm rn fm fn (D .forms) (D .shown)) (from ∙ oldest-origin tab st s (O .first) (O .later) Re (O .is)) (D .taken) (D .differ));
+            (sides-cut (W .room) tab left right lm rn long-left long-right (D .forms) (D .shown)) (from ∙ oldest-origin tab st s (O .first) (O .later) Re (O .is)) (D .taken) (D .differ));
       }
 
 -- `turn_scan`
@@ -150,9 +155,6 @@ nothing (c ∷ l) h = absurd (omega arith)
 
 module _ (st : Whole) (tab inputs sizes : List ℕ) (number : ℕ) (L R L′ R′ : List ℕ) (u : ℕ) (w : Walk) (none : st .waits ≡ 0)
     (W : Scanned tab (st .rules) (st .lens) (st .numbers) (st .count) inputs sizes number L R L′ R′ u w) where
-  scan-buffers : Buffers L R L′ R′
-  scan-buffers = record { left-kept = W .room .left-kept; right-kept = W .room .right-kept }
-
   idle : (s : RunState) → Represents tab st s → s .waiting ≡ []
   idle s Re = nothing (s .waiting) (sym (Re .waits) ∙ none)
 
@@ -160,36 +162,32 @@ module _ (st : Whole) (tab inputs sizes : List ℕ) (number : ℕ) (L R L′ R�
       walk.Finds tab L′ R′ w (scan (s .rules) (candidates scanned-input 1 (P .equations)) (all-places [] (s .rules)) u)
   finds P G s Re =
       W .answer (s .rules) (record { stored = Re .rules; counted = Re .count; numbered = numbered-by (st .count) (st .numbers) (s .rules) (Re .numbers) }) (P .equations)
-      (subst (Stored tab inputs sizes 0) (sym (candidate-sides scanned-input 1 (P .equations))) (G .stored)) (G .counted)
+      (subst (Stored tab inputs sizes 0) (candidates-sides scanned-input 1 (P .equations)) (G .stored)) (G .counted)
 
   pub scan-stopped : (w .verdict ≡ 0 → ⊥) → (o : Outcome) → Stops st (w .verdict) (w .units) 0 0 o → ScanTurn st tab inputs sizes number L R L′ R′ u o
   scan-stopped v o y =
       record {
         safe = stop-safe st _ _ _ _ _ o v y (omega arith) (omega arith);
         stays = λ _. y .kept;
-        buffers = scan-buffers;
+        buffers = buffers-kept (W .room);
         answer = λ P G s Re. scan-stops tab L′ R′ P s (idle s Re) u w _ refl (finds P G s Re) v st Re 0 0 o y;
       }
 
   pub scan-made : w .verdict ≡ 0 → (left right : List ℕ) → left ≡ take (w .m - 0) L′ → right ≡ take (w .n - 0) R′ → 120 ≤ length L → 120 ≤ length R → (o : Outcome) →
       MakesTurn st st tab left right (w .origin) (w .units) o → ScanTurn st tab inputs sizes number L R L′ R′ u o
-  scan-made v left right lm₀ rn₀ roomL roomR o X =
-      let lm : left ≡ take (w .m) L′ = lm₀ ∙ take-less-zero (w .m) L′ in
-      let rn : right ≡ take (w .n) R′ = rn₀ ∙ take-less-zero (w .n) R′ in
+  scan-made v left right lm rn long-left long-right o X =
       record {
         safe = X .safe;
         stays = X .stays;
-        buffers = scan-buffers;
+        buffers = buffers-kept (W .room);
         answer = λ P G s Re.
             let F = scan-found tab L′ R′ P s (idle s Re) u w _ refl (finds P G s Re) v in
             let S : Shown tab L′ R′ (w .m) (w .n) (F .pair .sides) =
             F .shows .sides in
-            let fm : w .m ≤ length L′ = omega (arith, W .room .left-few, W .room .left-kept) in
-            let fn : w .n ≤ length R′ = omega (arith, W .room .right-few, W .room .right-kept) in
             let I : Represents tab st (without-taken s (record { pair = F .pair; waiting = [] })) =
             subst (λ (x : List Candidate). Represents tab st (record { rules = s .rules; made = s .made; waiting = x; log = s .log })) (idle s Re) Re in
-            turn-map _ _ tab s o (shown-cut tab L′ R′ left right (w .m) (w .n) lm rn fm fn o (F .pair .sides) S) (turn P s (suc u))
-            (X .answer P (G .ranks) s (record { pair = F .pair; waiting = [] }) u Re I (sides-cut tab L′ R′ left right (w .m) (w .n) lm rn fm fn (F .pair .sides) S) (F .shows .from) (F .taken) (F .differ));
+            turn-map _ _ tab s o (shown-cut (W .room) tab left right lm rn long-left long-right o (F .pair .sides) S) (turn P s (suc u))
+            (X .answer P (G .ranks) s (record { pair = F .pair; waiting = [] }) u Re I (sides-cut (W .room) tab left right lm rn long-left long-right (F .pair .sides) S) (F .shows .from) (F .taken) (F .differ));
       }
 
 -- `turn`
@@ -205,22 +203,21 @@ whole-unpaid st tab inputs sizes number L R o z y =
           (y .verdict-is, y .units-are, held-of Re (y .kept), λ g q. absurd (not-neither spent (omega arith) g q));
     }
 
-module _ (st : Whole) (tab inputs sizes : List ℕ) (number : ℕ) (L R L′ R′ : List ℕ) (o : Outcome) where
-  module _ (u : ℕ) (e : suc u ≡ st .units) where
-    pub whole-waiting : WaitingTurn st tab L R L′ R′ u o → WholeTurn st tab inputs sizes number L R L′ R′ o
-    whole-waiting X =
-        record {
-          safe = X .safe;
-          stays = X .stays;
-          buffers = X .buffers;
-          answer = λ P G s Re. subst (λ n. TurnedIs tab s L′ R′ o (turn P s n)) e (X .answer P (G .ranks) s Re);
-        }
+module _ (st : Whole) (tab inputs sizes : List ℕ) (number : ℕ) (L R L′ R′ : List ℕ) (o : Outcome) (u : ℕ) (e : suc u ≡ st .units) where
+  pub whole-waiting : WaitingTurn st tab L R L′ R′ u o → WholeTurn st tab inputs sizes number L R L′ R′ o
+  whole-waiting X =
+      record {
+        safe = X .safe;
+        stays = X .stays;
+        buffers = X .buffers;
+        answer = λ P G s Re. subst (λ n. TurnedIs tab s L′ R′ o (turn P s n)) e (X .answer P (G .ranks) s Re);
+      }
 
-    pub whole-scan : ScanTurn st tab inputs sizes number L R L′ R′ u o → WholeTurn st tab inputs sizes number L R L′ R′ o
-    whole-scan X =
-        record {
-          safe = X .safe;
-          stays = X .stays;
-          buffers = X .buffers;
-          answer = λ P G s Re. subst (λ n. TurnedIs tab s L′ R′ o (turn P s n)) e (X .answer P G s Re);
-        }
+  pub whole-scan : ScanTurn st tab inputs sizes number L R L′ R′ u o → WholeTurn st tab inputs sizes number L R L′ R′ o
+  whole-scan X =
+      record {
+        safe = X .safe;
+        stays = X .stays;
+        buffers = X .buffers;
+        answer = λ P G s Re. subst (λ n. TurnedIs tab s L′ R′ o (turn P s n)) e (X .answer P G s Re);
+      }
