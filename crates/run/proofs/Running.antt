@@ -64,7 +64,7 @@ pub record OnTheWay (tab : List ℕ) (P : Problem) (st : Whole) : Type 0 where
 abbrev pub Going : List ℕ → List ℕ → List ℕ → ℕ → ℕ → Whole → Type 0
 Going tab inputs lens count budget st = (P : Problem) → Given tab inputs lens count P → budget ≡ P .budget → OnTheWay tab P st
 
-pub going-begins : (tab inputs lens : List ℕ) (count budget : ℕ) (st : Whole) → Begun inputs lens count budget st → Going tab inputs lens count budget st
+going-begins : (tab inputs lens : List ℕ) (count budget : ℕ) (st : Whole) → Begun inputs lens count budget st → Going tab inputs lens count budget st
 going-begins tab inputs lens count budget st B P G e =
     record {
       state = _;
@@ -72,26 +72,24 @@ going-begins tab inputs lens count budget st B P G e =
       running = subst (Running P (run P) _) (sym (B .units ∙ e)) (run-begins P);
     }
 
-module _ (tab L R : List ℕ) (P : Problem) (st : Whole) (t : Outcome) (W : OnTheWay tab P st) where
-  pub goes-on : (p : Paid RunState) → turn P (W .state) (st .units) ≡ p → TurnedIs tab (W .state) L R t p → t .verdict ≡ 0 → OnTheWay tab P (paying (t .state) (t .units))
-  goes-on (done s′ left) e a v =
+module _ (tab L R : List ℕ) (P : Problem) (st : Whole) (W : OnTheWay tab P st) where
+  goes-on : (t : Outcome) (p : Paid RunState) → turn P (W .state) (st .units) ≡ p → TurnedIs tab (W .state) L R t p → t .verdict ≡ 0 → OnTheWay tab P (paying (t .state) (t .units))
+  goes-on t (done s′ left) e a v =
       let r : Running P (run P) s′ left = run-goes-on P (run P) (W .state) (st .units) (W .running) s′ left e (turn-less P (W .state) s′ (st .units) left e) in
       record { state = s′; stands = units-represent tab (t .state) (t .units) s′ (a .2); running = subst (Running P (run P) s′) (sym (a .1)) r }
-  goes-on (stop f left) e a v = absurd (stop-positive f (sym (a .0) ∙ v))
+  goes-on t (stop f left) e a v = absurd (stop-positive f (sym (a .0) ∙ v))
 
-  pub ends : (p : Paid RunState) → turn P (W .state) (st .units) ≡ p → TurnedIs tab (W .state) L R t p → (t .verdict ≡ 0 → ⊥) → (o : Ran) →
-      o .verdict ≡ t .verdict → o .paid ≡ P .budget - t .units → o .left ≡ L → o .right ≡ R → o .m ≡ t .m → o .n ≡ t .n → RanIs tab (run P) o (t .state)
-  ends (done s′ left) e a v o q₂ q₃ q₄ q₅ q₆ q₇ = absurd (v (a .0))
-  ends (stop f left) e a v o q₂ q₃ q₄ q₅ q₆ q₇ =
+  ends : (t : Turned) (rules waiting log : List ℕ) (p : Paid RunState) → turn P (W .state) (st .units) ≡ p → TurnedIs tab (W .state) L R (outcome t rules waiting log) p → (t .verdict ≡ 0 → ⊥) →
+      (o : Ran) → Ends t (P .budget) L R o → RanIs tab (run P) o (whole (t .state) rules waiting log)
+  ends t rules waiting log (done s′ left) e a v o E = absurd (v (a .0))
+  ends t rules waiting log (stop f left) e a v o E =
       let z : run P ≡ record { end = f; units = P .budget - left; state = W .state } = run-ends P (run P) (W .state) (st .units) (W .running) f left e in
-      subst (λ (r : Finished). RanIs tab r o (t .state)) (sym z)
+      subst (λ (r : Finished). RanIs tab r o (whole (t .state) rules waiting log)) (sym z)
       (record {
         state = a .2;
-        end = q₂ ∙ a .0;
-        paid = q₃ ∙ ap (λ x. P .budget - x) (a .1);
-        forms = λ g w. subst (λ x. Shown tab x (o .right) (o .m) (o .n) g) (sym q₄)
-            (subst (λ x. Shown tab L x (o .m) (o .n) g) (sym q₅)
-            (subst (λ x. Shown tab L R x (o .n) g) (sym q₆) (subst (λ x. Shown tab L R (t .m) x g) (sym q₇) (a .3 g w))));
+        end = E .verdict ∙ a .0;
+        paid = E .paid ∙ ap (λ x. P .budget - x) (a .1);
+        forms = λ g w. subst₂ (λ x y. Shown tab x y (o .m) (o .n) g) (sym (E .left-is)) (sym (E .right-is)) (subst₂ (λ x y. Shown tab L R x y g) (sym (E .m)) (sym (E .n)) (a .3 g w));
       })
 
 -- The loop's invariant, and what `run` answers.
@@ -113,31 +111,26 @@ module _ (tab inputs lens : List ℕ) (count budget : ℕ) (st : Whole) (I : Loo
   loops-on v =
       record {
         fine = units-fine (t .state) (t .units) (T .safe .fine v);
-        going = λ P G b. let W = I .going P G b in goes-on tab L′ R′ P st t W (turn P (W .state) (st .units)) refl (T .answer P G (W .state) (W .stands)) v;
+        going = λ P G b. let W = I .going P G b in goes-on tab L′ R′ P st W t (turn P (W .state) (st .units)) refl (T .answer P G (W .state) (W .stands)) v;
       }
 
   pub loop-grows : t .verdict ≡ 0 → (t .state .entries ≡ st .entries + 1) × (t .state .entries ≤ 512)
   loop-grows v = (T .safe .grows v, T .safe .fine v .log-few)
 
-  runs : (t .verdict ≡ 0 → ⊥) → (o : Ran) → o .verdict ≡ t .verdict → o .paid ≡ budget - t .units → o .left ≡ L′ → o .right ≡ R′ → o .m ≡ t .m → o .n ≡ t .n →
-      Runs tab inputs lens count budget o (t .state)
-  runs v o q₂ q₃ q₄ q₅ q₆ q₇ =
-      let K = T .stays v in
-      let fit : Layout [] (t .state .rules) (t .state .lens) (st .count) = subst₂ (λ b l. Layout [] b l (st .count)) (sym (K .rules)) (sym (K .lens)) (I .fine .rules-fit) in
-      record {
-        rules-fit = subst (Layout [] (t .state .rules) (t .state .lens)) (sym (K .count)) fit;
-        live = omega (arith, K .count, I .fine .live);
-        log-few = omega (arith, K .entries, I .fine .log-few);
-        left-few = subst (λ x. x ≤ 120) (sym q₆) (T .safe .left-few);
-        right-few = subst (λ x. x ≤ 120) (sym q₇) (T .safe .right-few);
-        answer = λ P G b.
-            let W = I .going P G b in
-            ends tab L′ R′ P st t W (turn P (W .state) (st .units)) refl (T .answer P G (W .state) (W .stands)) v o q₂ (q₃ ∙ ap (λ x. x - t .units) b) q₄ q₅ q₆ q₇;
-      }
-
 -- `run`
 pub run-ended : (tab inputs lens : List ℕ) (count budget : ℕ) (st : Whole) → Looping tab inputs lens count budget st → (L R L′ R′ : List ℕ) (t : Turned) (rules waiting log : List ℕ) →
     WholeTurn st tab inputs lens count L R L′ R′ (outcome t rules waiting log) → (t .verdict ≡ 0 → ⊥) → (o : Ran) → Ends t budget L′ R′ o → Runs tab inputs lens count budget o (whole (o .state) rules waiting log)
 run-ended tab inputs lens count budget st I L R L′ R′ t rules waiting log T v o E =
+    let K = T .stays v in
+    let fit : Layout [] rules (t .state .lens) (st .count) = subst₂ (λ b l. Layout [] b l (st .count)) (sym (K .rules)) (sym (K .lens)) (I .fine .rules-fit) in
     subst (λ x. Runs tab inputs lens count budget o (whole x rules waiting log)) (sym (E .state))
-    (runs tab inputs lens count budget st I L R L′ R′ (outcome t rules waiting log) T v o (E .verdict) (E .paid) (E .left-is) (E .right-is) (E .m) (E .n))
+    (record {
+      rules-fit = subst (Layout [] rules (t .state .lens)) (sym (K .count)) fit;
+      live = omega (arith, K .count, I .fine .live);
+      log-few = omega (arith, K .entries, I .fine .log-few);
+      left-few = subst (λ x. x ≤ 120) (sym (E .m)) (T .safe .left-few);
+      right-few = subst (λ x. x ≤ 120) (sym (E .n)) (T .safe .right-few);
+      answer = λ P G b.
+          let W = I .going P G b in
+          ends tab L′ R′ P st W t rules waiting log (turn P (W .state) (st .units)) refl (T .answer P G (W .state) (W .stands)) v o (subst (λ n. Ends t n L′ R′ o) b E);
+    })

@@ -1,6 +1,6 @@
 // The run: turns until one stops.
 ghost use mathlib.Core.Path.{_≡_};
-ghost use Prim.Native.Nat.{ℕ, _-_, _≤_};
+ghost use Prim.Native.Nat.{_-_, _≤_};
 ghost use lib.ListN.{length};
 ghost use Rattle.normaliser.specs.Stored.{Layout};
 ghost use Rattle.engine.specs.State.{whole};

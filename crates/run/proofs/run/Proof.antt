@@ -1,15 +1,13 @@
 -- `run`: the invariant is that the state stands for one on the way of the run; 512 less the log's entries falls, one a turn. Assumes nothing.
 -- Read first: specs/Runs (Runs), proofs/Running (Looping).
-use mathlib.Core.Path.{ap}
-use Rattle.engine.specs.declared.State.{State}
-use Rattle.run.proofs.Running.{looping-next}
 use Prim.Native.Nat.{_-_}
 use lib.ListN.{length}
-use mathlib.Core.Path.{_≡_, refl, sym, _∙_}
+use mathlib.Core.Path.{_≡_, refl, sym, ap, _∙_}
 use native.Mathlib.Omega.{arith}
 use Rattle.engine.specs.State.{whole}
+use Rattle.engine.specs.declared.State.{State}
 use Rattle.normaliser.proofs.Choosing.{layout-front}
-use Rattle.run.proofs.Running.{Looping, looping-begins, loops-on, loop-grows, run-ended}
+use Rattle.run.proofs.Running.{Looping, looping-begins, looping-next, loops-on, loop-grows, run-ended}
 use borrow.Author.Needs.{needs}
 use Rattle.run.proofs.run.Statement.{statement}
 use Rattle.run.proofs.run.Tie as tie
