@@ -1,25 +1,23 @@
 -- The call complete from the promises of its parts: numbers of ends, the run's result, an accepted problem, and the three answers. Assumes nothing.
 -- Read first: specs/Answer, completion/specs/Calls (complete-call, after-complete), run/specs/Runs (Runs, RanIs), proofs/Delivering.
 use mathlib.Core.Path.{_≡_, refl, sym, ap, _∙_}
-use mathlib.Core.Bool.{Bool, true, false}
 use mathlib.Core.List.{List}
 use Prim.Native.Nat.{ℕ, _-_, _<_, _≤_}
 use native.Mathlib.Omega.{arith}
-use lib.Dec.{ltb}
 use lib.ListN.{length, take, drop}
-use borrow.Author.Tests.{lt-ltb, ltb-true}
+use borrow.Author.Tests.{lt-ltb}
 use Rattle.terms.specs.Base.{if_then_else_}
-use Rattle.order.specs.Walk.{rank}
 use Rattle.matching.proofs.Replacing.{take-less-zero}
 use Rattle.problem.specs.Problem.{Reading, ok, refused, _>>=_, refuse-if, rank-of, Problem, parse}
-use Rattle.problem.specs.Parser.{symbols-of, Table, ParsedAt}
-use Rattle.problem.proofs.Scanned.{rank-is}
+use Rattle.problem.specs.Parser.{ParsedAt}
 use Rattle.rewriting.specs.Rewrite.{End, complete, neither-above, spent, too-large, rules-full, log-full}
 use Rattle.completion.specs.Turn.{run}
 use Rattle.completion.specs.Calls.{end-number, result-bytes, enough, complete-call, after-complete}
 use Rattle.report.specs.Fields.{Writes}
 use Rattle.report.specs.Report.{OfState}
 use Rattle.completion.proofs.Accepts.{accepts}
+use Rattle.completion.proofs.Ranks.{ranks-are}
+use Rattle.completion.proofs.Writing.{complete-is}
 use Rattle.inputs.specs.Inputs.{Filled}
 use Rattle.inputs.proofs.Fields.{parsed-few}
 use Rattle.engine.specs.State.{whole}
@@ -61,10 +59,6 @@ write-run o rules log end left right before after r E ql qr W tab waiting f I =
     })
 
 -- `accepted`
-ranks-are : (tab : List ℕ) → Table tab → rank-of (symbols-of tab) ≡ rank tab
-unfolding rank
-ranks-are tab T = λ i f. rank-is tab T f i
-
 pub accepted-run : (l : List ℕ) (e b n : ℕ) (slots lens slots′ lens′ rules waiting log before after : List ℕ) (o : Ran) (r : ℕ) → Filled l e n slots lens slots′ lens′ →
     Runs (take (e - 3) (drop 3 l)) slots′ lens′ n b o (whole (o .state) rules waiting log) → WritesRun o rules log before after r → WritesProblem l e b n before after r
 accepted-run l e b n slots lens slots′ lens′ rules waiting log before after o r F R W P A =
@@ -95,20 +89,9 @@ pub record Answered (problem before after : List ℕ) (r : Completed) : Type 0 w
   pub bytes : after ≡ after-complete (complete-call problem (length before)) before
 
 module _ (problem before : List ℕ) where
-  short-false : 16_384 ≤ length before → ltb (length before) 16_384 ≡ false
-  short-false h = go (ltb (length before) 16_384) refl
-    where
-      go : (b : Bool) → ltb (length before) 16_384 ≡ b → b ≡ false
-      go false e = refl
-      go true e = absurd (omega (arith, ltb-true (length before) 16_384 e))
-
   refused-short : length before < 16_384 → complete-call problem (length before) ≡ refused 1 0
   unfolding complete-call enough refuse-if _>>=_
-  refused-short h = ap (λ b. refuse-if b 1 0 >>= λ _. parse problem >>= λ P. ok (result-bytes (run P))) (lt-ltb (length before) 16_384 h)
-
-  past-enough : 16_384 ≤ length before → complete-call problem (length before) ≡ (parse problem >>= λ P. ok (result-bytes (run P)))
-  unfolding complete-call enough refuse-if _>>=_
-  past-enough h = ap (λ b. refuse-if b 1 0 >>= λ _. parse problem >>= λ P. ok (result-bytes (run P))) (short-false h)
+  refused-short h = rw (lt-ltb (length before) 16_384 h) refl
 
   answered : (after : List ℕ) (r : Completed) (c : Reading (List ℕ)) → complete-call problem (length before) ≡ c → told r ≡ counted c → after ≡ after-complete c before → Answered problem before after r
   answered after r c e a b = record { answer = a ∙ ap counted (sym e); bytes = b ∙ ap (λ x. after-complete x before) (sym e) }
@@ -119,12 +102,12 @@ module _ (problem before : List ℕ) where
 
   pub answers-refused : 16_384 ≤ length before → (n at : ℕ) → parse problem ≡ refused n at → Answered problem before before (Refused n at)
   unfolding told counted after-complete _>>=_
-  answers-refused h n at e = answered before (Refused n at) (refused n at) (past-enough h ∙ ap (λ x. x >>= λ P. ok (result-bytes (run P))) e) refl refl
+  answers-refused h n at e = answered before (Refused n at) (refused n at) (complete-is problem (length before) h ∙ ap (λ x. x >>= λ P. ok (result-bytes (run P))) e) refl refl
 
   pub answers-written : 16_384 ≤ length before → (P : Problem) → parse problem ≡ ok P → (after : List ℕ) (r : ℕ) → Writes before (result-bytes (run P)) after r → Answered problem before after (Written r)
   unfolding told counted after-complete _>>=_
   answers-written h P e after r w =
-      answered after (Written r) (ok (result-bytes (run P))) (past-enough h ∙ ap (λ x. x >>= λ P. ok (result-bytes (run P))) e) (ap ok (w .count)) (w .bytes)
+      answered after (Written r) (ok (result-bytes (run P))) (complete-is problem (length before) h ∙ ap (λ x. x >>= λ P. ok (result-bytes (run P))) e) (ap ok (w .count)) (w .bytes)
 
   pub delivers : (after : List ℕ) (r : Completed) → Answered problem before after r → Delivery problem after r
   delivers after r a = delivery problem before after r (a .answer) (a .bytes)

@@ -3,20 +3,16 @@
 use mathlib.Core.Path.{_≡_, refl, sym, ap, _∙_, subst}
 use mathlib.Core.List.{List}
 use Prim.Native.Nat.{ℕ}
-use lib.ListN.{length, take, drop}
-use lib.Seq.{take-at}
+use lib.ListN.{length, take}
 use Rattle.problem.specs.Problem.{Reading, ok, refused}
 use Rattle.problem.proofs.Reading.{no-ok, ok-injective}
-use Rattle.completion.specs.Calls.{complete-call, written, after-complete}
+use Rattle.completion.specs.Calls.{complete-call, after-complete}
 use Rattle.completion.specs.Promise.{Delivers}
 use Rattle.completion.proofs.Promised.{promised}
+use Rattle.completion.proofs.Writing.{written-front}
 use Rattle.complete.specs.Answer.{told, counted, Delivery}
 use Rattle.complete.specs.declared.Completed.{Completed}
 use Rattle.complete.specs.declared.Completed.the-variants.{Written, Refused}
-
-written-front : (bytes before : List ℕ) → take (length bytes) (written bytes before) ≡ bytes
-unfolding written
-written-front bytes before = take-at bytes (drop (length bytes) before) (length bytes) refl
 
 pub delivery : (problem before after : List ℕ) (r : Completed) → told r ≡ counted (complete-call problem (length before)) → after ≡ after-complete (complete-call problem (length before)) before →
     Delivery problem after r
@@ -28,5 +24,5 @@ delivery problem before after (Written n) a b = go (complete-call problem (lengt
     go (refused k at) e a b = absurd (no-ok (sym a))
     go (ok bytes) e a b =
         let q : n ≡ length bytes = ok-injective a in
-        let f : take n after ≡ bytes = ap (λ x. take x after) q ∙ ap (take (length bytes)) b ∙ written-front bytes before in
+        let f : take n after ≡ bytes = ap (take n) b ∙ written-front bytes before n (sym q) in
         subst (Delivers problem) (sym f) (promised problem (length before) bytes e)

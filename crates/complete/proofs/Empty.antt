@@ -34,19 +34,18 @@ writes-nothing rules lens numbers log left right end units before after r W f no
     })
     (record { end-is = e; units-are = u; forms = λ g q. absurd (n g q) })
 
--- `write_empty`
+-- `write_empty` with no unit
+unpaid : (P : Problem) → P .budget ≡ 0 → run P ≡ record { end = spent; units = 0; state = initial P }
+unpaid P b =
+    run-ends P (run P) (initial P) (P .budget) (run-begins P) spent 0 (ap (turn P (initial P)) b ∙ turn-unpaid P (initial P)) ∙ ap (λ n. record { end = spent; units = n; state = initial P }) (omega arith)
+
+-- with a unit or more
 module _ (P : Problem) (none : P .equations ≡ []) where
   finds-nothing : (units : ℕ) → take-pair P [] (candidates waiting-input 1 (P .equations)) units ≡ stop complete units
   unfolding take-pair candidates scan scan-inputs all-places end-with _>>=_ and-then
   finds-nothing units = rw none refl
 
-  -- with no unit
-  pub unpaid : P .budget ≡ 0 → run P ≡ record { end = spent; units = 0; state = initial P }
-  unpaid b =
-      run-ends P (run P) (initial P) (P .budget) (run-begins P) spent 0 (ap (turn P (initial P)) b ∙ turn-unpaid P (initial P)) ∙ ap (λ n. record { end = spent; units = n; state = initial P }) (omega arith)
-
-  -- with a unit or more
-  pub completed : (u : ℕ) → P .budget ≡ suc u → run P ≡ record { end = complete; units = 1; state = initial P }
+  completed : (u : ℕ) → P .budget ≡ suc u → run P ≡ record { end = complete; units = 1; state = initial P }
   unfolding initial
   completed u b =
       run-ends P (run P) (initial P) (P .budget) (run-begins P) complete u (ap (turn P (initial P)) b ∙ turn-stops P (initial P) u complete u (finds-nothing u))
@@ -56,18 +55,14 @@ module _ (before after : List ℕ) (r : ℕ) where
   pub empty-unpaid : (b : ℕ) → b ≡ 0 → WritesNothing 21 0 before after r → WritesEmpty b before after r
   unfolding initial end-number stop-code
   empty-unpaid b z W P none q =
-      subst (λ f. Writes before (result-bytes f) after r) (sym (unpaid P none (q ∙ z)))
+      subst (λ f. Writes before (result-bytes f) after r) (sym (unpaid P (q ∙ z)))
       (W _ refl refl refl refl (λ e k. not-neither spent (omega arith) e k))
 
   pub empty-completed : (b : ℕ) → (b ≡ 0 → ⊥) → WritesNothing 0 1 before after r → WritesEmpty b before after r
   unfolding initial end-number stop-code
   empty-completed b z W P none q =
-      let u : suc (P .budget - 1) ≡ P .budget = go (P .budget) (λ e. z (sym q ∙ e)) in
-      subst (λ f. Writes before (result-bytes f) after r) (sym (completed P none (P .budget - 1) (sym u)))
+      subst (λ f. Writes before (result-bytes f) after r) (sym (completed P none (b - 1) (omega arith)))
       (W _ refl refl refl refl (λ e k. not-neither complete (omega arith) e k))
-    where
-      go : (n : ℕ) → (n ≡ 0 → ⊥) → suc (n - 1) ≡ n
-      go n h = omega arith
 
 -- `accepted`
 pub accepted-empty : (l : List ℕ) (e b n : ℕ) (before after : List ℕ) (r : ℕ) → n ≡ 0 → WritesEmpty b before after r → WritesProblem l e b n before after r

@@ -1,9 +1,8 @@
 // The call complete: from a problem's bytes to a result's.
 ghost use mathlib.Core.Path.{_≡_};
 ghost use mathlib.Core.List.{[]};
-ghost use Prim.Native.Nat.{ℕ, _+_, _*_, _<_, _≤_};
+ghost use Prim.Native.Nat.{_≤_};
 ghost use lib.ListN.{length};
-ghost use Rattle.problem.specs.Problem.{Problem};
 ghost use Rattle.completion.specs.Calls.{complete-call, after-complete};
 ghost use Rattle.normaliser.specs.Stored.{Layout};
 ghost use Rattle.complete.specs.Answer.{told, counted, Delivery, end-of, WritesRun, WritesNothing, WritesEmpty, WritesProblem};

@@ -14,15 +14,6 @@ returns : tie.Need-returns
 returns c =
     let a = answers-short _ _ (c .if1 .taken) in (a .answer, (a .bytes, delivers _ _ _ _ a))
 
-parse-requires : tie.Need-parse-requires
-parse-requires c κs = search needs
-
-enum-known-number : tie.Need-enum-known-number
-enum-known-number c = search needs
-
-enum-known-table-end : tie.Need-enum-known-table-end
-enum-known-table-end c = search needs
-
 accepted-requires : tie.Need-accepted-requires
 accepted-requires c κs =
     let q = accepted-needs _ _ _ _ (rw (c .before .before .table-end .given .1) at (c .before .before .before .before .parse .ensures .1)) in ((q .low, q .within, q .small), (q .few, q .budget, (let p = c .before .before .before .before .before .if1 .left in omega arith)))
@@ -30,9 +21,6 @@ accepted-requires c κs =
 returns-2 : tie.Need-returns-2
 returns-2 c =
     let a = answers-refused _ _ (c .before .before .before .before .if1 .left) _ _ (rw (c .before .number .given .1) at (c .before .before .before .parse .ensures .1)) in (a .answer, (a .bytes, delivers _ _ _ _ a))
-
-same-length : tie.Need-same-length
-same-length c = search needs
 
 returns-3 : tie.Need-returns-3
 returns-3 c =
@@ -43,10 +31,10 @@ complete-spec =
     tie.close
     (tie.spec
     returns
-    parse-requires
-    enum-known-number
-    enum-known-table-end
+    (λ c κs. search needs)
+    (λ c. search needs)
+    (λ c. search needs)
     accepted-requires
     returns-2
-    same-length
+    (λ c. search needs)
     returns-3)

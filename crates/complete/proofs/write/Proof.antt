@@ -12,24 +12,9 @@ use Rattle.complete.proofs.write.Lts as lts
 use Rattle.complete.proofs.end_number.Reads as end-number-reads
 use Rattle.report.proofs.of_state.Reads as of-state-reads
 
-end-number-requires : tie.Need-end-number-requires
-end-number-requires c κs = search needs
-
-sub-of-state : tie.Need-sub-of-state
-sub-of-state c = search needs
-
-part-of-state-start : tie.Need-part-of-state-start
-part-of-state-start c = search needs
-
 part-of-state-end : tie.Need-part-of-state-end
 part-of-state-end c =
     let n : length (c .before .before .before .before .before .before .before .before .args .ran .left) ≡ 120 = search needs in let p = c .before .before .before .before .before .before .before .before .pre .1 .0 in omega arith
-
-sub-of-state-2 : tie.Need-sub-of-state-2
-sub-of-state-2 c = search needs
-
-part-of-state-start-2 : tie.Need-part-of-state-start-2
-part-of-state-start-2 c = search needs
 
 part-of-state-end-2 : tie.Need-part-of-state-end-2
 part-of-state-end-2 c =
@@ -39,9 +24,6 @@ of-state-requires : tie.Need-of-state-requires
 of-state-requires c κs =
     (c .before .before .before .before .before .before .before .before .before .before .before .before .pre .1 .2, (c .before .before .before .before .before .before .before .before .before .before .before .before .pre .0, ((let p = c .before .before .before .before .before .before .before .before .before .before .before .before .pre .1 .0 in search needs), (let p = c .before .before .before .before .before .before .before .before .before .before .before .before .pre .1 .1 in search needs))))
 
-same-length : tie.Need-same-length
-same-length c = search needs
-
 returns : tie.Need-returns
 returns c =
     write-run _ _ _ _ _ _ _ _ _ (c .before .before .before .before .before .before .before .before .before .end-number .ensures) refl refl (c .before .before .of-state .ensures)
@@ -50,13 +32,13 @@ pub write-spec : {M : Type 1} → statement M
 write-spec =
     tie.close
     (tie.spec
-    end-number-requires
-    sub-of-state
-    part-of-state-start
+    (λ c κs. search needs)
+    (λ c. search needs)
+    (λ c. search needs)
     part-of-state-end
-    sub-of-state-2
-    part-of-state-start-2
+    (λ c. search needs)
+    (λ c. search needs)
     part-of-state-end-2
     of-state-requires
-    same-length
+    (λ c. search needs)
     returns)
