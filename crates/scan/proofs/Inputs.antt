@@ -15,14 +15,14 @@ use Rattle.problem.specs.Problem.{Equation}
 use Rattle.completion.specs.Turn.{scanned-input, Candidate, candidates, scan-inputs, scan}
 use Rattle.completion.specs.Calls.{origin-bytes}
 use Rattle.completion.proofs.Limits.{length-candidates}
-use Rattle.normaliser.specs.Stored.{Layout, RuleAt}
+use Rattle.normaliser.specs.Stored.{Layout}
 use Rattle.store.specs.Slots.{patched}
 use Rattle.store.proofs.Patching.{length-patched, front-more}
 use Rattle.store.proofs.Listing.{short-at}
 use Rattle.scan.specs.declared.Walk.{Walk}
 use Rattle.scan.specs.Walk.{compared, visits, visit-inputs, Walked, found, short, large, on, Walks, Holds, of-rules, PairWalk, SlotWalk, World, inputs-of, Given, no-candidate, of-input, of-inputs, rules-part, of-all, Finds, Scanned}
 use Rattle.scan.proofs.Going.{Unrolls, Over, room-from}
-use Rattle.scan.proofs.Placing.{stored-at}
+use Rattle.scan.proofs.Placing.{stored-here}
 use Rattle.scan.proofs.Places.{scan-visits}
 
 -- a part of the bytes put in front of a buffer
@@ -127,7 +127,7 @@ module _ (tab rules lens : List ℕ) (count : ℕ) (bytes sizes : List ℕ) (num
         room = p .room;
         answer = λ x h.
             let f = few x h in
-            p .answer (x .rules) (h .stored) (h .counted) _ _ (fr ∙ origin-is x h k l) (subst (λ j. RuleAt tab bytes sizes j (getD (inputs-of x) k no-candidate .sides)) (omega arith) (stored-at (λ (c : Candidate). c .sides) no-candidate 0 (inputs-of x) (h .inputs) k (omega arith)));
+            p .answer (x .rules) (h .stored) (h .counted) _ _ (fr ∙ origin-is x h k l) (stored-here (λ (c : Candidate). c .sides) no-candidate (inputs-of x) (h .inputs) k (omega arith));
       }
 
 -- the whole scan

@@ -5,4 +5,3 @@ pub mod Placing
 pub mod Places
 pub mod Reaching
 pub mod Inputs
-pub mod Reading

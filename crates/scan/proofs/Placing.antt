@@ -64,15 +64,18 @@ module _ (rs : List Rule) (at : Place) (next : Paying Candidate) where
     visit-pair v e p q r = rw (e, p, q, r) (regroup (normalise-pair rs (renamed (v .sides)) u))
 
 -- what stands in a slot
-pub stored-at : {A : Type 0} (sides : A → Pair) (d : A) {tab b l : List ℕ} (k : ℕ) (xs : List A) → Stored tab b l k (map sides xs) → (i : ℕ) → i < length xs → RuleAt tab b l (k + i) (sides (getD xs i d))
+stored-at : {A : Type 0} (sides : A → Pair) (d : A) {tab b l : List ℕ} (k : ℕ) (xs : List A) → Stored tab b l k (map sides xs) → (i : ℕ) → i < length xs → RuleAt tab b l (k + i) (sides (getD xs i d))
 unfolding Stored
 stored-at sides d k [] h i l = absurd (omega arith)
 stored-at sides d {tab} {b} {l} k (x ∷ xs) h zero q = subst (λ j. RuleAt tab b l j (sides x)) (omega arith) (h .0)
 stored-at sides d {tab} {b} {l} k (x ∷ xs) h (suc i) q = subst (λ j. RuleAt tab b l j (sides (getD xs i d))) (omega arith) (stored-at sides d (suc k) xs (h .1) i (omega arith))
 
+pub stored-here : {A : Type 0} (sides : A → Pair) (d : A) {tab b l : List ℕ} (xs : List A) → Stored tab b l 0 (map sides xs) → (i : ℕ) → i < length xs → RuleAt tab b l i (sides (getD xs i d))
+stored-here sides d {tab} {b} {l} xs h i q = subst (λ j. RuleAt tab b l j (sides (getD xs i d))) (omega arith) (stored-at sides d 0 xs h i q)
+
 module _ {tab rules lens numbers : List ℕ} {count : ℕ} {rs : List Rule} (h : Holds tab rules lens numbers count rs) where
   rule-stands : (k : ℕ) → k < count → RuleAt tab rules lens k (rule-at rs k .sides)
-  rule-stands k l = subst (λ j. RuleAt tab rules lens j (rule-at rs k .sides)) (omega arith) (stored-at (λ (r : Rule). r .sides) no-rule 0 rs (h .stored) k (let c = h .counted in omega arith))
+  rule-stands k l = stored-here (λ (r : Rule). r .sides) no-rule rs (h .stored) k (let c = h .counted in omega arith)
 
   pub left-size : Layout tab rules lens count → (k : ℕ) → k < count → getD lens (2 * k) 0 ≡ size (rule-at rs k .sides .left)
   left-size lay k l =
