@@ -4,11 +4,11 @@ use mathlib.Core.Path.{_≡_, refl, sym, ap, _∙_, subst}
 use mathlib.Core.List.{List, [], _∷_, _++_, map, flatMap}
 use Prim.Native.Nat.{ℕ, suc, _-_, _*_, _<_, _≤_}
 use native.Mathlib.Omega.{arith}
-use lib.ListN.{length, getD, take}
-use lib.Seq.{length-take-le, take-at, take-take}
+use lib.ListN.{length, getD, take, List·getD-map}
+use lib.Seq.{length-take-le, take-at, take-take, getD-take}
 use Rattle.terms.specs.Term.{Pair}
 use Rattle.problem.specs.Problem.{Problem}
-use Rattle.rewriting.specs.Overlap.{all-places}
+use Rattle.rewriting.specs.Overlap.{Rule, all-places}
 use Rattle.rewriting.specs.Rewrite.{spent, Paid, done, stop}
 use Rattle.normaliser.specs.Stored.{Sides, Stored}
 use Rattle.matching.proofs.Replacing.{take-less-zero}
@@ -23,7 +23,6 @@ use Rattle.engine.specs.State.{Whole, Represents}
 use Rattle.engine.specs.Steps.{TakenState}
 use Rattle.scan.specs.Walk.{SlotWalk, Scanned}
 use Rattle.scan.specs.Walk as walk
-use Rattle.scan.proofs.Reading.{numbered-by}
 use Rattle.scan.specs.declared.Walk.{Walk}
 use Rattle.making.specs.Made.{Outcome, Stops, stop-code, without-taken, TurnWith, SettledTurn, MakesTurn}
 use Rattle.turn.specs.Turns.{Shown, TurnedIs, Buffers, WaitingTurn, Given, ScanTurn, WholeTurn}
@@ -152,6 +151,10 @@ module _ (st : Whole) (tab L R L′ R′ origin : List ℕ) (u : ℕ) (w : Walk)
 pub nothing : {A : Type 0} (l : List A) → length l ≡ 0 → l ≡ []
 nothing [] h = refl
 nothing (c ∷ l) h = absurd (omega arith)
+
+-- the rules' numbers, from the list of them
+numbered-by : (count : ℕ) (ns : List ℕ) (rs : List Rule) → take count ns ≡ map (λ (r : Rule). r .number) rs → (k : ℕ) → k < count → getD ns k 0 ≡ walk.rule-at rs k .number
+numbered-by count ns rs e k l = sym (getD-take count ns k 0 l) ∙ ap (λ z. getD z k 0) e ∙ List·getD-map (λ (r : Rule). r .number) rs k walk.no-rule
 
 module _ (st : Whole) (tab inputs sizes : List ℕ) (number : ℕ) (L R L′ R′ : List ℕ) (u : ℕ) (w : Walk) (none : st .waits ≡ 0)
     (W : Scanned tab (st .rules) (st .lens) (st .numbers) (st .count) inputs sizes number L R L′ R′ u w) where
