@@ -12,17 +12,29 @@ use Rattle.complete.proofs.write.Lts as lts
 use Rattle.complete.proofs.end_number.Reads as end-number-reads
 use Rattle.report.proofs.of_state.Reads as of-state-reads
 
+-- each bound from those of both forms
 part-of-state-end : tie.Need-part-of-state-end
 part-of-state-end c =
-    let n : length (c .before .before .before .before .before .before .before .before .args .ran .left) ≡ 120 = search needs in let p = c .before .before .before .before .before .before .before .before .pre .1 .0 in omega arith
+    let l : length (c .before .before .before .before .before .before .before .before .args .ran .left) ≡ 120 = search needs in
+    let r : length (c .before .before .before .before .before .before .before .before .args .ran .right) ≡ 120 = search needs in
+    let p = c .before .before .before .before .before .before .before .before .pre .1 .0 in
+    let q = c .before .before .before .before .before .before .before .before .pre .1 .1 in
+    omega arith
 
 part-of-state-end-2 : tie.Need-part-of-state-end-2
 part-of-state-end-2 c =
-    let n : length (c .before .before .before .before .before .before .before .before .before .before .args .ran .right) ≡ 120 = search needs in let p = c .before .before .before .before .before .before .before .before .before .before .pre .1 .1 in omega arith
+    let l : length (c .before .before .before .before .before .before .before .before .before .before .args .ran .left) ≡ 120 = search needs in
+    let r : length (c .before .before .before .before .before .before .before .before .before .before .args .ran .right) ≡ 120 = search needs in
+    let p = c .before .before .before .before .before .before .before .before .before .before .pre .1 .0 in
+    let q = c .before .before .before .before .before .before .before .before .before .before .pre .1 .1 in
+    omega arith
 
 of-state-requires : tie.Need-of-state-requires
 of-state-requires c κs =
-    (c .before .before .before .before .before .before .before .before .before .before .before .before .pre .1 .2, (c .before .before .before .before .before .before .before .before .before .before .before .before .pre .0, ((let p = c .before .before .before .before .before .before .before .before .before .before .before .before .pre .1 .0 in search needs), (let p = c .before .before .before .before .before .before .before .before .before .before .before .before .pre .1 .1 in search needs))))
+    let P = c .before .before .before .before .before .before .before .before .before .before .before .before .pre in
+    let p = P .1 .0 in
+    let q = P .1 .1 in
+    (P .1 .2, (P .0, (search needs, search needs)))
 
 returns : tie.Need-returns
 returns c =
