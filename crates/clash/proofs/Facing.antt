@@ -1,13 +1,14 @@
--- The walk of `clash`: whatever makes the two terms one makes the terms one that are still to be compared. Assumes nothing.
--- Read first: specs/Clashing (Clashing), and join in matching/proofs/Walking.
+-- The walk of `clash`: whatever makes the two terms one makes the terms one that are still to be compared; and a lemma for each return of `past`.
+-- Assumes nothing.
+-- Read first: specs/Clashing, matching/proofs/Walking (join).
 use mathlib.Core.Path.{_≡_, refl, sym, ap, ap₂, subst, _∙_}
-use mathlib.Core.Bool.{Bool, true, false}
-use mathlib.Core.List.{List, [], _∷_, _++_, append-assoc, append-nil}
+use mathlib.Core.Bool.{Bool, true, false, false≢true}
+use mathlib.Core.List.{List, _∷_, _++_, append-assoc, append-nil, cons≢nil}
 use Prim.Native.Nat.{ℕ, suc, _+_, _<_}
 use native.Mathlib.Omega.{arith}
 use native.Mathlib.Numerals.{add-one}
 use lib.Dec.{eqb}
-use lib.ListN.{length, getD, drop}
+use lib.ListN.{length, getD, drop, length-drop}
 use lib.Seq.{drop-cons, drop-drop, drop-at}
 use Rattle.terms.specs.Term.{Term, var, node, Terms, nil, cons, size, term-bytes, terms-bytes, subst-term, subst-terms}
 use Rattle.terms.specs.Scan.{skip}
@@ -15,6 +16,7 @@ use Rattle.terms.specs.Flat.{Wf, Wfs, Starts}
 use Rattle.terms.proofs.Bytes.{length-bytes}
 use Rattle.terms.proofs.Flats.{skip-term}
 use Rattle.terms.proofs.Shape.{Says, eqb-says, cons-head, cons-tail, node-args, node-symbol, nil≢cons}
+use Rattle.terms.proofs.Starts.{end-pos}
 use Rattle.matching.proofs.Walking.{join, join-bytes, join-wf}
 use Rattle.clash.specs.Clashing.{Differ, Past, Clashing}
 
@@ -48,9 +50,6 @@ going-start tab s t p = record {
   };
 }
 
-apart : {b : ℕ} {l : List ℕ} → [] ≡ b ∷ l → ⊥
-apart e = let z : _≡_ {A = ℕ} 0 1 = cc in omega arith
-
 join-subst : (σ : ℕ → Term) (ts us : Terms) → subst-terms σ (join ts us) ≡ join (subst-terms σ ts) (subst-terms σ us)
 unfolding join subst-terms
 join-subst σ nil us = refl
@@ -61,7 +60,7 @@ module _ (tab s t : List ℕ) (i j : ℕ) (σ τ : ℕ → Term) (h : i < length
   clash-go : (xs ys : Terms) (rest : List ℕ) → getD s i 0 ∷ drop (suc i) s ≡ terms-bytes xs → getD t j 0 ∷ drop (suc j) t ≡ terms-bytes ys ++ rest → subst-terms σ xs ≡ subst-terms τ ys →
       Differ (getD s i 0) (getD t j 0) true → ⊥
   unfolding terms-bytes term-bytes subst-terms subst-term
-  clash-go nil ys rest p q e d = apart (sym p)
+  clash-go nil ys rest p q e d = cons≢nil p
   clash-go (cons x xs) nil rest p q e d = nil≢cons (sym e)
   clash-go (cons (var x) xs) (cons y ys) rest p q e d = let z : getD s i 0 ≡ 128 + x = cc in omega (arith, d .0)
   clash-go (cons (node f ps) xs) (cons (var y) ys) rest p q e d = let z : getD t j 0 ≡ 128 + y = cc in omega (arith, d .1)
@@ -77,7 +76,7 @@ module _ (tab s t : List ℕ) (i j : ℕ) (σ τ : ℕ → Term) (h : i < length
   same-go : (xs ys : Terms) (rest : List ℕ) → Wfs 32 tab xs → Wfs 32 tab ys → getD s i 0 ∷ drop (suc i) s ≡ terms-bytes xs → getD t j 0 ∷ drop (suc j) t ≡ terms-bytes ys ++ rest →
       subst-terms σ xs ≡ subst-terms τ ys → getD s i 0 ≡ getD t j 0 → Left tab s t (suc i) (suc j) σ τ
   unfolding terms-bytes term-bytes subst-terms subst-term Wfs Wf
-  same-go nil ys rest w v p q e d = absurd (apart (sym p))
+  same-go nil ys rest w v p q e d = absurd (cons≢nil p)
   same-go (cons x xs) nil rest w v p q e d = absurd (nil≢cons (sym e))
   same-go (cons (var x) xs) (cons (var y) ys) rest w v p q e d = record { xs = xs; ys = ys; rest = rest; wfx = w .1; wfy = v .1; inner = cc; outer = cc; one = cons-tail e }
   same-go (cons (var x) xs) (cons (node g qs) ys) rest w v p q e d =
@@ -103,7 +102,7 @@ module _ (tab s t : List ℕ) (i j : ℕ) (σ τ : ℕ → Term) (h : i < length
   other-go : (xs ys : Terms) (rest : List ℕ) → Wfs 32 tab xs → Wfs 32 tab ys → getD s i 0 ∷ drop (suc i) s ≡ terms-bytes xs → drop i s ≡ terms-bytes xs → drop j t ≡ terms-bytes ys ++ rest →
       subst-terms σ xs ≡ subst-terms τ ys → Left tab s t (i + skip tab (drop i s) 1) (j + skip tab (drop j t) 1) σ τ
   unfolding terms-bytes subst-terms Wfs
-  other-go nil ys rest w v p q r e = absurd (apart (sym p))
+  other-go nil ys rest w v p q r e = absurd (cons≢nil p)
   other-go (cons x xs) nil rest w v p q r e = absurd (nil≢cons (sym e))
   other-go (cons x xs) (cons y ys) rest w v p q r e =
       let r′ : drop j t ≡ term-bytes y ++ (terms-bytes ys ++ rest) = r ∙ append-assoc (term-bytes y) (terms-bytes ys) rest in
@@ -144,18 +143,11 @@ going-clash tab s t p i j d o h k g e = record {
   never = λ z x y w f u σ τ q. left-clash tab s t i j σ τ h k (o .goes x y σ τ w f u q) (subst (λ v. Differ (getD s i 0) (getD t j 0) v) e g);
 }
 
-no : false ≡ true → ⊥
-no e = let z : _≡_ {A = ℕ} 0 1 = cc in omega arith
-
 pub no-clash : (tab s t : List ℕ) (p : ℕ) → Clashing tab s t p false
-no-clash tab s t p = record { never = λ e. absurd (no e) }
+no-clash tab s t p = record { never = λ e. absurd (false≢true e) }
 
 pub past-same : (tab t : List ℕ) (i b : ℕ) → getD t i 0 ≡ b → Past tab t i b (i + 1)
 past-same tab t i b e = record { same = λ _. refl; other = λ n. absurd (n e); on = omega arith }
 
-skip-pos : (tab l : List ℕ) (b : ℕ) (m : List ℕ) → l ≡ b ∷ m → 0 < skip tab l 1
-unfolding skip
-skip-pos tab l b m e = rw e (omega arith)
-
 pub past-other : (tab t : List ℕ) (i b r : ℕ) → i < length t → (getD t i 0 ≡ b → ⊥) → r ≡ i + skip tab (drop i t) 1 → Past tab t i b r
-past-other tab t i b r h n e = record { same = λ q. absurd (n q); other = λ _. e; on = omega (arith, e, skip-pos tab (drop i t) (getD t i 0) (drop (suc i) t) (drop-cons t i 0 h)) }
+past-other tab t i b r h n e = record { same = λ q. absurd (n q); other = λ _. e; on = omega (arith, e, end-pos tab (drop i t) (0 + skip tab (drop i t) 1) (λ z. omega (arith, length-drop i t)) refl) }

@@ -10,7 +10,7 @@ use Rattle.terms.specs.Term.{Term, var, node, Terms, cons, size, sizes, subst-t
 use Rattle.terms.proofs.Shape.{node-symbol}
 use Rattle.terms.proofs.Subst.{Subst}
 use Rattle.classes.specs.Arena.{Arena, Spells, free, made, SpellsAll, none, more, same, Whole, Joins, Classes, Agree, Closed, Never, Among, Descends}
-use Rattle.unify.proofs.Correct.{Mgu}
+use Rattle.unify.proofs.Correct.{Unifies, Mgu}
 
 module _ (A : Arena) where
   pub spells-within : {c : ℕ → ℕ} {i : ℕ} {t : Term} → Spells A c i t → i < A .nodes
@@ -39,8 +39,12 @@ module _ (A : Arena) where
     spells-ones none none = refl
     spells-ones (more r s) (more r′ s′) = ap₂ cons (spells-one r r′) (spells-ones s s′)
 
+  -- what makes their terms one joins two nodes
+  pub unifies-joins : (τ : Subst) (a b : ℕ) (s t : Term) → Spells A same a s → Spells A same b t → Unifies τ s t → Joins A τ a b
+  unifies-joins τ a b s t p q h s′ t′ p′ q′ = ap (subst-term τ) (spells-one p′ p) ∙ h ∙ ap (subst-term τ) (spells-one q q′)
+
   -- nodes of one class stand for one term
-  pub spells-move : {c : ℕ → ℕ} {i : ℕ} (j : ℕ) {t : Term} → Spells A c i t → c i ≡ c j → j < A .nodes → Spells A c j t
+  spells-move : {c : ℕ → ℕ} {i : ℕ} (j : ℕ) {t : Term} → Spells A c i t → c i ≡ c j → j < A .nodes → Spells A c j t
   spells-move {c} j (free h e) q b = free b (ap (A .byte) (sym q) ∙ e)
   spells-move {c} j (made {f = f} {ts = ts} h e l r) q b = made b (ap (A .byte) (sym q) ∙ e) l (subst (λ z. SpellsAll A c (suc z) (A .arity f) ts) q r)
 
@@ -60,16 +64,6 @@ module _ (A : Arena) where
         absorbss : {p k : ℕ} {ts us : Terms} → SpellsAll A c p k us → SpellsAll A same p k ts → subst-terms τ us ≡ subst-terms τ ts
         absorbss none none = refl
         absorbss (more r s) (more r′ s′) = ap₂ cons (absorbs r r′) (absorbss s s′)
-
-      -- two symbols in one class
-      clash-none : (i : ℕ) → i < A .nodes → A .byte i < 128 → (A .byte (c i) ≡ A .byte i → ⊥) → ⊥
-      unfolding subst-term
-      clash-none i h l n =
-          let s = w i h in
-          let t = w (c i) (g .within i h) in
-          let a = unmake (A .byte i) (s .1) refl l in
-          let b = unmake (A .byte (c i)) (t .1) refl (g .headed i h l) in
-          n (node-symbol (ap (subst-term τ) (sym (b .1)) ∙ sym (g .respects τ j i (s .0) (t .0) (s .1) (t .1)) ∙ ap (subst-term τ) (a .1)))
 
       -- a descent without end
       module _ (U : ℕ → Type 0) (d : Descends A c U) where
@@ -101,8 +95,15 @@ module _ (A : Arena) where
             let e = ap size (g .respects τ j i t (v .0) s (v .1) ∙ ap (subst-term τ) (k .1)) in
             descend n (r .at) (r .term) (r .spells) (r .holds) (omega (arith, r .below, e))
 
+    -- two symbols in one class
     pub never-clash : (i : ℕ) → i < A .nodes → A .byte i < 128 → (A .byte (c i) ≡ A .byte i → ⊥) → Never A n₁ n₂
-    never-clash i h l n τ j = clash-none τ j i h l n
+    unfolding subst-term
+    never-clash i h l n τ j =
+        let s = w i h in
+        let t = w (c i) (g .within i h) in
+        let a = unmake (A .byte i) (s .1) refl l in
+        let b = unmake (A .byte (c i)) (t .1) refl (g .headed i h l) in
+        n (node-symbol (ap (subst-term τ) (sym (b .1)) ∙ sym (g .respects τ j i (s .0) (t .0) (s .1) (t .1)) ∙ ap (subst-term τ) (a .1)))
 
     pub never-circle : (U : ℕ → Type 0) → Descends A c U → (i : ℕ) → i < A .nodes → U i → Never A n₁ n₂
     never-circle U d i h u τ j = let v = w i h in descend τ j U d (suc (size (subst-term τ (v .0)))) i (v .0) (v .1) u (omega arith)
@@ -166,5 +167,5 @@ module _ (A : Arena) where
           let u = k n₁ (spells-within p) in
           record {
             unifies = image p (u .1) ∙ sym (image q (spells-move n₂ (u .1) e (spells-within q)));
-            general = λ τ h x. general-at τ (λ s′ t′ p′ q′. ap (subst-term τ) (spells-one p′ p) ∙ h ∙ ap (subst-term τ) (spells-one q q′)) x (seek x (A .nodes));
+            general = λ τ h x. general-at τ (unifies-joins τ n₁ n₂ s t p q h) x (seek x (A .nodes));
           }

@@ -27,15 +27,12 @@ pub record Closing (l tab ends cs ds : List ℕ) (i again : ℕ) : Type 0 where
 abbrev pub left-over : List ℕ → List ℕ → ℕ → ℕ → ℕ
 left-over l ds i again = 1202 * weight l ds + 601 * again + (600 - i)
 
+-- a pass begins
+closing-pass : (l tab ends cs ds : List ℕ) → Ready l tab ends ds → Grown (arena l tab ends) (at cs) (at ds) → length ds ≡ length cs → Closing l tab ends cs ds 0 0
+closing-pass l tab ends cs ds y g e = record { ready = y; grown = g; long = e; within = omega arith; once = omega arith; closed = λ z j h. absurd (omega arith) }
+
 pub closing-start : (l tab ends cs : List ℕ) → Ready l tab ends cs → Closing l tab ends cs cs 0 0
-closing-start l tab ends cs y = record {
-  ready = y;
-  grown = grown-start (arena l tab ends) (at cs);
-  long = refl;
-  within = omega arith;
-  once = omega arith;
-  closed = λ e j h. absurd (omega arith);
-}
+closing-start l tab ends cs y = closing-pass l tab ends cs cs y (grown-start (arena l tab ends) (at cs)) refl
 
 module _ (l tab ends cs ds : List ℕ) (i again : ℕ) (k : Closing l tab ends cs ds i again) where
   -- the end of a pass
@@ -43,7 +40,7 @@ module _ (l tab ends cs ds : List ℕ) (i again : ℕ) (k : Closing l tab ends c
   closing-done h e = (k .ready, (k .grown, λ j q. k .closed e j (omega arith)))
 
   pub closing-again : Closing l tab ends cs ds 0 0
-  closing-again = record { ready = k .ready; grown = k .grown; long = k .long; within = omega arith; once = omega arith; closed = λ e j h. absurd (omega arith) }
+  closing-again = closing-pass l tab ends cs ds (k .ready) (k .grown) (k .long)
 
   pub closing-rounds : (again ≡ 0 → ⊥) → left-over l ds 0 0 < left-over l ds i again
   closing-rounds n = let q : 0 < again = omega (arith, n) in omega arith

@@ -8,7 +8,7 @@ use Prim.Native.Nat.{ℕ, zero, suc, _+_, _≤_, _<_}
 use native.Mathlib.Omega.{arith}
 use native.Mathlib.Nat.{le-of-suc-le-suc}
 use lib.Dec.{eqb, ltb}
-use lib.ListN.{length}
+use lib.ListN.{length, length-map}
 use borrow.Author.Tests.{ltb-true, ltb-false, lt-ltb, le-ltb}
 use Rattle.terms.specs.Base.{if_then_else_}
 use Rattle.terms.proofs.Shape.{Says, eqb-says}
@@ -26,7 +26,7 @@ unfolding if_then_else_
 relabelled-at from to b true h = inl (h, refl)
 relabelled-at from to b false h = inr (h, refl)
 
-pub relabelled-cases : (from to b : ℕ) → Cases from to b
+relabelled-cases : (from to b : ℕ) → Cases from to b
 unfolding relabelled
 relabelled-cases from to b = relabelled-at from to b (eqb b from) (eqb-says b from)
 
@@ -36,11 +36,11 @@ relabelled-yes from to b e = ⊎-elim (λ h. sym (h .1)) (λ h. absurd (h .0 e))
 pub relabelled-no : (from to b : ℕ) → (b ≡ from → ⊥) → b ≡ relabelled from to b
 relabelled-no from to b e = ⊎-elim (λ h. absurd (e (h .0))) (λ h. sym (h .1)) (relabelled-cases from to b)
 
-pub key-symbol : (l : List ℕ) (r : ℕ) → at l r < 128 → key l r ≡ r
+key-symbol : (l : List ℕ) (r : ℕ) → at l r < 128 → key l r ≡ r
 unfolding key if_then_else_
 key-symbol l r h = rw (lt-ltb (at l r) 128 h) refl
 
-pub key-variable : (l : List ℕ) (r : ℕ) → 128 ≤ at l r → key l r ≡ r + 1024
+key-variable : (l : List ℕ) (r : ℕ) → 128 ≤ at l r → key l r ≡ r + 1024
 unfolding key if_then_else_
 key-variable l r h = rw (le-ltb (at l r) 128 h) refl
 
@@ -63,7 +63,7 @@ key-strict l r q hr hq n k =
     (λ c. ⊎-elim (λ d. omega (arith, c .1, d .1)) (λ d. omega (arith, c .1, d .1, n)) (key-cases l r))
     (key-cases l q)
 
-pub at-map : (f : ℕ → ℕ) (cs : List ℕ) (i : ℕ) → i < length cs → at (map f cs) i ≡ f (at cs i)
+at-map : (f : ℕ → ℕ) (cs : List ℕ) (i : ℕ) → i < length cs → at (map f cs) i ≡ f (at cs i)
 at-map f [] i h = absurd (omega arith)
 at-map f (x ∷ cs) zero h = refl
 at-map f (x ∷ cs) (suc i) h = at-map f cs i (le-of-suc-le-suc h)
@@ -76,7 +76,7 @@ unfolding weight
 weight-le l from to [] k = omega arith
 weight-le l from to (b ∷ cs) k = omega (arith, weight-entry l from to b k, weight-le l from to cs k)
 
-pub weight-lt : (l : List ℕ) (from to : ℕ) (cs : List ℕ) (a : ℕ) → key l to < key l from → a < length cs → at cs a ≡ from → weight l (map (relabelled from to) cs) < weight l cs
+weight-lt : (l : List ℕ) (from to : ℕ) (cs : List ℕ) (a : ℕ) → key l to < key l from → a < length cs → at cs a ≡ from → weight l (map (relabelled from to) cs) < weight l cs
 unfolding weight
 weight-lt l from to [] a k h e = absurd (omega arith)
 weight-lt l from to (b ∷ cs) zero k h e = omega (arith, ap (key l) e, ap (key l) (relabelled-yes from to b e), weight-le l from to cs (omega arith))
@@ -151,10 +151,6 @@ merge : (l cs : List ℕ) (a b : ℕ) (ds : List ℕ) → ds ≡ joined l cs a b
 unfolding joined
 merge l cs a b ds e = subst (Merge l cs a b) (sym e) (merged l cs a b (ltb (key l (at cs a)) (key l (at cs b))) refl)
 
-length-map : (f : ℕ → ℕ) (cs : List ℕ) → length (map f cs) ≡ length cs
-length-map f [] = refl
-length-map f (x ∷ cs) = ap suc (length-map f cs)
-
 module _ (l tab ends cs : List ℕ) (y : Ready l tab ends cs) (a b : ℕ) (ha : a < length l) (hb : b < length l) (ds : List ℕ) (e : ds ≡ joined l cs a b) where
   abbrev M : Merge l cs a b ds
   M = merge l cs a b ds e
@@ -173,14 +169,14 @@ module _ (l tab ends cs : List ℕ) (y : Ready l tab ends cs) (a b : ℕ) (ha : 
   merge-within i h (inr (p, q)) = subst (λ z. z < length l) (sym (merge-at i h ∙ q)) (y .within i h)
 
   pub joined-length : length ds ≡ length cs
-  joined-length = ap length (M .bytes) ∙ length-map (relabelled (M .from) (M .to)) cs
+  joined-length = ap length (M .bytes) ∙ length-map cs (relabelled (M .from) (M .to))
 
   pub join-ready : Ready l tab ends ds
   join-ready =
       record {
         small = y .small;
         ended = y .ended;
-        classed = omega (arith, y .classed, length-map (relabelled (M .from) (M .to)) cs, ap length (M .bytes));
+        classed = omega (arith, y .classed, joined-length);
         whole = y .whole;
         within = λ i h. merge-within i h (relabelled-cases (M .from) (M .to) (at cs i));
       }
@@ -203,7 +199,7 @@ module _ (l tab ends cs : List ℕ) (y : Ready l tab ends cs) (a b : ℕ) (ha : 
       (key-headed l (M .from) (M .to) (omega (arith, from-within, y .small)) (M .order))
       (λ τ k. merge-joins τ (g .respects τ k) (j τ k))
 
-  pub join-keeps : (i k : ℕ) → i < length l → k < length l → at cs i ≡ at cs k → at ds i ≡ at ds k
+  join-keeps : (i k : ℕ) → i < length l → k < length l → at cs i ≡ at cs k → at ds i ≡ at ds k
   join-keeps = relabel-keeps (arena l tab ends) (y .whole) (at cs) (at ds) (M .from) (M .to) merge-at
 
   -- the two are in one class now

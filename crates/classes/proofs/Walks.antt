@@ -79,7 +79,7 @@ arguments A w i f k p h e l ek ep =
     subst₂ (λ x y. SpellsSome A x y) (sym (ep ∙ add-one i)) (sym ek) (u .0, u .2)
 
 -- what the arguments of node i and of its root r answer is what node i asks for
-pub step-apart : (A : Arena) (c : ℕ → ℕ) (i r f k : ℕ) (s : Step) → i < A .nodes → r < A .nodes → r ≡ c i → f ≡ A .byte i → f < 128 → A .byte r ≡ f →
+step-apart : (A : Arena) (c : ℕ → ℕ) (i r f k : ℕ) (s : Step) → i < A .nodes → r < A .nodes → r ≡ c i → f ≡ A .byte i → f < 128 → A .byte r ≡ f →
     k ≡ A .arity f → Apart A c (i + 1) (r + 1) k s → StepAt A c i s
 unfolding subst-term
 step-apart A c i r f k Done hi hr er ef l eb ek g =

@@ -5,17 +5,19 @@ use mathlib.Core.List.{List, [], _++_, map, append-assoc}
 use Prim.Native.Nat.{ℕ, _+_, _-_, _≤_, _<_}
 use native.Mathlib.Omega.{arith}
 use lib.ListN.{length, take, drop, length-drop, length-append, length-map}
-use lib.Seq.{take-all, length-take-le}
+use lib.Seq.{length-take-le}
+use native.Mathlib.Nat.{sub-zero}
 use Rattle.terms.specs.Scan.{skip}
+use Rattle.terms.proofs.Starts.{from-drop}
 use Rattle.laying.specs.Layout.{moved, Lays, four-bytes, LaysFour}
 use Rattle.laying.proofs.Moving.{lays-more, lays-same}
 
 module _ (tab l₁ r₁ l₂ r₂ : List ℕ) (p e : ℕ) (q : e ≡ p + skip tab (drop p l₂) 1) (h : p < length l₂) (h′ : p ≤ e) (h″ : e ≤ length l₂) where
   before : take (p - 0) (drop 0 l₂) ≡ take p l₂
-  before = let z : p - 0 ≡ p = omega arith in ap (λ k. take k l₂) z
+  before = ap (λ k. take k l₂) (sub-zero p)
 
   after : take (length l₂ - e) (drop e l₂) ≡ drop (p + skip tab (drop p l₂) 1) l₂
-  after = take-all (length l₂ - e) (drop e l₂) (omega (arith, length-drop e l₂)) ∙ ap (λ k. drop k l₂) q
+  after = from-drop l₂ e ∙ ap (λ k. drop k l₂) q
 
   -- there is room for the last two runs, however far the variables are moved
   module _ (n₀ n₁ n₂ n₃ n₄ : List ℕ) (a b c d u v : ℕ) (g₁ : Lays n₀ 0 l₂ 0 n₁ a) (g₂ : Lays n₁ a l₁ u n₂ b) (g₃ : Lays n₂ b (take (p - 0) (drop 0 l₂)) 0 n₃ c) (g₄ : Lays n₃ c r₁ v n₄ d)
@@ -27,7 +29,7 @@ module _ (tab l₁ r₁ l₂ r₂ : List ℕ) (p e : ℕ) (q : e ≡ p + skip ta
     long-four = g₄ .same ∙ g₃ .same ∙ g₂ .same ∙ g₁ .same
 
     length-after : length (take (length l₂ - e) (drop e l₂)) ≡ length l₂ - e
-    length-after = length-take-le (length l₂ - e) (drop e l₂) (omega (arith, length-drop e l₂))
+    length-after = ap length (from-drop l₂ e) ∙ length-drop e l₂
 
     pub room-five : d + length (take (length l₂ - e) (drop e l₂)) ≤ length n₄
     room-five = omega (arith, ends-four, long-four, length-after)
@@ -70,18 +72,18 @@ module _ (tab l₁ r₁ l₂ r₂ : List ℕ) (p e : ℕ) (q : e ≡ p + skip ta
         }
 
 -- what the nodes hold is longer than its parts
-pub four-length : (tab l₁ r₁ l₂ r₂ : List ℕ) (p : ℕ) → length l₂ + length l₁ + length r₂ ≤ length (four-bytes tab l₁ r₁ l₂ r₂ p)
+four-length : (tab l₁ r₁ l₂ r₂ : List ℕ) (p : ℕ) → length l₂ + length l₁ + length r₂ ≤ length (four-bytes tab l₁ r₁ l₂ r₂ p)
 unfolding four-bytes
 four-length tab l₁ r₁ l₂ r₂ p =
     let x : List ℕ = take p l₂ ++ (map (moved 16) r₁ ++ drop (p + skip tab (drop p l₂) 1) l₂) in
     omega (arith, length-append l₂ (map (moved 16) l₁ ++ (x ++ r₂)), length-append (map (moved 16) l₁) (x ++ r₂), length-append x r₂, length-map l₁ (moved 16))
 
-module _ (tab l₁ r₁ l₂ r₂ : List ℕ) (p : ℕ) (nodes nodes′ : List ℕ) (r : ℕ) (g : LaysFour tab l₁ r₁ l₂ r₂ p nodes nodes′ r) (k : 600 ≤ length nodes) where
-  pub laid-length : length (take (r - 0) (drop 0 nodes′)) ≡ r
-  laid-length = let z : r - 0 ≡ r = omega arith in ap (λ j. length (take j nodes′)) z ∙ length-take-le r nodes′ (omega (arith, g .most, g .same))
-
+module _ (tab l₁ r₁ l₂ r₂ : List ℕ) (p : ℕ) (nodes nodes′ : List ℕ) (r : ℕ) (g : LaysFour tab l₁ r₁ l₂ r₂ p nodes nodes′ r) where
   pub laid-bytes : take (r - 0) (drop 0 nodes′) ≡ four-bytes tab l₁ r₁ l₂ r₂ p
-  laid-bytes = let z : r - 0 ≡ r = omega arith in ap (λ j. take j nodes′) z ∙ g .bytes
+  laid-bytes = ap (λ j. take j nodes′) (sub-zero r) ∙ g .bytes
+
+  laid-length : length (take (r - 0) (drop 0 nodes′)) ≡ r
+  laid-length = ap length laid-bytes ∙ sym (g .ends)
 
   pub laid-parts : length l₂ + length l₁ + length r₂ ≤ r
   laid-parts = omega (arith, g .ends, four-length tab l₁ r₁ l₂ r₂ p)

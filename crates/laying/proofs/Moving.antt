@@ -30,7 +30,7 @@ moved-none b (no h) (yes k) = sym (moved-variable 0 b (omega arith) k) ∙ omega
 moved-none b (no h) (no k) = sym (moved-high 0 b (omega arith) (omega arith))
 
 -- moved by none they stay
-pub map-none : (l : List ℕ) → map (moved 0) l ≡ l
+map-none : (l : List ℕ) → map (moved 0) l ≡ l
 map-none [] = refl
 map-none (b ∷ l) = ap₂ _∷_ (moved-none b (decLt b 128) (decLt b 240)) (map-none l)
 

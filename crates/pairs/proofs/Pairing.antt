@@ -1,21 +1,22 @@
 -- The instances of two nodes, written one after the other and renamed, are the renamed pair; their names are few. Assumes nothing.
--- Read first: specs/Placed (PutPair, Small), unifier/specs/Written (Writes), naming/proofs/Few.
+-- Read first: specs/Placed (PutPair, Small), unifier/specs/Written (Writes), naming/proofs/Pairs (renamed-pair), naming/proofs/Few.
 use mathlib.Core.Path.{_≡_, sym, ap, ap₂, subst₂, _∙_}
 use mathlib.Core.Logic.{⊎-elim}
 use mathlib.Core.List.{List, [], _++_, append-assoc, append-nil, List·Memᴰ·not-nil, List·Memᴰ·cases-cons, List·Memᴰ·append-cases}
 use Prim.Native.Nat.{ℕ, _+_, _-_, _≤_, _<_}
 use native.Mathlib.Omega.{arith}
-use lib.ListN.{length, take, drop, length-append, length-drop}
-use lib.Seq.{take-at, drop-at, take-length}
+use native.Mathlib.Nat.{sub-zero}
+use lib.ListN.{length, take, drop, length-append}
+use lib.Seq.{length-take-le, length-front, take-at, drop-at, take-length}
 use Rattle.terms.specs.Term.{Term, Terms, nil, cons, Pair, size, sizes, variables, variables-of, term-bytes, terms-bytes, renamed}
 use Rattle.terms.proofs.Bytes.{length-bytes}
 use Rattle.terms.proofs.Subst.{In}
 use Rattle.terms.proofs.Limits.{renamed-left-size, renamed-right-size}
-use Rattle.terms.proofs.Rename.{renamed-sides}
 use Rattle.classes.specs.Arena.{Spells, free, made, SpellsAll, none, more}
 use Rattle.classes.specs.Steps.{at, arena, Ready}
 use Rattle.naming.specs.Names.{collect, renamed-bytes}
-use Rattle.naming.proofs.Renaming.{Lows, renamed-terms}
+use Rattle.naming.proofs.Renaming.{Lows}
+use Rattle.naming.proofs.Pairs.{renamed-pair}
 use Rattle.naming.proofs.Few.{terms-few}
 use Rattle.unifier.specs.Written.{put, Room, Writes}
 use Rattle.classes.proofs.Arena.{spells-one}
@@ -40,8 +41,7 @@ module _ (l tab ends cs : List ℕ) (rd : Ready l tab ends cs) (low : Low l) whe
 -- the two parts of what was renamed
 first-part : (q rest X Y : List ℕ) (e : ℕ) → q ≡ X ++ Y → length X ≡ e → take (e - 0) (drop 0 (q ++ rest)) ≡ X
 first-part q rest X Y e h n =
-    let z : e - 0 ≡ e = omega arith in
-    ap₂ (λ k m. take k (m ++ rest)) z h ∙ ap (take e) (append-assoc X Y rest) ∙ take-at X (Y ++ rest) e n
+    ap₂ (λ k m. take k (m ++ rest)) (sub-zero e) h ∙ ap (take e) (append-assoc X Y rest) ∙ take-at X (Y ++ rest) e n
 
 second-part : (q rest X Y : List ℕ) (e f : ℕ) → q ≡ X ++ Y → length X ≡ e → length Y ≡ f - e → take (f - e) (drop e (q ++ rest)) ≡ Y
 second-part q rest X Y e f h n m =
@@ -52,13 +52,12 @@ second-part q rest X Y e f h n m =
 abbrev Copied : List ℕ → List ℕ → List ℕ → Type 0
 Copied S L L′ = L′ ≡ take (length S) S ++ drop (length S) L
 
-copied : (S X L L′ : List ℕ) (n : ℕ) → S ≡ X → L′ ≡ take (length S) S ++ drop (length S) L → length X ≡ n → take n L′ ≡ X
+copied : (S X L L′ : List ℕ) (n : ℕ) → S ≡ X → Copied S L L′ → length X ≡ n → take n L′ ≡ X
 copied S X L L′ n e h k =
     ap (take n) (h ∙ ap (λ z. z ++ drop (length S) L) (take-length S ∙ e)) ∙ take-at X (drop (length S) L) n k
 
-copied-length : (S L L′ : List ℕ) → L′ ≡ take (length S) S ++ drop (length S) L → length S ≤ length L → length L′ ≡ length L
-copied-length S L L′ h k =
-    ap length h ∙ length-append (take (length S) S) (drop (length S) L) ∙ omega (arith, ap length (take-length S), length-drop (length S) L)
+copied-length : (S L L′ : List ℕ) → Copied S L L′ → length S ≤ length L → length L′ ≡ length L
+copied-length S L L′ h k = ap length h ∙ length-front L (take (length S) S) (length S) (ap length (take-length S) ∙ sym (length-take-le (length S) L k))
 
 module _ (l tab ends cs : List ℕ) (rd : Ready l tab ends cs) (low : Low l) (a b : ℕ) (s : Small (arena l tab ends) (at cs) a b) where
   abbrev y : Term
@@ -115,8 +114,7 @@ module _ (l tab ends cs : List ℕ) (rd : Ready l tab ends cs) (low : Low l) (a 
       written =
           let k : length (term-bytes y ++ (term-bytes z ++ [])) ≡ f =
           length-append (term-bytes y) (term-bytes z ++ []) ∙ omega (arith, length-append (term-bytes z) [], length-bytes y, length-bytes z, second-end) in
-          let m : f - 0 ≡ length (terms-bytes (cons y (cons z nil))) = omega (arith, k) in
-          ap₂ (λ j h. take j h) m whole ∙ put-reads (terms-bytes (cons y (cons z nil))) d (omega (arith, k, second-end, s .4, s .5))
+          ap₂ (λ j h. take j h) (sub-zero f ∙ sym k) whole ∙ put-reads (terms-bytes (cons y (cons z nil))) d (omega (arith, k, second-end, s .4, s .5))
 
       lows-both : Lows (cons y (cons z nil))
       unfolding Lows
@@ -136,10 +134,8 @@ module _ (l tab ends cs : List ℕ) (rd : Ready l tab ends cs) (low : Low l) (a 
 
       module _ (q : List ℕ) (h : q ≡ renamed-bytes (take (f - 0) (drop 0 d₂))) where
         halves : q ≡ term-bytes (renamed pair .left) ++ term-bytes (renamed pair .right)
-        unfolding terms-bytes
-        halves =
-            h ∙ ap renamed-bytes written ∙ renamed-terms (cons y (cons z nil)) lows-both ∙ ap terms-bytes (sym (renamed-sides pair))
-            ∙ ap (λ k. term-bytes (renamed pair .left) ++ k) (append-nil (term-bytes (renamed pair .right)))
+        unfolding terms-bytes Lows
+        halves = h ∙ ap renamed-bytes (written ∙ ap (λ k. term-bytes y ++ k) (append-nil (term-bytes z))) ∙ renamed-pair pair (lows-both .0) (lows-both .1 .0)
 
         left-length : length (term-bytes (renamed pair .left)) ≡ e
         left-length = length-bytes (renamed pair .left) ∙ renamed-left-size pair ∙ sym first-end

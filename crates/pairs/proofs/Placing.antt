@@ -1,6 +1,6 @@
 -- The tests of sizes in `place`, a lemma for each return: the peak, the left side or the right side too large, or the pair. Assumes nothing.
--- Read first: specs/Placed (Placed, Fits), sizing/specs/Sizes (Sized, Known).
-use mathlib.Core.Path.{_≡_, refl, ap, _∙_}
+-- Read first: specs/Placed (Placed, Fits), sizing/specs/Sizes (Sized, Known), sizing/proofs/Sizing (known-size).
+use mathlib.Core.Path.{_≡_, refl}
 use mathlib.Core.Bool.{true, false}
 use mathlib.Core.List.{List}
 use Prim.Native.Nat.{ℕ, _≤_, _<_}
@@ -12,17 +12,13 @@ use lib.Dec.{ltb}
 use Rattle.classes.specs.Arena.{Spells}
 use Rattle.classes.specs.Steps.{at, arena}
 use Rattle.sizing.specs.Sizes.{Sized, Known, cap}
-use Rattle.classes.proofs.Arena.{spells-one, spells-within}
+use Rattle.sizing.proofs.Sizing.{known-size}
 use Rattle.pairs.specs.declared.Lengths.{Lengths}
 use Rattle.pairs.specs.Placed.{Small, PutPair, Fits, Placed}
 
 module _ (l tab ends cs zs : List ℕ) (k : Sized l tab ends cs zs) (w : Known (arena l tab ends) (at zs) true) where
-  -- a size that is known is the size, up to 120
-  known-size : (i : ℕ) (u : Term) → Spells (arena l tab ends) (at cs) i u → at zs i ≡ cap (size u)
-  known-size i u p =
-      let h = spells-within (arena l tab ends) p in
-      let m = k .measured i h (w i h) in
-      m .2 ∙ ap (λ v. cap (size v)) (spells-one (arena l tab ends) (m .1) p)
+  size-at : (i : ℕ) (u : Term) → Spells (arena l tab ends) (at cs) i u → at zs i ≡ cap (size u)
+  size-at = known-size l tab ends cs zs k w
 
   pub pair-small : (a b m n : ℕ) → a < length l → b < length l → m ≡ at zs a → n ≡ at zs b → m ≤ 120 → n ≤ 120 → Small (arena l tab ends) (at cs) a b
   pair-small a b m n ha hb em en sm sn =
@@ -40,18 +36,18 @@ module _ (l tab ends cs zs : List ℕ) (k : Sized l tab ends cs zs) (w : Known (
 
     module _ (r : Lengths) (o : (r .fits ≡ false) × (r .left ≡ 0) × (r .right ≡ 0)) where
       pub place-peak : 120 < at zs 0 → Placed (arena l tab ends) (at cs) a b L R L R r
-      place-peak h = not-placed r (o .1, o .2) (λ x y z p q v. rw (lt-ltb 120 (size x) (omega (arith, known-size 0 x p))) (o .0))
+      place-peak h = not-placed r (o .1, o .2) (λ x y z p q v. rw (lt-ltb 120 (size x) (omega (arith, size-at 0 x p))) (o .0))
 
       pub place-left : (m : ℕ) → at zs 0 ≤ 120 → m ≡ at zs a → 120 < m → Placed (arena l tab ends) (at cs) a b L R L R r
       place-left m h e g =
           not-placed r (o .1, o .2)
-          (λ x y z p q v. rw (le-ltb 120 (size x) (omega (arith, known-size 0 x p)), lt-ltb 120 (size y) (omega (arith, known-size a y q))) (o .0))
+          (λ x y z p q v. rw (le-ltb 120 (size x) (omega (arith, size-at 0 x p)), lt-ltb 120 (size y) (omega (arith, size-at a y q))) (o .0))
 
       pub place-right : (m n : ℕ) → at zs 0 ≤ 120 → m ≡ at zs a → m ≤ 120 → n ≡ at zs b → 120 < n → Placed (arena l tab ends) (at cs) a b L R L R r
       place-right m n h e g e′ g′ =
           not-placed r (o .1, o .2)
           (λ x y z p q v.
-          rw (le-ltb 120 (size x) (omega (arith, known-size 0 x p)), le-ltb 120 (size y) (omega (arith, known-size a y q)), lt-ltb 120 (size z) (omega (arith, known-size b z v))) (o .0))
+          rw (le-ltb 120 (size x) (omega (arith, size-at 0 x p)), le-ltb 120 (size y) (omega (arith, size-at a y q)), lt-ltb 120 (size z) (omega (arith, size-at b z v))) (o .0))
 
     pub place-found : (m n : ℕ) → at zs 0 ≤ 120 → m ≡ at zs a → m ≤ 120 → n ≡ at zs b → n ≤ 120 → (L′ R′ : List ℕ) → PutPair (arena l tab ends) (at cs) a b L R L′ R′ →
         Placed (arena l tab ends) (at cs) a b L R L′ R′ (record { fits = true; left = m; right = n })
@@ -59,8 +55,8 @@ module _ (l tab ends cs zs : List ℕ) (k : Sized l tab ends cs zs) (w : Known (
       kept = t .kept;
       short = (g, g′);
       answer = λ x y z p q r.
-          let i : m ≡ size y = omega (arith, known-size a y q) in
-          let j : n ≡ size z = omega (arith, known-size b z r) in
-          rw (le-ltb 120 (size x) (omega (arith, known-size 0 x p)), le-ltb 120 (size y) (omega arith), le-ltb 120 (size z) (omega arith))
+          let i : m ≡ size y = omega (arith, size-at a y q) in
+          let j : n ≡ size z = omega (arith, size-at b z r) in
+          rw (le-ltb 120 (size x) (omega (arith, size-at 0 x p)), le-ltb 120 (size y) (omega arith), le-ltb 120 (size z) (omega arith))
           (refl, i, j, t .bytes y z q r .0, t .bytes y z q r .1);
     }

@@ -13,10 +13,11 @@ use lib.ListN.{length, set, length-set}
 use lib.Seq.{getD-set-same, getD-set-other}
 use Rattle.terms.specs.Term.{Term, var, node, Terms, nil, cons, size, sizes}
 use Rattle.terms.specs.Scan.{owes}
-use Rattle.classes.specs.Arena.{Arena, Spells, free, made, SpellsAll, none, more, same, Among}
+use Rattle.classes.specs.Arena.{Arena, Spells, free, made, SpellsAll, none, more, Among}
 use Rattle.classes.specs.Steps.{at, Each, arena, Ready, SpellsSome}
-use Rattle.sizing.specs.Sizes.{Sized, Unknown, Total, Lacks, SizeAt, SizedTo, cap}
-use Rattle.classes.proofs.Walks.{rest-spells, arguments}
+use Rattle.sizing.specs.Sizes.{Sized, Unknown, Total, Lacks, SizeAt, Known, SizedTo, cap}
+use Rattle.classes.proofs.Walks.{rest-spells, some-within, arguments, ready-within}
+use Rattle.classes.proofs.Arena.{spells-one, spells-within}
 
 -- n arguments from p on are left of k from a on, and the others, and one more, have the sum
 pub record Adding (A : Arena) (c z : ℕ → ℕ) (a k p n sum : ℕ) : Type 0 where
@@ -80,21 +81,20 @@ size-made A c z i r k n h e b ek g =
     }
 
 module _ (l tab ends cs zs : List ℕ) (y : Sized l tab ends cs zs) where
-  pub sized-part : (p n : ℕ) → SpellsSome (arena l tab ends) p n → 0 < n → (p < length l)
-  sized-part p zero s h = absurd (omega arith)
-  sized-part p (suc n) (ts, more (free q e) s) h = q
-  sized-part p (suc n) (ts, more (made q e f r) s) h = q
-
   pub sized-at : (p n v : ℕ) → SpellsSome (arena l tab ends) p n → 0 < n → v ≡ at zs p → (v ≡ 0 → ⊥) →
       (u : Term) × Spells (arena l tab ends) (at cs) p u × (at zs p ≡ cap (size u))
-  sized-at p n v s h e q = y .measured p (sized-part p n s h) (λ x. q (e ∙ x))
+  sized-at p n v s h e q = y .measured p (some-within (arena l tab ends) p n (length l) s h (omega arith)) (λ x. q (e ∙ x))
 
   pub sized-arguments : (i r k : ℕ) → i < length l → r ≡ at cs i → at l r < 128 → k ≡ owes tab (at l r) → Sized l tab ends cs zs × SpellsSome (arena l tab ends) (r + 1) k
   sized-arguments i r k h e b ek =
-      (y, arguments (arena l tab ends) (y .ready .whole) r (at l r) k (r + 1) (subst (λ x. x < length l) (sym e) (y .ready .within i h)) refl b ek refl)
+      (y, arguments (arena l tab ends) (y .ready .whole) r (at l r) k (r + 1) (ready-within l tab ends cs (y .ready) i r h e) refl b ek refl)
 
-  pub sized-root : (i r : ℕ) → i < length l → r ≡ at cs i → r < length l
-  sized-root i r h e = subst (λ x. x < length l) (sym e) (y .ready .within i h)
+-- a size that is known is the size, up to 120
+pub known-size : (l tab ends cs zs : List ℕ) → Sized l tab ends cs zs → Known (arena l tab ends) (at zs) true → (i : ℕ) (u : Term) → Spells (arena l tab ends) (at cs) i u → at zs i ≡ cap (size u)
+known-size l tab ends cs zs y k i u p =
+    let h = spells-within (arena l tab ends) p in
+    let w = y .measured i h (k i h) in
+    w .2 ∙ ap (λ v. cap (size v)) (spells-one (arena l tab ends) (w .1) p)
 
 -- how many entries are 0
 nought : ℕ → ℕ

@@ -1,4 +1,4 @@
--- After unification a node spells an instance under a most general unifier; renamed, it is the definition's. Assumes nothing.
+-- After unification a node spells an instance under a most general unifier, of the size found; renamed, it is the definition's. Assumes nothing.
 -- Read first: specs/Result (Solved), proofs/Verdict, naming/proofs/Renaming.
 use mathlib.Core.Path.{_≡_, sym, ap, subst, _∙_}
 use mathlib.Core.Option.{some}
@@ -10,7 +10,9 @@ use Rattle.classes.specs.Arena.{Arena, Spells, free, made, SpellsAll, none, mor
 use Rattle.classes.specs.Steps.{at, arena}
 use Rattle.unifier.specs.Result.{Solved}
 use Rattle.classes.proofs.Arena.{spells-within}
-use Rattle.unifier.proofs.Verdict.{the-mgu, solved-image, solved-size, solved-renames}
+use Rattle.unifier.proofs.Verdict.{the-mgu, solved-spells, solved-image, solved-renames}
+use Rattle.sizing.specs.Sizes.{cap}
+use Rattle.sizing.proofs.Sizing.{known-size}
 use Rattle.naming.specs.Names.{renamed-bytes}
 use Rattle.naming.proofs.Renaming.{Low, Lows, renamed-terms}
 use Rattle.unify.specs.Unify.{Binding, mgu, under}
@@ -20,7 +22,7 @@ use Rattle.terms.proofs.Rename.{rename, renames, numbered}
 mutual
   unfolding Low Lows
 
-  pub spells-low : {A : Arena} {c : ℕ → ℕ} {i : ℕ} {t : Term} → Spells A c i t → Low t
+  spells-low : {A : Arena} {c : ℕ → ℕ} {i : ℕ} {t : Term} → Spells A c i t → Low t
   spells-low (free h e) = tt
   spells-low (made h e l r) = (l, spells-lows r)
 
@@ -34,20 +36,22 @@ module _ (l tab : List ℕ) (n₁ n₂ : ℕ) (ends cs zs : List ℕ) (k : Solve
 
   pub spells-instance : Spells (arena l tab ends) (at cs) i the-instance
   spells-instance =
-      let h = spells-within (arena l tab ends) p in
-      let w = k .sized .measured i h (k .known i h) in
+      let w = solved-spells l tab n₁ n₂ ends cs zs k i (spells-within (arena l tab ends) p) in
       subst (λ u. Spells (arena l tab ends) (at cs) i u) (sym (solved-image l tab n₁ n₂ ends cs zs k i t (w .0) p (w .1))) (w .1)
 
   spells-alone : SpellsAll (arena l tab ends) (at cs) i 1 (cons the-instance nil)
   spells-alone = more spells-instance none
 
+  found-size : at zs i ≡ cap (size the-instance)
+  found-size = known-size l tab ends cs zs (k .sized) (k .known) i the-instance spells-instance
+
   -- a size of at most 120 is the size
   pub small-size : at zs i ≤ 120 → at zs i ≡ size the-instance
-  small-size h = omega (arith, solved-size l tab n₁ n₂ ends cs zs k i t p)
+  small-size h = omega (arith, found-size)
 
   -- and one above is above
   pub large-size : 120 < at zs i → 120 < size the-instance
-  large-size h = omega (arith, solved-size l tab n₁ n₂ ends cs zs k i t p)
+  large-size h = omega (arith, found-size)
 
   -- numbered, it is the instance under the unifier that the definition finds, renamed
   pub instance-renamed : (s t′ : Term) → Spells (arena l tab ends) same n₁ s → Spells (arena l tab ends) same n₂ t′ → (b : List Binding) → mgu s t′ ≡ some b →

@@ -1,22 +1,23 @@
 -- Whether bytes are those of terms one after the other: a walk from the last byte to the first, counting the terms that follow. Assumes nothing.
--- Read first: specs/Result (Formed, Tested), proofs/Starting.
+-- Read first: specs/Result (Formed, Tested), terms/proofs/Flats (unique).
 use mathlib.Core.Path.{_≡_, refl, sym, ap, _∙_}
-use mathlib.Core.Bool.{true, false}
+use mathlib.Core.Bool.{true, false, false≢true}
 use mathlib.Core.List.{List, _∷_, _++_, append-assoc}
+use mathlib.Core.Option.{some}
 use Prim.Native.Nat.{ℕ, zero, suc, _+_, _-_, _≤_, _<_}
 use native.Mathlib.Omega.{arith}
 use native.Mathlib.Nat.{le-of-suc-le-suc}
 use lib.ListN.{length, getD, drop, length-append, drop-of-length-le}
 use lib.Seq.{drop-cons, drop-at}
-use Rattle.terms.specs.Term.{Term, var, node, Terms, nil, cons, sizes, term-bytes, terms-bytes}
+use Rattle.terms.specs.Term.{Term, var, node, Terms, nil, cons, size, sizes, term-bytes, terms-bytes, subterm-at, subterm-in}
 use Rattle.terms.specs.Scan.{owes, count}
 use Rattle.terms.specs.Flat.{Wf, Wfs}
 use Rattle.terms.proofs.Bytes.{length-bytes, length-bytes-all, around-in}
 use Rattle.terms.proofs.Flats.{unique, wf-subterm-in}
-use Rattle.terms.proofs.Places.{size-pos}
+use Rattle.terms.proofs.Places.{size-pos, place}
+use Rattle.terms.proofs.Positions.{subterm-is}
 use Rattle.terms.proofs.Scans.{owes-symbol}
 use Rattle.unifier.specs.Result.{Formed, Tested}
-use Rattle.unifier.proofs.Starting.{subterms-there}
 
 -- the first k of some terms, and the others
 record Split (tab : List ℕ) (k : ℕ) (ts : Terms) : Type 0 where
@@ -55,6 +56,11 @@ fewer tab (cons u us) (cons t ts) rest w v e =
     let q = unique 32 tab u t (terms-bytes us ++ rest) (terms-bytes ts) (w .0) (v .0) (sym (append-assoc (term-bytes u) (terms-bytes us) rest) ∙ e) in
     let h = fewer tab us ts rest (w .1) (v .1) (q .1) in
     omega arith
+
+-- at each place a subterm begins
+subterms-there : (ts : Terms) (p : ℕ) → p < sizes ts → (u : Term) × (subterm-in ts p ≡ some u)
+unfolding subterm-at size
+subterms-there ts p h = (place (node 0 ts) (suc p) (omega arith) .s, subterm-is (node 0 ts) (suc p) (omega arith))
 
 -- `formed`
 head-is : (b c : ℕ) (l m : List ℕ) → b ∷ l ≡ c ∷ m → (b ≡ c) × (l ≡ m)
@@ -125,7 +131,7 @@ module _ (l tab : List ℕ) (i have : ℕ) (f : Forest l tab i have) (h : 0 < i)
 
   pub forest-bad : r ≡ 0 → Tested l tab false
   forest-bad z = record {
-    sound = λ e. absurd (let y : _≡_ {A = ℕ} 0 1 = cc in omega arith);
+    sound = λ e. absurd (false≢true e);
     complete = λ ts w e.
         let n : i - 1 < sizes ts = omega (arith, f .within, ap length e, length-bytes-all ts) in
         let s = subterms-there ts (i - 1) n in

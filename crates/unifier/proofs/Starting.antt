@@ -1,24 +1,21 @@
 -- How unification begins: where subterms end, first classes (a variable with its first node), and the two terms joined; the bytes spell the terms.
 -- Assumes nothing.
 -- Read first: specs/Result (Laid, EndAt, FirstClass), classes/specs/Arena (Spells, Classes), classes/proofs/Arena.
-use mathlib.Core.Path.{_≡_, refl, sym, ap, subst, _∙_}
+use mathlib.Core.Path.{_≡_, sym, ap, subst, _∙_}
 use mathlib.Core.List.{List, [], _∷_, _++_, append-assoc, append-nil}
-use Prim.Native.Nat.{ℕ, zero, suc, _+_, _-_, _≤_, _<_}
+use Prim.Native.Nat.{ℕ, suc, _+_, _-_, _≤_, _<_}
 use native.Mathlib.Omega.{arith}
 use native.Mathlib.Decide.{decLt}
-use lib.ListN.{length, drop, set}
-use lib.Seq.{drop-at, drop-nil}
-use native.Mathlib.Nat.{zero-add, suc-add}
+use lib.ListN.{length, drop, set, length-drop}
+use lib.Seq.{drop-at, drop-cons, drop-drop}
 use mathlib.Core.Option.{some}
-use Rattle.terms.specs.Term.{Term, var, node, Terms, nil, cons, size, sizes, term-bytes, terms-bytes, subst-term, subterm-at, subterm-in}
+use Rattle.terms.specs.Term.{Term, var, node, Terms, nil, cons, size, sizes, term-bytes, terms-bytes, subst-term, subterm-in}
 use Rattle.terms.specs.Scan.{skip, count}
 use Rattle.terms.specs.Flat.{Wf, Wfs}
 use Rattle.terms.proofs.Scans.{owes-symbol}
 use Rattle.terms.proofs.Flats.{skip-term, wf-subterm-in}
 use Rattle.terms.proofs.Bytes.{length-bytes, length-bytes-all, around-in}
 use Rattle.terms.proofs.Subst.{Subst}
-use Rattle.terms.proofs.Places.{place}
-use Rattle.terms.proofs.Positions.{subterm-is}
 use Rattle.classes.specs.Arena.{Spells, free, made, SpellsAll, none, more, same, Whole, Joins, Classes}
 use Rattle.classes.specs.Steps.{at, Each, arena, Ready, joined}
 use Rattle.unifier.specs.Result.{Laid, LaidOut, EndAt, FirstLike, FirstClass, Firsts, Begun}
@@ -76,7 +73,7 @@ module _ (l tab ends cs : List ℕ) (f : Each (FirstClass l) cs (length l)) wher
       let e : at l i ≡ 128 + (at l i - 128) = omega arith in
       ap (subst-term τ) (unfree (arena l tab ends) (at l i - 128) x e ∙ sym (unfree (arena l tab ends) (at l i - 128) y (g .alike ∙ e)))
 
-  pub start-classes : (n₁ n₂ : ℕ) → Classes (arena l tab ends) n₁ n₂ (at cs)
+  start-classes : (n₁ n₂ : ℕ) → Classes (arena l tab ends) n₁ n₂ (at cs)
   start-classes n₁ n₂ =
       record {
         within = first-within;
@@ -86,29 +83,16 @@ module _ (l tab ends cs : List ℕ) (f : Each (FirstClass l) cs (length l)) wher
         respects = λ τ j i s t x y. start-joins τ i (spells-within (arena l tab ends) x) (decLt (at l i) 128) s t x y;
       }
 
--- at each place a subterm begins
-pub subterms-there : (ts : Terms) (p : ℕ) → p < sizes ts → (u : Term) × (subterm-in ts p ≡ some u)
-unfolding subterm-at size
-subterms-there ts p h = (place (node 0 ts) (suc p) (omega arith) .s, subterm-is (node 0 ts) (suc p) (omega arith))
-
 -- where the ends are right, the bytes of a term spell it, and each of its nodes spells a term
 module _ (l tab ends : List ℕ) (f : Each (EndAt l tab) ends (length l)) where
   drop-head : (p b : ℕ) (r : List ℕ) → drop p l ≡ b ∷ r → (p < length l) × (at l p ≡ b) × (drop (suc p) l ≡ r)
-  drop-head p b r e = head l p e
-    where
-      head : (d : List ℕ) (p : ℕ) → drop p d ≡ b ∷ r → (p < length d) × (at d p ≡ b) × (drop (suc p) d ≡ r)
-      head [] zero e = absurd (let z : _≡_ {A = ℕ} 0 1 = cc in omega arith)
-      head [] (suc p) e = absurd (let z : _≡_ {A = ℕ} 0 1 = cc in omega arith)
-      head (x ∷ d) zero e = (omega arith, cc, cc)
-      head (x ∷ d) (suc p) e = let h = head d p e in (omega (arith, h .0), h .1, h .2)
+  drop-head p b r e =
+      let h : p < length l = omega (arith, ap length e, length-drop p l) in
+      let q : at l p ∷ drop (suc p) l ≡ b ∷ r = sym (drop-cons l p 0 h) ∙ e in
+      (h, cc, cc)
 
-  dropped : (d : List ℕ) (p n : ℕ) → drop (p + n) d ≡ drop n (drop p d)
-  dropped d zero n = rw (zero-add n) refl
-  dropped [] (suc p) n = rw (suc-add p n) (sym (drop-nil n))
-  dropped (x ∷ d) (suc p) n = rw (suc-add p n) (dropped d p n)
-
-  drop-more : (d : List ℕ) (p n : ℕ) (u v : List ℕ) → drop p d ≡ u ++ v → length u ≡ n → drop (p + n) d ≡ v
-  drop-more d p n u v e q = dropped d p n ∙ ap (drop n) e ∙ drop-at u v n q
+  drop-more : (p n : ℕ) (u v : List ℕ) → drop p l ≡ u ++ v → length u ≡ n → drop (p + n) l ≡ v
+  drop-more p n u v e q = sym (drop-drop n p l) ∙ ap (drop n) e ∙ drop-at u v n q
 
   end-is : (p : ℕ) (t : Term) (rest : List ℕ) → p < length l → Wf 128 tab t → drop p l ≡ term-bytes t ++ rest → at ends p ≡ p + size t
   end-is p t rest h w e = let k : skip tab (drop p l) 1 ≡ size t = rw e (skip-term 128 tab t w rest) in omega (arith, f p h)
@@ -123,7 +107,7 @@ module _ (l tab ends : List ℕ) (f : Each (EndAt l tab) ends (length l)) where
         made (h .0) (h .1) (omega (arith, w .0))
         (subst (λ k. SpellsAll (arena l tab ends) same (suc p) k ts) (w .1 ∙ sym (owes-symbol tab g (w .0))) (spelts ts (w .2) (suc p) rest (h .2)))
 
-    pub spelts : (ts : Terms) → Wfs 128 tab ts → (p : ℕ) (rest : List ℕ) → drop p l ≡ terms-bytes ts ++ rest → SpellsAll (arena l tab ends) same p (count ts) ts
+    spelts : (ts : Terms) → Wfs 128 tab ts → (p : ℕ) (rest : List ℕ) → drop p l ≡ terms-bytes ts ++ rest → SpellsAll (arena l tab ends) same p (count ts) ts
     spelts nil w p rest e = none
     spelts (cons t ts) w p rest e =
         let e′ : drop p l ≡ term-bytes t ++ (terms-bytes ts ++ rest) = e ∙ append-assoc (term-bytes t) (terms-bytes ts) rest in
@@ -131,7 +115,7 @@ module _ (l tab ends : List ℕ) (f : Each (EndAt l tab) ends (length l)) where
         let q = end-is p t (terms-bytes ts ++ rest) (spells-within (arena l tab ends) s) (w .0) e′ in
         more s
         (subst (λ k. SpellsAll (arena l tab ends) same k (count ts) ts) (sym q)
-        (spelts ts (w .1) (p + size t) rest (drop-more l p (size t) (term-bytes t) (terms-bytes ts ++ rest) e′ (length-bytes t))))
+        (spelts ts (w .1) (p + size t) rest (drop-more p (size t) (term-bytes t) (terms-bytes ts ++ rest) e′ (length-bytes t))))
 
   abbrev Some : ℕ → Type 0
   Some i = (u : Term) × Spells (arena l tab ends) same i u
@@ -160,7 +144,7 @@ module _ (l tab ends : List ℕ) (f : Each (EndAt l tab) ends (length l)) where
         let e′ : drop p l ≡ term-bytes t ++ (terms-bytes ts ++ rest) = e ∙ append-assoc (term-bytes t) (terms-bytes ts) rest in
         cons-some p i (size t) (sizes ts)
         (λ j a b. inside t (w .0) p (terms-bytes ts ++ rest) e′ j a b)
-        (λ j a b. insides ts (w .1) (p + size t) rest (drop-more l p (size t) (term-bytes t) (terms-bytes ts ++ rest) e′ (length-bytes t)) j a b)
+        (λ j a b. insides ts (w .1) (p + size t) rest (drop-more p (size t) (term-bytes t) (terms-bytes ts ++ rest) e′ (length-bytes t)) j a b)
         h k (decLt i (p + size t))
 
   module _ (ts : Terms) (d : Laid l tab ts) where
@@ -170,7 +154,7 @@ module _ (l tab ends : List ℕ) (f : Each (EndAt l tab) ends (length l)) where
     laid-length : length l ≡ sizes ts
     laid-length = ap length (d .bytes) ∙ length-bytes-all ts
 
-    pub laid-whole : Whole (arena l tab ends)
+    laid-whole : Whole (arena l tab ends)
     laid-whole i h = insides ts (d .wf) 0 [] laid-all i (omega arith) (omega (arith, laid-length))
 
     -- a node stands for the subterm that begins there

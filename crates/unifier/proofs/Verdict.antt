@@ -1,4 +1,5 @@
--- The answer of unification, and what it leaves: the classes give the most general unifier, the sizes those of its instances. Assumes nothing.
+-- The answer of unification, and what it leaves: the classes give a most general unifier, whose instances are the definition's up to renaming. Assumes
+-- nothing.
 -- Read first: specs/Result (Solved, Decided), unify/proofs/Unique, classes/proofs/Arena, proofs/Starting.
 use mathlib.Core.Path.{_≡_, refl, sym, ap, subst, _∙_}
 use mathlib.Core.Bool.{Bool, true, false}
@@ -9,28 +10,31 @@ use lib.ListN.{length}
 use Rattle.terms.specs.Base.{is-some}
 use Rattle.terms.specs.Term.{Term, size, subst-term, Pair, renamed}
 use Rattle.terms.proofs.Subst.{Subst}
+use Rattle.terms.proofs.Limits.{size-vars}
 use Rattle.terms.proofs.Rename.{rename}
 use Rattle.unify.specs.Unify.{Binding, mgu, under}
-use Rattle.classes.specs.Arena.{Arena, Spells, same, Joins, Never, Descends}
+use Rattle.classes.specs.Arena.{Arena, Spells, same, Never, Descends}
 use Rattle.classes.specs.Steps.{at, Each, arena, ClosedTo}
-use Rattle.sizing.specs.Sizes.{Sized, Unknown, Known, SizedTo, cap}
+use Rattle.sizing.specs.Sizes.{Sized, Unknown, Known, SizedTo}
 use Rattle.unifier.specs.Result.{EndAt, Begun, Solved, Outcome, Decided}
-use Rattle.unify.proofs.Correct.{Unifies, Mgu, unifier, mgu-right, mgu-none}
+use Rattle.unify.proofs.Correct.{Mgu, unifier, mgu-right, mgu-none}
 use Rattle.unify.proofs.Unique.{most-general, mgu-unique, mgu-unique-pair}
-use Rattle.classes.proofs.Arena.{spells-one, spells-within, solution, solution-mgu, image, never-circle}
+use Rattle.classes.proofs.Arena.{unifies-joins, solution, solution-mgu, image, never-circle}
 use Rattle.unifier.proofs.Starting.{laid-at}
-
-unifier-joins : (A : Arena) (τ : Subst) (n₁ n₂ : ℕ) (s t : Term) → Spells A same n₁ s → Spells A same n₂ t → Unifies τ s t → Joins A τ n₁ n₂
-unifier-joins A τ n₁ n₂ s t p q h s′ t′ p′ q′ = ap (subst-term τ) (spells-one A p′ p) ∙ h ∙ ap (subst-term τ) (spells-one A q q′)
 
 never-none : (A : Arena) (n₁ n₂ : ℕ) (s t : Term) → Spells A same n₁ s → Spells A same n₂ t → Never A n₁ n₂ → (o : Option (List Binding)) → mgu s t ≡ o → false ≡ is-some o
 unfolding is-some
 never-none A n₁ n₂ s t p q n none e = refl
-never-none A n₁ n₂ s t p q n (some b) e = absurd (n (unifier b) (unifier-joins A (unifier b) n₁ n₂ s t p q (mgu-right s t b e .unifies)))
+never-none A n₁ n₂ s t p q n (some b) e = absurd (n (unifier b) (unifies-joins A (unifier b) n₁ n₂ s t p q (mgu-right s t b e .unifies)))
 
-pub never-decided : (l tab : List ℕ) (n₁ n₂ : ℕ) (ends : List ℕ) → Each (EndAt l tab) ends (length l) → Never (arena l tab ends) n₁ n₂ → Decided l tab n₁ n₂ false
+never-decided : (l tab : List ℕ) (n₁ n₂ : ℕ) (ends : List ℕ) → Each (EndAt l tab) ends (length l) → Never (arena l tab ends) n₁ n₂ → Decided l tab n₁ n₂ false
 never-decided l tab n₁ n₂ ends f n ts d s t p q =
     never-none (arena l tab ends) n₁ n₂ s t (laid-at l tab ends f ts d n₁ s p) (laid-at l tab ends f ts d n₂ t q) n (mgu s t) refl
+
+-- a renamed term has the size of the term
+size-rename : (t : Term) → size (rename t) ≡ size t
+unfolding rename
+size-rename t = size-vars _ t
 
 -- every node stands for a term
 pub solved-spells : (l tab : List ℕ) (n₁ n₂ : ℕ) (ends cs zs : List ℕ) → Solved l tab n₁ n₂ ends cs zs → (i : ℕ) → i < length l → (u : Term) × Spells (arena l tab ends) (at cs) i u
@@ -45,15 +49,8 @@ module _ (l tab : List ℕ) (n₁ n₂ : ℕ) (ends cs zs : List ℕ) (k : Solve
   unfolding the-mgu
   solved-image i t u p q = image (arena l tab ends) n₁ n₂ (at cs) (k .sized .ready .whole) (k .classes) (k .closed) (solved-spells l tab n₁ n₂ ends cs zs k) p q
 
-  -- and its size is the one found
-  pub solved-size : (i : ℕ) (t : Term) → Spells (arena l tab ends) same i t → at zs i ≡ cap (size (subst-term the-mgu t))
-  solved-size i t p =
-      let h = spells-within (arena l tab ends) p in
-      let w = k .sized .measured i h (k .known i h) in
-      w .2 ∙ ap (λ x. cap (size x)) (sym (solved-image i t (w .0) p (w .1)))
-
   module _ (s t : Term) (p : Spells (arena l tab ends) same n₁ s) (q : Spells (arena l tab ends) same n₂ t) where
-    pub solved-mgu : Mgu s t the-mgu
+    solved-mgu : Mgu s t the-mgu
     unfolding the-mgu
     solved-mgu = solution-mgu (arena l tab ends) n₁ n₂ (at cs) (k .sized .ready .whole) (k .classes) (k .closed) (solved-spells l tab n₁ n₂ ends cs zs k) s t p q (k .started)
 
@@ -65,6 +62,10 @@ module _ (l tab : List ℕ) (n₁ n₂ : ℕ) (ends cs zs : List ℕ) (k : Solve
     -- after renaming, an instance is that of the unifier that the definition finds
     pub solved-renames : (b : List Binding) → mgu s t ≡ some b → (w : Term) → rename (under b w) ≡ rename (subst-term the-mgu w)
     solved-renames b e w = mgu-unique s t b the-mgu e (most-general solved-mgu) w
+
+    -- so their sizes are the same
+    pub solved-sizes : (b : List Binding) → mgu s t ≡ some b → (w : Term) → size (under b w) ≡ size (subst-term the-mgu w)
+    solved-sizes b e w = sym (size-rename (under b w)) ∙ ap size (solved-renames b e w) ∙ size-rename (subst-term the-mgu w)
 
     -- and so is a pair of instances
     pub solved-renamed : (b : List Binding) → mgu s t ≡ some b → (e : Pair) →

@@ -5,8 +5,8 @@ use mathlib.Core.List.{List, [], _∷_, _++_}
 use Prim.Native.Nat.{ℕ, zero, suc, _+_, _-_, _≤_, _<_}
 use native.Mathlib.Omega.{arith}
 use native.Mathlib.Numerals.{add-one}
-use native.Mathlib.Nat.{le-of-suc-le-suc}
-use lib.ListN.{length, take, set, length-set}
+use lib.ListN.{length, take, drop, set, length-set}
+use lib.Seq.{take-at, sets-eq}
 use Rattle.terms.specs.Term.{Terms, nil, sizes, terms-bytes}
 use Rattle.terms.specs.Scan.{owes}
 use Rattle.terms.proofs.Scans.{owes-other}
@@ -141,18 +141,6 @@ module _ (l tab ends cs : List ℕ) (p k to : ℕ) (d : List ℕ) (y : Ready l t
             }
 
 -- what was written can be read
-put-long : (to : ℕ) (bs d : List ℕ) → length (put to bs d) ≡ length d
-unfolding put
-put-long to [] d = refl
-put-long to (b ∷ bs) d = put-long (suc to) bs (set d to b) ∙ length-set d to b
-
-put-cons : (to : ℕ) (bs : List ℕ) (x : ℕ) (d : List ℕ) → put (suc to) bs (x ∷ d) ≡ x ∷ put to bs d
-unfolding put
-put-cons to [] x d = refl
-put-cons to (b ∷ bs) x d = put-cons (suc to) bs x (set d to b)
-
 pub put-reads : (bs d : List ℕ) → length bs ≤ length d → take (length bs) (put 0 bs d) ≡ bs
 unfolding put
-put-reads [] d h = refl
-put-reads (b ∷ bs) [] h = absurd (omega arith)
-put-reads (b ∷ bs) (x ∷ d) h = ap (take (suc (length bs))) (put-cons 0 bs b d) ∙ ap (_∷_ b) (put-reads bs d (le-of-suc-le-suc h))
+put-reads bs d h = ap (take (length bs)) (sets-eq bs d 0 (omega arith)) ∙ take-at bs (drop (0 + length bs) d) (length bs) refl

@@ -1,14 +1,15 @@
 -- Bytes written into a list. Assumes nothing.
 use mathlib.Core.Path.{_≡_}
-use mathlib.Core.List.{List, [], _∷_}
-use Prim.Native.Nat.{ℕ, suc, _+_, _≤_}
-use lib.ListN.{length, set}
+use mathlib.Core.List.{List}
+use Prim.Native.Nat.{ℕ, _+_, _≤_}
+use lib.ListN.{length}
+use lib.Seq.{sets}
 use Rattle.terms.specs.Term.{Terms, sizes, terms-bytes}
 use Rattle.classes.specs.Arena.{Arena, SpellsAll}
 
+-- from place `to` on
 unfoldable pub put : ℕ → List ℕ → List ℕ → List ℕ
-put to [] d = d
-put to (b ∷ bs) d = put (suc to) bs (set d to b)
+put to bs d = sets d to bs
 
 -- there is room for the k terms that are spelt from node p on
 abbrev pub Room : Arena → (ℕ → ℕ) → ℕ → ℕ → ℕ → List ℕ → Type 0

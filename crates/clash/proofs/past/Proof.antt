@@ -1,4 +1,4 @@
--- `past`: one place on behind a symbol, else behind the subterm (`past-same`, `past-other`). Assumes nothing.
+-- `past`: one byte on where the byte is the other side's, else past the subterm (`past-same`, `past-other`). Assumes nothing.
 -- Read first: specs/Clashing (Past), proofs/Facing.
 use Rattle.clash.proofs.Facing.{past-same, past-other}
 use borrow.Author.Needs.{needs}

@@ -1,6 +1,5 @@
 -- `relabel_node`: the root that goes is replaced, any other stays: `relabelled-yes`, `relabelled-no`. Assumes nothing.
 -- Read first: specs/Steps (relabelled), proofs/Joining.
-use borrow.Author.Needs.{needs}
 use Rattle.classes.proofs.Joining.{relabelled-yes, relabelled-no}
 use Rattle.classes.proofs.relabel_node.Statement.{statement}
 use Rattle.classes.proofs.relabel_node.Tie as tie

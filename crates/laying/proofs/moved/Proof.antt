@@ -1,6 +1,5 @@
 -- `moved`: a symbol stays, a variable moves up, a byte that cannot be moved stays: a lemma for each return. Assumes nothing.
 -- Read first: specs/Layout (moved), proofs/Moving.
-use native.Mathlib.Omega.{arith}
 use Rattle.laying.proofs.Moving.{moved-symbol, moved-variable, moved-high}
 use borrow.Author.Needs.{needs}
 use Rattle.laying.proofs.moved.Statement.{statement}

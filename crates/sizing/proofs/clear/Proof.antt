@@ -1,11 +1,9 @@
 -- `clear`: the invariant is that the first i entries are 0; n - i falls. Assumes nothing.
 -- Read first: classes/specs/Steps (Each), classes/proofs/Filled.
 use borrow.Author.Needs.{needs}
-use Prim.Native.Nat.{ℕ, _<_, _≤_, _-_}
+use Prim.Native.Nat.{_-_}
 use mathlib.Core.Path.{_≡_, refl}
 use native.Mathlib.Omega.{arith}
-use lib.ListN.{length}
-use Rattle.classes.specs.Steps.{at}
 use Rattle.classes.proofs.Filled.{Filled, filled-start, filled-more, filled-end}
 use Rattle.sizing.proofs.clear.Statement.{statement}
 use Rattle.sizing.proofs.clear.Tie as tie

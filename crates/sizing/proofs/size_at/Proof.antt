@@ -1,7 +1,8 @@
 -- `size_at`: a root that is a variable has size 1 (`size-free`), of a symbol the arguments decide (`size-made`). Assumes nothing.
 -- Read first: specs/Sizes (SizeAt), proofs/Sizing.
 use borrow.Author.Needs.{needs}
-use Rattle.sizing.proofs.Sizing.{sized-root, size-free, sized-arguments, size-made}
+use Rattle.sizing.proofs.Sizing.{size-free, sized-arguments, size-made}
+use Rattle.classes.proofs.Walks.{ready-within}
 use Rattle.sizing.proofs.size_at.Statement.{statement}
 use Rattle.sizing.proofs.size_at.Tie as tie
 use Rattle.sizing.proofs.size_at.Reads as reads
@@ -11,7 +12,7 @@ use Rattle.classes.proofs.wide.Reads as wide-reads
 use Rattle.sizing.proofs.total.Reads as total-reads
 
 shared-slice-read-f : tie.Need-shared-slice-read-f
-shared-slice-read-f c = sized-root _ _ _ _ _ (c .before .before .before .before .before .before .before .before .pre .0) _ _ (c .before .before .before .before .before .before .before .before .pre .1) (c .before .wide .ensures .0)
+shared-slice-read-f c = ready-within _ _ _ _ (c .before .before .before .before .before .before .before .before .pre .0 .ready) _ _ (c .before .before .before .before .before .before .before .before .pre .1) (c .before .wide .ensures .0)
 
 returns : tie.Need-returns
 returns c = size-free _ _ _ _ _ (c .before .before .before .before .before .before .before .before .before .pre .1) (c .before .before .wide .ensures .0) (c .if1 .taken)
