@@ -1,7 +1,6 @@
 -- The bytes laid out are the four terms of an overlap: outer left, inner left renamed apart, outer left rewritten, outer right. Assumes nothing.
 -- Read first: laying/specs/Layout (four-bytes), specs/Answer (four), normaliser/specs/Stored (Sides), rewriting/specs/Overlap (apart), laying/proofs/Moving.
 use mathlib.Core.Path.{_≡_, refl, sym, ap, ap₂, _∙_}
-use mathlib.Core.Bool.{Bool, true, false}
 use mathlib.Core.List.{List, [], _∷_, _++_, map, map-append, append-assoc, append-nil}
 use mathlib.Core.Option.{some}
 use Prim.Native.Nat.{ℕ, zero, suc, _+_, _-_, _<_}
@@ -9,9 +8,9 @@ use native.Mathlib.Omega.{arith}
 use lib.Dec.{ltb}
 use lib.ListN.{length, take, drop, length-append}
 use lib.Seq.{take-at, drop-at}
-use Rattle.terms.specs.Base.{if_then_else_}
 use Rattle.terms.specs.Term.{Term, var, node, Terms, nil, cons, Pair, size, term-bytes, terms-bytes, subst-term, subst-terms, subterm-at, replace-at, replace-in}
 use Rattle.terms.specs.Scan.{count, skip}
+use Rattle.terms.proofs.Shape.{either-has}
 use Rattle.terms.proofs.Subst.{count-subst}
 use Rattle.terms.specs.Flat.{Wf, Wfs}
 use Rattle.terms.proofs.Bytes.{length-bytes, around}
@@ -34,7 +33,7 @@ mutual
   moved-terms tab nil w = refl
   moved-terms tab (cons t ts) w = map-append (moved 16) (term-bytes t) (terms-bytes ts) ∙ ap₂ _++_ (moved-term tab t (w .0)) (moved-terms tab ts (w .1))
 
-pub moved-apart : (tab : List ℕ) (t : Term) → Wf 16 tab t → map (moved 16) (term-bytes t) ≡ term-bytes (apart t)
+moved-apart : (tab : List ℕ) (t : Term) → Wf 16 tab t → map (moved 16) (term-bytes t) ≡ term-bytes (apart t)
 unfolding apart
 moved-apart tab t w = moved-term tab t w
 
@@ -49,30 +48,21 @@ mutual
   ups-wf tab nil w = tt
   ups-wf tab (cons t ts) w = (up-wf tab t (w .0), ups-wf tab ts (w .1))
 
-pub apart-wf : (tab : List ℕ) (t : Term) → Wf 16 tab t → Wf 32 tab (apart t)
+apart-wf : (tab : List ℕ) (t : Term) → Wf 16 tab t → Wf 32 tab (apart t)
 unfolding apart
 apart-wf tab t w = up-wf tab t w
 
 -- a subterm replaced
-count-either : (b : Bool) (t u : Term) (ts us : Terms) → count us ≡ count ts → count (if b then cons u ts else cons t us) ≡ suc (count ts)
-unfolding count if_then_else_
-count-either true t u ts us e = refl
-count-either false t u ts us e = ap suc e
-
 count-replace : (ts : Terms) (p : ℕ) (v : Term) → count (replace-in ts p v) ≡ count ts
 unfolding count replace-in
 count-replace nil p v = refl
-count-replace (cons t ts) p v = count-either (ltb p (size t)) t (replace-at t p v) ts (replace-in ts (p - size t) v) (count-replace ts (p - size t) v)
-
-wfs-either : (tab : List ℕ) (b : Bool) (ts us : Terms) → Wfs 32 tab ts → Wfs 32 tab us → Wfs 32 tab (if b then ts else us)
-unfolding if_then_else_
-wfs-either tab true ts us w v = w
-wfs-either tab false ts us w v = v
+count-replace (cons t ts) p v =
+    either-has (λ us. count us ≡ suc (count ts)) (ltb p (size t)) (cons (replace-at t p v) ts) (cons t (replace-in ts (p - size t) v)) refl (ap suc (count-replace ts (p - size t) v))
 
 mutual
   unfolding replace-at replace-in Wf Wfs
 
-  pub replace-wf : (tab : List ℕ) (t : Term) → Wf 32 tab t → (p : ℕ) (v : Term) → Wf 32 tab v → Wf 32 tab (replace-at t p v)
+  replace-wf : (tab : List ℕ) (t : Term) → Wf 32 tab t → (p : ℕ) (v : Term) → Wf 32 tab v → Wf 32 tab (replace-at t p v)
   replace-wf tab (var x) w zero v h = h
   replace-wf tab (var x) w (suc p) v h = w
   replace-wf tab (node f ts) w zero v h = h
@@ -81,7 +71,7 @@ mutual
   replaces-wf : (tab : List ℕ) (ts : Terms) → Wfs 32 tab ts → (p : ℕ) (v : Term) → Wf 32 tab v → Wfs 32 tab (replace-in ts p v)
   replaces-wf tab nil w p v h = tt
   replaces-wf tab (cons t ts) w p v h =
-      wfs-either tab (ltb p (size t)) (cons (replace-at t p v) ts) (cons t (replace-in ts (p - size t) v)) (replace-wf tab t (w .0) p v h, w .1) (w .0, replaces-wf tab ts (w .1) (p - size t) v h)
+      either-has (Wfs 32 tab) (ltb p (size t)) (cons (replace-at t p v) ts) (cons t (replace-in ts (p - size t) v)) (replace-wf tab t (w .0) p v h, w .1) (w .0, replaces-wf tab ts (w .1) (p - size t) v h)
 
 -- the four terms
 abbrev pub the-four : Pair → Pair → ℕ → Terms
@@ -114,8 +104,3 @@ module _ (tab l₁ r₁ l₂ r₂ : List ℕ) (i o : Pair) (s : Sides 16 tab l�
       let z : take p l₂ ++ (map (moved 16) r₁ ++ drop (p + skip tab (drop p l₂) 1) l₂) ≡ term-bytes (replace-at (o .left) p (apart (i .right))) =
       ap (λ k. take p l₂ ++ (k ++ drop (p + skip tab (drop p l₂) 1) l₂)) y ∙ replaced-bytes u e (apart (i .right)) in
       ap₂ _++_ (t .left-bytes) (ap₂ _++_ x (ap₂ _++_ z (t .right-bytes ∙ sym (append-nil (term-bytes (o .right))))))
-
--- a symbol of a well-formed term is below 16
-pub symbol-low : (tab : List ℕ) (t : Term) → Wf 16 tab t → (p f : ℕ) (ts : Terms) → subterm-at t p ≡ some (node f ts) → f < 16
-unfolding Wf
-symbol-low tab t w p f ts e = wf-subterm 16 tab t p (node f ts) w e .0

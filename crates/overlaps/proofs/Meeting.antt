@@ -3,19 +3,21 @@
 -- Read first: specs/Answer (Meets, Overlapped), clash/specs/Clashing, rewriting/specs/Overlap (overlap), proofs/Apart, proofs/Slots.
 use mathlib.Core.Path.{_≡_, refl, sym, ap, subst, _∙_}
 use mathlib.Core.Bool.{Bool, true}
-use mathlib.Core.List.{List, _++_}
+use mathlib.Core.List.{List, [], _++_, append-nil}
 use mathlib.Core.Option.{Option, none, some}
 use Prim.Native.Nat.{ℕ, _+_, _-_, _*_, _≤_, _<_}
 use native.Mathlib.Omega.{arith}
+use native.Mathlib.Nat.{add-zero}
 use lib.ListN.{length, getD, take, drop}
-use lib.Seq.{getD-drop, drop-at}
+use lib.Seq.{getD-drop}
 use Rattle.terms.specs.Term.{Term, var, node, Terms, Pair, size, sizes, term-bytes, subst-term, subterm-at, replace-at}
-use Rattle.terms.specs.Flat.{Starts}
-use Rattle.terms.proofs.Bytes.{length-bytes, length-bytes-all, around}
+use Rattle.terms.specs.Flat.{Wf, Starts}
+use Rattle.terms.proofs.Bytes.{length-bytes, length-bytes-all}
 use Rattle.terms.proofs.Limits.{size-vars}
 use Rattle.terms.proofs.Places.{size-pos, place}
 use Rattle.terms.proofs.Positions.{subterm-below, subterm-is}
-use Rattle.terms.proofs.Flats.{widen, wf-subterm}
+use Rattle.terms.proofs.Flats.{widen}
+use Rattle.terms.proofs.Starts.{starts-inside}
 use Rattle.terms.proofs.Subst.{subst-subst}
 use Rattle.unify.specs.Unify.{Binding, mgu}
 use Rattle.unify.proofs.Correct.{mgu-right, unifier}
@@ -26,7 +28,7 @@ use Rattle.overlaps.specs.declared.Met.the-variants.{Nothing}
 use Rattle.laying.specs.Layout.{LaysFour}
 use Rattle.clash.specs.Clashing.{NeverOne, Clashing}
 use Rattle.overlaps.specs.Answer.{Says, instances, four, Solves, AtNode, Meets, side-bytes, Overlapped}
-use Rattle.overlaps.proofs.Apart.{the-four, four-wf, four-terms, symbol-low}
+use Rattle.overlaps.proofs.Apart.{the-four, four-wf, four-terms}
 use Rattle.laying.proofs.Layers.{laid-bytes}
 use Rattle.overlaps.proofs.Slots.{sides-of-rule}
 
@@ -48,7 +50,7 @@ sizes-four : (x y z w : Term) → sizes (four x y z w) ≡ size x + size y + siz
 unfolding sizes
 sizes-four x y z w = omega arith
 
-module _ (tab l₁ r₁ l₂ r₂ : List ℕ) (p : ℕ) (nodes nodes′ : List ℕ) (end : ℕ) (g : LaysFour tab l₁ r₁ l₂ r₂ p nodes nodes′ end) (k : 600 ≤ length nodes) (n a b : ℕ) where
+module _ (tab l₁ r₁ l₂ r₂ : List ℕ) (p : ℕ) (nodes nodes′ : List ℕ) (end : ℕ) (g : LaysFour tab l₁ r₁ l₂ r₂ p nodes nodes′ end) (n a b : ℕ) where
   pub meet-found : n ≡ length l₂ → a ≡ n + length l₁ → b ≡ end - length r₂ → (L R L′ R′ : List ℕ) (r : Met) →
       Solves (take (end - 0) (drop 0 nodes′)) tab p n a b L R L′ R′ r → Meets tab l₁ r₁ l₂ r₂ p L R L′ R′ r
   meet-found en ea eb L R L′ R′ r s = record {
@@ -66,69 +68,51 @@ module _ (tab l₁ r₁ l₂ r₂ : List ℕ) (p : ℕ) (nodes nodes′ : List �
           let x₄ : end ≡ size (o .left) + size (apart (i .left)) + size (replace-at (o .left) p (apart (i .right))) + size (o .right) =
           g .ends ∙ ap length q ∙ length-bytes-all (the-four i o p) ∙ sizes-four (o .left) (apart (i .left)) (replace-at (o .left) p (apart (i .right))) (o .right) in
           subst (λ v. Says L′ R′ r v) (sym (overlap-is i o p f ts e))
-          (s .answer (o .left) (apart (i .left)) (replace-at (o .left) p (apart (i .right))) (o .right) (four-wf tab l₁ r₁ l₂ r₂ i o c d p) (laid-bytes tab l₁ r₁ l₂ r₂ p nodes nodes′ end g k ∙ q)
+          (s .answer (o .left) (apart (i .left)) (replace-at (o .left) p (apart (i .right))) (o .right) (four-wf tab l₁ r₁ l₂ r₂ i o c d p) (laid-bytes tab l₁ r₁ l₂ r₂ p nodes nodes′ end g ∙ q)
           (omega arith) (omega arith) (omega arith) (node f ts) e)
 
 -- where no overlap is
 none-says : (L R : List ℕ) (v : Option Overlap) → v ≡ none → Says L R Nothing v
 none-says L R v e = rw e refl
 
--- terms with no common instance have no overlap
-mgu-none : (s t : Term) → NeverOne s t → mgu (apart s) t ≡ none
+-- terms with no common instance have no unifier when renamed apart
+never-mgu : (s t : Term) → NeverOne s t → mgu (apart s) t ≡ none
 unfolding apart subst-term
-mgu-none s t n = go (mgu (apart s) t) refl
+never-mgu s t n = go (mgu (apart s) t) refl
   where
     go : (m : Option (List Binding)) → mgu (apart s) t ≡ m → m ≡ none
     go none e = refl
     go (some m) e = absurd (n (λ x. unifier m (16 + x)) (unifier m) (sym (subst-subst (unifier m) (λ x. var (16 + x)) s) ∙ mgu-right (apart s) t m e .unifies))
 
-module _ (tab l₁ r₁ l₂ r₂ : List ℕ) (p : ℕ) (L R : List ℕ) where
-  stands-at : (o : Pair) (u : Term) → Sides 16 tab l₂ r₂ o → subterm-at (o .left) p ≡ some u → Starts tab (drop p l₂) u
-  stands-at o u d e =
-      let a = around (o .left) p u e in
-      record {
-        wf = widen 16 32 tab u (omega arith) (wf-subterm 16 tab (o .left) p u (d .left-wf) e);
-        rest = a .after;
-        bytes = ap (drop p) (d .left-bytes ∙ a .holds) ∙ drop-at (a .before) (term-bytes u ++ a .after) p (a .begins);
-      }
+-- the subterm at p of a left side begins p bytes behind it
+stands-at : (tab l r : List ℕ) (p : ℕ) (o : Pair) (u : Term) → Sides 16 tab l r o → subterm-at (o .left) p ≡ some u → Starts tab (drop p l) u
+stands-at tab l r p o u d e =
+    starts-inside tab l (o .left) p u
+    (record { wf = widen 16 32 tab (o .left) (omega arith) (d .left-wf); rest = []; bytes = d .left-bytes ∙ sym (append-nil (term-bytes (o .left))) }) e
 
+module _ (tab l₁ r₁ l₂ r₂ : List ℕ) (p : ℕ) (L R : List ℕ) where
   pub meet-clash : (b : Bool) → Clashing tab l₁ l₂ p b → b ≡ true → Meets tab l₁ r₁ l₂ r₂ p L R L R Nothing
   meet-clash b g e = record {
     kept = record { left = refl; right = refl };
     short = tt;
     answer = λ i o c d m.
-        let n = g .never e (i .left) (node (m .0) (m .1)) (widen 16 32 tab (i .left) (omega arith) (c .left-wf)) (c .left-bytes) (stands-at o (node (m .0) (m .1)) d (m .2)) in
+        let n = g .never e (i .left) (node (m .0) (m .1)) (widen 16 32 tab (i .left) (omega arith) (c .left-wf)) (c .left-bytes) (stands-at tab l₂ r₂ p o (node (m .0) (m .1)) d (m .2)) in
         none-says L R (overlap i o p)
-        (overlap-is i o p (m .0) (m .1) (m .2) ∙ ap (instances (o .left) (replace-at (o .left) p (apart (i .right))) (o .right)) (mgu-none (i .left) (node (m .0) (m .1)) n));
+        (overlap-is i o p (m .0) (m .1) (m .2) ∙ ap (instances (o .left) (replace-at (o .left) p (apart (i .right))) (o .right)) (never-mgu (i .left) (node (m .0) (m .1)) n));
   }
 
--- what stands at a position of a stored rule's left side
-root : Term → ℕ
-unfolding term-bytes
-root t = getD (term-bytes t) 0 0
+-- the byte there is a variable's or a symbol's
+abbrev Begins : ℕ → Term → Type 0
+Begins b (var x) = b ≡ 128 + x
+Begins b (node f ts) = b < 16
 
-byte-at : (t : Term) (p : ℕ) (u : Term) → subterm-at t p ≡ some u → getD (term-bytes t) p 0 ≡ root u
-unfolding root
-byte-at t p u e =
-    let a = around t p u e in
-    let z : p + 0 ≡ p = omega arith in
-    ap (λ k. getD (term-bytes t) k 0) (sym z) ∙ sym (getD-drop p (term-bytes t) 0 0)
-    ∙ ap (λ k. getD k 0 0) (ap (drop p) (a .holds) ∙ drop-at (a .before) (term-bytes u ++ a .after) p (a .begins)) ∙ head u (a .after)
+begins : (tab l : List ℕ) (p : ℕ) (u : Term) → Starts tab (drop p l) u → Begins (getD l p 0) u
+unfolding term-bytes Wf
+begins tab l p u s = go u (s .wf) (ap (λ k. getD l k 0) (sym (add-zero p)) ∙ sym (getD-drop p l 0 0) ∙ ap (λ k. getD k 0 0) (s .bytes))
   where
-    head : (u : Term) (rest : List ℕ) → getD (term-bytes u ++ rest) 0 0 ≡ getD (term-bytes u) 0 0
-    head u rest = go u
-      where
-        go : (u : Term) → getD (term-bytes u ++ rest) 0 0 ≡ getD (term-bytes u) 0 0
-        go (var x) = unfold term-bytes in refl
-        go (node f ts) = unfold term-bytes in refl
-
-root-variable : (x : ℕ) → root (var x) ≡ 128 + x
-unfolding root term-bytes
-root-variable x = refl
-
-root-node : (f : ℕ) (ts : Terms) → root (node f ts) ≡ f
-unfolding root term-bytes
-root-node f ts = refl
+    go : (u : Term) → Wf 32 tab u → getD l p 0 ≡ getD (term-bytes u ++ s .rest) 0 0 → Begins (getD l p 0) u
+    go (var x) w e = e
+    go (node f ts) w e = omega (arith, e, w .0)
 
 overlap-none : (i o : Pair) (p : ℕ) → subterm-at (o .left) p ≡ none → overlap i o p ≡ none
 unfolding overlap overlap-at
@@ -138,31 +122,35 @@ overlap-variable : (i o : Pair) (p x : ℕ) → subterm-at (o .left) p ≡ some 
 unfolding overlap overlap-at
 overlap-variable i o p x e = ap (overlap-at i o p) e
 
+-- behind the end of the outer left side
+pub overlap-behind : (i o : Pair) (p : ℕ) → size (o .left) ≤ p → overlap i o p ≡ none
+overlap-behind i o p h = go (subterm-at (o .left) p) refl
+  where
+    go : (v : Option Term) → subterm-at (o .left) p ≡ v → overlap i o p ≡ none
+    go none e = overlap-none i o p e
+    go (some u) e = absurd (omega (arith, subterm-below (o .left) p u e))
+
 -- the outer rule's sides are l₂ and r₂
 module _ (tab rules lens : List ℕ) (inner outer p : ℕ) (L R l₂ : List ℕ) (e₂ : l₂ ≡ side-bytes rules lens (2 * outer)) where
-  outer-left : (o : Pair) → RuleAt tab rules lens outer o → l₂ ≡ term-bytes (o .left)
-  outer-left o k = sides-of-rule tab rules lens outer l₂ (side-bytes rules lens (2 * outer + 1)) e₂ refl o k .left-bytes
+  outer-sides : (o : Pair) → RuleAt tab rules lens outer o → Sides 16 tab l₂ (side-bytes rules lens (2 * outer + 1)) o
+  outer-sides o k = sides-of-rule tab rules lens outer l₂ (side-bytes rules lens (2 * outer + 1)) e₂ refl o k
 
-  outer-byte : (o : Pair) (u : Term) → RuleAt tab rules lens outer o → subterm-at (o .left) p ≡ some u → getD l₂ p 0 ≡ root u
-  outer-byte o u k e = ap (λ z. getD z p 0) (outer-left o k) ∙ byte-at (o .left) p u e
+  outer-size : (o : Pair) → RuleAt tab rules lens outer o → length l₂ ≡ size (o .left)
+  outer-size o k = ap length (outer-sides o k .left-bytes) ∙ length-bytes (o .left)
+
+  outer-begins : (o : Pair) (u : Term) → RuleAt tab rules lens outer o → subterm-at (o .left) p ≡ some u → Begins (getD l₂ p 0) u
+  outer-begins o u k e = begins tab l₂ p u (stands-at tab l₂ (side-bytes rules lens (2 * outer + 1)) p o u (outer-sides o k) e)
 
   nothing : ((i o : Pair) → RuleAt tab rules lens outer o → overlap i o p ≡ none) → Overlapped tab rules lens inner outer p L R L R Nothing
   nothing f = record { kept = record { left = refl; right = refl }; short = tt; answer = λ i o h k. none-says L R (overlap i o p) (f i o k) }
 
-  beyond : (o : Pair) → RuleAt tab rules lens outer o → length l₂ ≤ p → subterm-at (o .left) p ≡ none
-  beyond o k h = go (subterm-at (o .left) p) refl
-    where
-      go : (v : Option Term) → subterm-at (o .left) p ≡ v → v ≡ none
-      go none e = refl
-      go (some u) e = absurd (omega (arith, subterm-below (o .left) p u e, ap length (outer-left o k), length-bytes (o .left), h))
-
   pub overlap-beyond : length l₂ ≤ p → Overlapped tab rules lens inner outer p L R L R Nothing
-  overlap-beyond h = nothing (λ i o k. overlap-none i o p (beyond o k h))
+  overlap-beyond h = nothing (λ i o k. overlap-behind i o p (omega (arith, outer-size o k)))
 
   open-none : 128 ≤ getD l₂ p 0 → (i o : Pair) → RuleAt tab rules lens outer o → (v : Option Term) → subterm-at (o .left) p ≡ v → overlap i o p ≡ none
   open-none h i o k none e = overlap-none i o p e
   open-none h i o k (some (var x)) e = overlap-variable i o p x e
-  open-none h i o k (some (node f ts)) e = absurd (omega (arith, outer-byte o (node f ts) k e, root-node f ts, symbol-low tab (o .left) (k .left-wf) p f ts e))
+  open-none h i o k (some (node f ts)) e = absurd (omega (arith, outer-begins o (node f ts) k e))
 
   pub overlap-open : 128 ≤ getD l₂ p 0 → Overlapped tab rules lens inner outer p L R L R Nothing
   overlap-open h = nothing (λ i o k. open-none h i o k (subterm-at (o .left) p) refl)
@@ -173,7 +161,7 @@ module _ (tab rules lens : List ℕ) (inner outer p : ℕ) (L R l₂ : List ℕ)
         nothing (λ i o k. absurd (omega (arith, ap length (sides-of-rule tab rules lens outer l₂ r₂ e₂ f₂ o k .right-bytes), length-bytes (o .right), size-pos (o .right))))
 
     at-node : getD l₂ p 0 < 128 → (o : Pair) → RuleAt tab rules lens outer o → (u : Term) → subterm-at (o .left) p ≡ some u → AtNode (o .left) p
-    at-node h o k (var x) e = absurd (omega (arith, outer-byte o (var x) k e, root-variable x))
+    at-node h o k (var x) e = absurd (omega (arith, outer-begins o (var x) k e))
     at-node h o k (node f ts) e = (f, ts, e)
 
     pub overlap-met : getD l₂ p 0 < 128 → p < length l₂ → (l₁ r₁ : List ℕ) → l₁ ≡ side-bytes rules lens (2 * inner) → r₁ ≡ side-bytes rules lens (2 * inner + 1) →
@@ -182,7 +170,7 @@ module _ (tab rules lens : List ℕ) (inner outer p : ℕ) (L R l₂ : List ℕ)
       kept = m .kept;
       short = m .short;
       answer = λ i o j k.
-          let c : p < size (o .left) = omega (arith, ap length (outer-left o k), length-bytes (o .left)) in
+          let c : p < size (o .left) = omega (arith, outer-size o k) in
           m .answer i o (sides-of-rule tab rules lens inner l₁ r₁ e₁ f₁ i j) (sides-of-rule tab rules lens outer l₂ r₂ e₂ f₂ o k)
           (at-node h o k (place (o .left) p c .s) (subterm-is (o .left) p c));
     }

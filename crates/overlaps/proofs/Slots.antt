@@ -4,6 +4,7 @@ use mathlib.Core.Path.{_≡_, ap, _∙_}
 use mathlib.Core.List.{List}
 use Prim.Native.Nat.{ℕ, _+_, _-_, _*_, _≤_, _<_}
 use native.Mathlib.Omega.{arith}
+use native.Mathlib.Nat.{add-sub-cancel-left}
 use lib.ListN.{length, getD, take, drop, length-drop}
 use lib.Seq.{length-take-le}
 use Rattle.terms.specs.Term.{Pair}
@@ -19,7 +20,7 @@ module _ (rules lens : List ℕ) (k : ℕ) (h : (120 * k + 120 ≤ length rules)
   side-ends = omega (arith, h .0, h .2)
 
   part-is : take (120 * k + n - 120 * k) (drop (120 * k) rules) ≡ take n (drop (120 * k) rules)
-  part-is = let z : 120 * k + n - 120 * k ≡ n = omega arith in ap (λ i. take i (drop (120 * k) rules)) z
+  part-is = ap (λ i. take i (drop (120 * k) rules)) (add-sub-cancel-left (120 * k) n)
 
   pub side-read : (take (120 * k + n - 120 * k) (drop (120 * k) rules) ≡ side-bytes rules lens k) × (length (take (120 * k + n - 120 * k) (drop (120 * k) rules)) ≤ 120)
   unfolding side-bytes

@@ -1,27 +1,27 @@
 -- From the answer of unification to that of an overlap: which most general unifier was found does not matter after renaming. Assumes nothing.
 -- Read first: specs/Answer (Solves, instances), unifier/specs/Result (Solved, Decided), unifier/proofs/Verdict.
 use mathlib.Core.Path.{_≡_, refl, sym, ap, ap₂, subst, _∙_}
-use mathlib.Core.Bool.{Bool, true, false, not}
-use mathlib.Core.List.{List, [], _∷_, _++_, append-assoc, append-nil}
+use mathlib.Core.Bool.{Bool, true, false, true≢false}
+use mathlib.Core.List.{List}
 use mathlib.Core.Option.{Option, none, some}
-use Prim.Native.Nat.{ℕ, zero, suc, _+_, _-_, _≤_, _<_}
+use Prim.Native.Nat.{ℕ, _+_, _-_, _≤_, _<_}
 use lib.ListN.{length, take, drop, replicate, length-replicate}
 use lib.Seq.{length-take-le}
 use native.Mathlib.Omega.{arith}
+use native.Mathlib.Nat.{sub-zero}
 use lib.Dec.{ltb}
 use Rattle.terms.specs.Base.{is-some}
-use Rattle.terms.specs.Term.{Term, var, node, Terms, nil, cons, size, term-bytes, terms-bytes, subst-term, subterm-at, subterm-in, renamed}
-use Rattle.terms.specs.Flat.{Wf, Wfs}
-use Rattle.terms.proofs.Flats.{widen-all}
-use Rattle.terms.proofs.Limits.{size-vars}
+use Rattle.terms.specs.Term.{Term, Terms, nil, cons, size, terms-bytes, subst-term, subterm-at, subterm-in, renamed}
+use Rattle.terms.specs.Flat.{Wfs}
+use Rattle.terms.proofs.Every.{Every, of-none, every-append, every-at}
+use Rattle.terms.proofs.Flats.{widen-all, wf-bytes}
 use Rattle.terms.proofs.Positions.{subterm-below, in-first, in-later, in-head}
-use Rattle.terms.proofs.Rename.{rename}
 use Rattle.unify.specs.Unify.{Binding, mgu, under}
 use Rattle.classes.specs.Arena.{Spells, same}
 use Rattle.classes.specs.Steps.{at, arena}
 use Rattle.unifier.specs.Result.{Laid, LaidOut, Tested, Solved, Decided}
 use Rattle.unifier.proofs.Starting.{laid-at}
-use Rattle.unifier.proofs.Verdict.{the-mgu, solved-renames, solved-renamed, solved-decided}
+use Rattle.unifier.proofs.Verdict.{the-mgu, solved-sizes, solved-renamed, solved-decided}
 use Rattle.pairs.specs.declared.Lengths.{Lengths}
 use Rattle.pairs.specs.Placed.{Low, Fits, Placed}
 use Rattle.unifier.proofs.Instance.{spells-instance}
@@ -31,32 +31,10 @@ use Rattle.overlaps.specs.declared.Met.the-variants.{Nothing, TooLarge, 
 use Rattle.overlaps.specs.Answer.{Answered, Says, four, instances, Solves}
 
 -- bytes of terms with variables below 32
-low-cons : (b : ℕ) (l : List ℕ) → b < 160 → Low l → Low (b ∷ l)
-low-cons b l h g zero k = h
-low-cons b l h g (suc i) k = g i (omega arith)
-
-mutual
-  unfolding term-bytes terms-bytes Wf Wfs
-
-  low-term : (tab : List ℕ) (t : Term) → Wf 32 tab t → (rest : List ℕ) → Low rest → Low (term-bytes t ++ rest)
-  low-term tab (var x) w rest g = low-cons (128 + x) rest (omega arith) g
-  low-term tab (node f ts) w rest g = low-cons f (terms-bytes ts ++ rest) (omega (arith, w .0)) (low-terms tab ts (w .2) rest g)
-
-  low-terms : (tab : List ℕ) (ts : Terms) → Wfs 32 tab ts → (rest : List ℕ) → Low rest → Low (terms-bytes ts ++ rest)
-  low-terms tab nil w rest g = g
-  low-terms tab (cons t ts) w rest g =
-      subst (λ l. Low l) (sym (append-assoc (term-bytes t) (terms-bytes ts) rest)) (low-term tab t (w .0) (terms-bytes ts ++ rest) (low-terms tab ts (w .1) rest g))
-
-no : true ≡ false → ⊥
-no e = let z : _≡_ {A = ℕ} 0 1 = cc in omega arith
-
-pub not-true : (b : Bool) → not b ≡ true → b ≡ false
-not-true true e = absurd (no (sym e))
-not-true false e = refl
-
-pub not-false : (b : Bool) → not b ≡ false → b ≡ true
-not-false true e = refl
-not-false false e = absurd (no e)
+terms-low : (tab : List ℕ) (ts : Terms) → Wfs 32 tab ts → Every (λ b. b < 160) (terms-bytes ts)
+unfolding terms-bytes Wfs
+terms-low tab nil w = of-none
+terms-low tab (cons t ts) w = every-append (wf-bytes 32 tab t (w .0)) (terms-low tab ts (w .1))
 
 module _ (l tab : List ℕ) (r : Bool) (g : Tested l tab r) where
   pub tested-out : r ≡ true → LaidOut l tab
@@ -65,28 +43,19 @@ module _ (l tab : List ℕ) (r : Bool) (g : Tested l tab r) where
   pub tested-low : r ≡ true → Low l
   tested-low e =
       let s = g .sound e in
-      subst (λ k. Low k) (append-nil (terms-bytes (s .0)) ∙ sym (s .1 .1)) (low-terms tab (s .0) (s .1 .0) [] (λ i h. absurd (omega arith)))
+      subst (λ k. Low k) (sym (s .1 .1)) (λ i h. every-at (terms-low tab (s .0) (s .1 .0)) i 0 h)
 
   pub solve-bad : (p n a b : ℕ) (L R : List ℕ) → r ≡ false → Solves l tab p n a b L R L R Nothing
   solve-bad p n a b L R e = record {
     kept = record { left = refl; right = refl };
     short = tt;
-    answer = λ x y z w f h en ea eb t q. absurd (no (sym (g .complete (four x y z w) f h) ∙ e));
+    answer = λ x y z w f h en ea eb t q. absurd (true≢false (sym (g .complete (four x y z w) f h) ∙ e));
   }
 
 -- what an answer says depends on sizes and on the renamed pair alone
 says-same : (L R : List ℕ) (r : Met) (v u : Overlap) → size (v .peak) ≡ size (u .peak) → size (v .sides .left) ≡ size (u .sides .left) → size (v .sides .right) ≡ size (u .sides .right) →
     renamed (v .sides) ≡ renamed (u .sides) → Says L R r (some v) → Says L R r (some u)
 says-same L R r v u e₁ e₂ e₃ e₄ h = rw (← e₁, ← e₂, ← e₃, ← e₄) h
-
-size-rename : (s t : Term) → rename s ≡ rename t → size s ≡ size t
-size-rename s t e = sym (named s) ∙ ap size e ∙ named t
-  where
-    named : (s : Term) → size (rename s) ≡ size s
-    named s = go (rename s) refl
-      where
-        go : (u : Term) → rename s ≡ u → size u ≡ size s
-        go u q = ap size (sym q) ∙ unfold rename in size-vars (λ x. Rattle.terms.specs.Base.place-in x (Rattle.terms.specs.Base.distinct (Rattle.terms.specs.Term.variables s))) s
 
 module _ (l tab : List ℕ) (p n a b : ℕ) (x y z w : Term) (f : Wfs 32 tab (four x y z w)) (h : l ≡ terms-bytes (four x y z w)) (en : n ≡ size x) (ea : a ≡ n + size y) (eb : b ≡ a + size z)
     (t : Term) (q : subterm-at x p ≡ some t) where
@@ -114,7 +83,7 @@ module _ (l tab : List ℕ) (p n a b : ℕ) (x y z w : Term) (f : Wfs 32 tab (fo
     where
       go : (o : Option (List Binding)) → false ≡ is-some o → Says L R Nothing (instances x z w o)
       go none e = refl
-      go (some m) e = absurd (no (sym e))
+      go (some m) e = absurd (true≢false (sym e))
 
   solved-says : (ends cs zs L R : List ℕ) (r : Met) (k : Solved l tab n p ends cs zs) →
       ((x′ y′ z′ : Term) → Spells (arena l tab ends) (at cs) 0 x′ → Spells (arena l tab ends) (at cs) a y′ → Spells (arena l tab ends) (at cs) b z′ →
@@ -130,10 +99,10 @@ module _ (l tab : List ℕ) (p n a b : ℕ) (x y z w : Term) (f : Wfs 32 tab (fo
       found i u e = spells-instance l tab n p ends cs zs k i u (spells i u e)
 
       same-size : (m : List Binding) → mgu y t ≡ some m → (u : Term) → size (subst-term (the-mgu l tab n p ends cs zs k) u) ≡ size (under m u)
-      same-size m e u = size-rename (subst-term (the-mgu l tab n p ends cs zs k) u) (under m u) (sym (solved-renames l tab n p ends cs zs k y t (spells n y at-y) (spells p t at-t) m e u))
+      same-size m e u = sym (solved-sizes l tab n p ends cs zs k y t (spells n y at-y) (spells p t at-t) m e u)
 
       go : (o : Option (List Binding)) → mgu y t ≡ o → true ≡ is-some o → Says L R r (instances x z w o)
-      go none e d = absurd (no d)
+      go none e d = absurd (true≢false d)
       go (some m) e d =
           says-same L R r
           (record {
@@ -157,9 +126,9 @@ solve-never l tab p n a b L R r d e = record {
 -- what `place` answers
 fits-says : (L R : List ℕ) (s : Lengths) (y z : Term) (b c d : Bool) → Fits L R s y z b c d → s .fits ≡ true →
     Answered L R (Found (s .left) (s .right)) (size y) (size z) (renamed (record { left = y; right = z })) b c d
-fits-says L R s y z true c d h e = absurd (no (sym e ∙ h))
-fits-says L R s y z false true d h e = absurd (no (sym e ∙ h))
-fits-says L R s y z false false true h e = absurd (no (sym e ∙ h))
+fits-says L R s y z true c d h e = absurd (true≢false (sym e ∙ h))
+fits-says L R s y z false true d h e = absurd (true≢false (sym e ∙ h))
+fits-says L R s y z false false true h e = absurd (true≢false (sym e ∙ h))
 fits-says L R s y z false false false h e = (ap₂ (λ u v. Found u v) (h .1) (h .2), h .3, h .4)
 
 large-says : (L R : List ℕ) (s : Lengths) (y z : Term) (b c d : Bool) → Fits L R s y z b c d → s .fits ≡ false →
@@ -167,7 +136,7 @@ large-says : (L R : List ℕ) (s : Lengths) (y z : Term) (b c d : Bool) → Fits
 large-says L R s y z true c d h e = refl
 large-says L R s y z false true d h e = refl
 large-says L R s y z false false true h e = refl
-large-says L R s y z false false false h e = absurd (no (sym (h .0) ∙ e))
+large-says L R s y z false false false h e = absurd (true≢false (sym (h .0) ∙ e))
 
 module _ (l tab : List ℕ) (p n a b : ℕ) (L R L′ R′ : List ℕ) (ends cs zs : List ℕ) (s : Lengths) (k : Solved l tab n p ends cs zs) (g : Placed (arena l tab ends) (at cs) a b L R L′ R′ s) where
   pub solve-found : s .fits ≡ true → Solves l tab p n a b L R L′ R′ (Found (s .left) (s .right))
@@ -191,10 +160,7 @@ module _ (l tab : List ℕ) (p n a b : ℕ) (L R L′ R′ : List ℕ) (ends cs 
       }
 
 -- a part of a buffer of 600
-part-of : (d : List ℕ) (n : ℕ) → n ≤ length d → n ≤ length (take (n - 0) (drop 0 d))
-part-of d n h =
-    let z : n - 0 ≡ n = omega arith in
-    omega (arith, ap (λ k. length (take k d)) z, length-take-le n d h)
-
 pub part-long : (n : ℕ) → n ≤ 600 → n ≤ length (take (n - 0) (drop 0 (replicate {A = ℕ} 600 0)))
-part-long n h = part-of (replicate 600 0) n (omega (arith, length-replicate {A = ℕ} 600 0))
+part-long n h =
+    let d : List ℕ = replicate 600 0 in
+    omega (arith, ap (λ k. length (take k d)) (sub-zero n), length-take-le n d (omega (arith, length-replicate {A = ℕ} 600 0)))

@@ -3,9 +3,7 @@
 -- Read first: specs/Answer (Meets), proofs/Meeting, laying/proofs/Layers.
 use Rattle.overlaps.proofs.Meeting.{meet-clash, meet-found}
 use Rattle.laying.proofs.Layers.{laid-parts, laid-requires}
-use lib.ListN.{length-replicate}
 use native.Mathlib.Omega.{arith}
-use Prim.Native.Nat.{ℕ}
 use mathlib.Core.Path.{refl}
 use borrow.Author.Needs.{needs}
 use Rattle.overlaps.proofs.meet.Statement.{statement}
@@ -20,13 +18,13 @@ returns : tie.Need-returns
 returns c = meet-clash _ _ _ _ _ _ _ _ (c .before .clash .result) (c .before .clash .ensures) (c .if1 .taken)
 
 sub-b : tie.Need-sub-b
-sub-b c = omega (arith, laid-parts _ _ _ _ _ _ _ _ _ (c .before .lay-four .ensures) (omega (arith, length-replicate {A = ℕ} 600 0)))
+sub-b c = omega (arith, laid-parts _ _ _ _ _ _ _ _ _ (c .before .lay-four .ensures))
 
 solve-requires : tie.Need-solve-requires
-solve-requires c κs = (laid-requires _ _ _ _ _ _ _ _ _ (c .before .before .before .before .before .lay-four .ensures) (omega (arith, length-replicate {A = ℕ} 600 0)) (c .before .before .before .before .before .before .before .before .before .before .before .before .before .before .before .before .pre .1 .0 .0) (c .before .before .before .before .before .before .before .before .before .before .before .before .before .before .before .before .pre .1 .0 .1), c .before .before .before .before .before .before .before .before .before .before .before .before .before .before .before .before .pre .1 .1)
+solve-requires c κs = (laid-requires _ _ _ _ _ _ _ _ _ (c .before .before .before .before .before .lay-four .ensures) (c .before .before .before .before .before .before .before .before .before .before .before .before .before .before .before .before .pre .1 .0 .0) (c .before .before .before .before .before .before .before .before .before .before .before .before .before .before .before .before .pre .1 .0 .1), c .before .before .before .before .before .before .before .before .before .before .before .before .before .before .before .before .pre .1 .1)
 
 returns-2 : tie.Need-returns-2
-returns-2 c = meet-found _ _ _ _ _ _ _ _ _ (c .before .before .before .before .before .before .before .before .before .before .lay-four .ensures) (omega (arith, length-replicate {A = ℕ} 600 0)) _ _ _ refl refl refl _ _ _ _ _ (c .before .before .before .before .solve .ensures)
+returns-2 c = meet-found _ _ _ _ _ _ _ _ _ (c .before .before .before .before .before .before .before .before .before .before .lay-four .ensures) _ _ _ refl refl refl _ _ _ _ _ (c .before .before .before .before .solve .ensures)
 
 pub meet-spec : {M : Type 1} → statement M
 meet-spec =

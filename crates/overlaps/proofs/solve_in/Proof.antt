@@ -1,9 +1,10 @@
 -- `solve_in`: bytes of no terms (`solve-bad`), no unifier (`solve-never`), or by what `place` answers of the instances (`solve-found`,
 -- `solve-large`). Assumes nothing.
 -- Read first: specs/Answer (Solves), proofs/Solving.
-use Rattle.overlaps.proofs.Solving.{not-true, not-false, tested-out, tested-low, solve-bad, solve-never, solve-found, solve-large}
+use Rattle.overlaps.proofs.Solving.{tested-out, tested-low, solve-bad, solve-never, solve-found, solve-large}
 use Rattle.unifier.proofs.Verdict.{outcome-solved}
 use native.Mathlib.Omega.{arith}
+use borrow.Author.Tests.{not-true, not-false}
 use borrow.Author.Needs.{needs}
 use Rattle.overlaps.proofs.solve_in.Statement.{statement}
 use Rattle.overlaps.proofs.solve_in.Tie as tie
