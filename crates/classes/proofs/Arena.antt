@@ -5,11 +5,12 @@ use mathlib.Core.Path.{_≡_, refl, sym, ap, ap₂, subst, _∙_}
 use mathlib.Core.Logic.{_⊎_, inl, inr, ⊎-elim}
 use Prim.Native.Nat.{ℕ, zero, suc, _+_, _≤_, _<_}
 use native.Mathlib.Omega.{arith}
-use native.Mathlib.Decide.{decLt, ℕ-discrete}
+use native.Mathlib.Decide.{ℕ-discrete}
 use Rattle.terms.specs.Term.{Term, var, node, Terms, cons, size, sizes, subst-term, subst-terms}
 use Rattle.terms.proofs.Shape.{node-symbol}
 use Rattle.terms.proofs.Subst.{Subst}
 use Rattle.classes.specs.Arena.{Arena, Spells, free, made, SpellsAll, none, more, same, Whole, Joins, Classes, Agree, Closed, Never, Among, Descends}
+use Rattle.classes.proofs.Ranges.{below-more}
 use Rattle.unify.proofs.Correct.{Unifies, Mgu}
 
 module _ (A : Arena) where
@@ -113,15 +114,11 @@ module _ (A : Arena) where
       Seen : ℕ → ℕ → Type 0
       Seen x n = ((i : ℕ) × (i < n) × (A .byte i ≡ 128 + x)) ⊎ ((i : ℕ) → i < n → A .byte i ≡ 128 + x → ⊥)
 
-      not-more : (x n i : ℕ) → ((j : ℕ) → j < n → A .byte j ≡ 128 + x → ⊥) → (A .byte n ≡ 128 + x → ⊥) → i < suc n → A .byte i ≡ 128 + x → Dec (i < n) → ⊥
-      not-more x n i f q l e (yes h) = f i h e
-      not-more x n i f q l e (no h) = q (ap (A .byte) (omega arith) ∙ e)
-
       seek-more : (x n : ℕ) → Seen x n → Dec (A .byte n ≡ 128 + x) → Seen x (suc n)
       unfolding Seen
       seek-more x n r (yes e) = inl (n, omega arith, e)
       seek-more x n (inl (i, l, e)) (no q) = inl (i, omega arith, e)
-      seek-more x n (inr f) (no q) = inr (λ i l e. not-more x n i f q l e (decLt i n))
+      seek-more x n (inr f) (no q) = inr (λ i l. below-more (λ j. A .byte j ≡ 128 + x → ⊥) n f q i (omega arith))
 
       seek : (x n : ℕ) → Seen x n
       unfolding Seen

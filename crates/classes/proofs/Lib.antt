@@ -1,3 +1,4 @@
+pub mod Ranges
 pub mod Arena
 pub mod Walks
 pub mod Joining

@@ -4,7 +4,6 @@ use mathlib.Core.Path.{_≡_, refl, sym, ap, subst, subst₂, _∙_}
 use mathlib.Core.List.{List}
 use Prim.Native.Nat.{ℕ, zero, suc, _+_, _-_, _≤_, _<_}
 use native.Mathlib.Omega.{arith}
-use native.Mathlib.Decide.{decLt}
 use Rattle.terms.specs.Scan.{owes}
 use native.Mathlib.Numerals.{add-one}
 use lib.ListN.{length}
@@ -15,6 +14,7 @@ use Rattle.classes.specs.Arena.{Arena, Spells, made, SpellsAll, more, sa
 use Rattle.classes.specs.Steps.{at, arena, Ready, SpellsSome, JoinsAll, Apart, Clashes, StepAt}
 use Rattle.classes.specs.declared.Step.{Step}
 use Rattle.classes.specs.declared.Step.the-variants.{Done, Clash, Join}
+use Rattle.classes.proofs.Ranges.{below-more}
 use Rattle.classes.proofs.Arena.{spells-within, unmake}
 
 -- n arguments from p on are those that are left of k from a on, and n from q on those of k from b on
@@ -126,9 +126,5 @@ ready-step l tab ends cs y i r k h e f b q s g = step-apart (arena l tab ends) (
 abbrev pub ClosedBelow : Arena → (ℕ → ℕ) → ℕ → Type 0
 ClosedBelow A c n = (i : ℕ) → i < n → ClosedAt A c i
 
-below-split : (A : Arena) (c : ℕ → ℕ) (n : ℕ) → ClosedBelow A c n → ClosedAt A c n → (i : ℕ) → i < n + 1 → Dec (i < n) → ClosedAt A c i
-below-split A c n f g i h (yes l) = f i l
-below-split A c n f g i h (no l) = let e : n ≡ i = omega arith in subst (λ z. ClosedAt A c z) e g
-
 pub below-next : (A : Arena) (c : ℕ → ℕ) (n : ℕ) → ClosedBelow A c n → (s : Step) → StepAt A c n s → s ≡ Done → ClosedBelow A c (n + 1)
-below-next A c n f s g e i h = below-split A c n f (subst (λ z. StepAt A c n z) e g) i h (decLt i n)
+below-next A c n f s g e = below-more (λ i. ClosedAt A c i) n f (subst (λ z. StepAt A c n z) e g)

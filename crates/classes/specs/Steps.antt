@@ -1,4 +1,4 @@
--- What the steps of the unification of an arena answer: the arena of three lists, and the classes and sizes in lists. Assumes nothing.
+-- What the steps that join and close classes answer: the arena of three lists, and its classes in a list. Assumes nothing.
 use mathlib.Core.Path.{_≡_}
 use mathlib.Core.Bool.{Bool, true, false}
 use mathlib.Core.List.{List, [], _∷_, map}

@@ -71,7 +71,7 @@ module _ (tab l₁ r₁ l₂ r₂ : List ℕ) (p e : ℕ) (q : e ≡ p + skip ta
           most = most-all m₁ m₂ m₃ m₄;
         }
 
--- what the nodes hold is longer than its parts
+-- what the nodes hold is no shorter than its parts
 four-length : (tab l₁ r₁ l₂ r₂ : List ℕ) (p : ℕ) → length l₂ + length l₁ + length r₂ ≤ length (four-bytes tab l₁ r₁ l₂ r₂ p)
 unfolding four-bytes
 four-length tab l₁ r₁ l₂ r₂ p =

@@ -1,4 +1,5 @@
--- The sizes of the instances: a sum over arguments, a node's size, and passes until none is found; what stays unknown is a circle. Assumes nothing.
+-- The sizes of the instances: a sum over arguments, a node's size, and passes until none is found; a size found is the size (`known-size`), and what
+-- stays unknown is a circle. Assumes nothing.
 -- Read first: specs/Sizes (Total, SizeAt, Sized), classes/specs/Arena (Descends), classes/proofs/Walks.
 use mathlib.Core.Path.{_≡_, refl, sym, ap, subst, subst₂, _∙_}
 use mathlib.Core.Bool.{true, false}
@@ -8,7 +9,7 @@ use Prim.Native.Nat.{ℕ, zero, suc, _+_, _*_, _-_, _≤_, _<_}
 use native.Mathlib.Omega.{arith}
 use native.Mathlib.Numerals.{add-one}
 use native.Mathlib.Nat.{le-of-suc-le-suc}
-use native.Mathlib.Decide.{decLe, ℕ-discrete}
+use native.Mathlib.Decide.{ℕ-discrete}
 use lib.ListN.{length, set, length-set}
 use lib.Seq.{getD-set-same, getD-set-other}
 use Rattle.terms.specs.Term.{Term, var, node, Terms, nil, cons, size, sizes}
@@ -16,6 +17,7 @@ use Rattle.terms.specs.Scan.{owes}
 use Rattle.classes.specs.Arena.{Arena, Spells, free, made, SpellsAll, none, more, Among}
 use Rattle.classes.specs.Steps.{at, Each, arena, Ready, SpellsSome}
 use Rattle.sizing.specs.Sizes.{Sized, Unknown, Total, Lacks, SizeAt, Known, SizedTo, cap}
+use Rattle.classes.proofs.Ranges.{from-less}
 use Rattle.classes.proofs.Walks.{rest-spells, some-within, arguments, ready-within}
 use Rattle.classes.proofs.Arena.{spells-one, spells-within}
 
@@ -211,14 +213,6 @@ module _ (l tab ends cs zs₀ zs : List ℕ) (i found lost : ℕ) (s : Sizing l 
     pub sizing-requires : Sized l tab ends cs zs × (i - 1 < length l)
     sizing-requires = (s .sized, omega (arith, s .within))
 
-    -- a property of the nodes from i on and of the one before them
-    before : (P : ℕ → Type 0) → ((j : ℕ) → i ≤ j → j < length l → P j) → P (i - 1) → (j : ℕ) → i - 1 ≤ j → j < length l → P j
-    before P f g j p q = go (decLe i j)
-      where
-        go : Dec (i ≤ j) → P j
-        go (yes r) = f j r q
-        go (no r) = let w : i - 1 ≡ j = omega arith in subst (λ x. P x) w g
-
     -- the node has a size already
     pub sizing-old : (at zs (i - 1) ≡ 0 → ⊥) → Sizing l tab ends cs zs₀ zs (i - 1) found lost
     sizing-old n = record {
@@ -226,8 +220,8 @@ module _ (l tab ends cs zs₀ zs : List ℕ) (i found lost : ℕ) (s : Sizing l 
       same = s .same;
       within = omega (arith, s .within);
       once = s .once;
-      lacks = λ e. before (λ j. at zs j ≡ 0 → Lacks (arena l tab ends) (at cs) (at zs) j) (s .lacks e) (λ z. absurd (n z));
-      known = λ e. before (λ j. at zs j ≡ 0 → ⊥) (s .known e) n;
+      lacks = λ e. from-less (λ j. at zs j ≡ 0 → Lacks (arena l tab ends) (at cs) (at zs) j) i (length l) (s .lacks e) (λ z. absurd (n z));
+      known = λ e. from-less (λ j. at zs j ≡ 0 → ⊥) i (length l) (s .known e) n;
       missing = s .missing;
     }
 
@@ -239,7 +233,7 @@ module _ (l tab ends cs zs₀ zs : List ℕ) (i found lost : ℕ) (s : Sizing l 
         same = s .same;
         within = omega (arith, s .within);
         once = s .once;
-        lacks = λ e. before (λ j. at zs j ≡ 0 → Lacks (arena l tab ends) (at cs) (at zs) j) (s .lacks e) (λ _. g .lacks (omega arith));
+        lacks = λ e. from-less (λ j. at zs j ≡ 0 → Lacks (arena l tab ends) (at cs) (at zs) j) i (length l) (s .lacks e) (λ _. g .lacks (omega arith));
         known = λ e. absurd (omega arith);
         missing = λ e n. (i - 1, omega (arith, s .within), z);
       }
@@ -262,7 +256,7 @@ module _ (l tab ends cs zs₀ zs : List ℕ) (i found lost : ℕ) (s : Sizing l 
             within = omega (arith, s .within);
             once = omega arith;
             lacks = λ e. absurd (omega arith);
-            known = λ e. before found-at (found-later p e) (found-here p);
+            known = λ e. from-less found-at i (length l) (found-later p e) (found-here p);
             missing = λ e. absurd (omega arith);
           }
 

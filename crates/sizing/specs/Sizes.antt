@@ -8,10 +8,11 @@ use Rattle.terms.specs.Term.{Term, Terms, size, sizes}
 use Rattle.classes.specs.Arena.{Arena, Spells, SpellsAll, Among, Descends}
 use Rattle.classes.specs.Steps.{at, arena, Ready}
 
--- the sizes known so far, 0 where none is, and 121 for anything above 120
+-- a size, and 121 for anything above 120
 abbrev pub cap : ℕ → ℕ
 cap n = min n 121
 
+-- the sizes known so far, 0 where none is
 abbrev pub Measured : Arena → (ℕ → ℕ) → (ℕ → ℕ) → Type 0
 Measured A c z = (i : ℕ) → i < A .nodes → (z i ≡ 0 → ⊥) → (u : Term) × Spells A c i u × (z i ≡ cap (size u))
 

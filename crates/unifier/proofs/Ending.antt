@@ -1,16 +1,16 @@
 -- The subterms' ends, filled in from the last node to the first. Assumes nothing.
 -- Read first: specs/Result (EndAt, EndsFrom).
-use mathlib.Core.Path.{_≡_, refl, sym, ap, subst, _∙_}
+use mathlib.Core.Path.{_≡_, refl, sym, ap, _∙_}
 use mathlib.Core.List.{List, [], _∷_}
 use Prim.Native.Nat.{ℕ, zero, suc, _+_, _-_, _≤_, _<_}
 use native.Mathlib.Omega.{arith}
-use native.Mathlib.Decide.{decLt}
 use native.Mathlib.Nat.{zero-add, suc-add}
 use lib.ListN.{length, getD, drop, set, length-set, length-drop}
 use lib.Seq.{drop-drop, getD-set-same, getD-set-other}
 use Rattle.terms.specs.Scan.{owes, skip}
 use Rattle.terms.proofs.Scans.{skip-turn}
 use Rattle.classes.specs.Steps.{at, Each}
+use Rattle.classes.proofs.Ranges.{from-less}
 use Rattle.unifier.specs.Result.{EndAt, EndsFrom}
 
 skip-most : (tab l : List ℕ) (n : ℕ) → skip tab l n ≤ length l
@@ -64,14 +64,12 @@ ended-less l tab ends₀ ends i v f h k e =
     record {
       within = omega (arith, f .within);
       long = length-set ends (i - 1) v ∙ f .long;
-      later = record { each = λ j a b. go j a b (decLt (i - 1) j) };
+      later = record {
+        each = from-less (λ j. EndAt l tab j (at (set ends (i - 1) v) j)) i (length l)
+            (λ j a b. getD-set-other ends (i - 1) j v 0 (λ q. omega arith) ∙ f .later .each j a b)
+            (getD-set-same ends (i - 1) v 0 (omega (arith, f .within, f .long)) ∙ e);
+      };
     }
-  where
-    go : (j : ℕ) → i - 1 ≤ j → j < length l → Dec (i - 1 < j) → EndAt l tab j (at (set ends (i - 1) v) j)
-    go j a b (yes q) = getD-set-other ends (i - 1) j v 0 (λ e. omega arith) ∙ f .later .each j (omega arith) b
-    go j a b (no q) =
-        let r : i - 1 ≡ j = omega arith in
-        subst (λ z. EndAt l tab z (at (set ends (i - 1) v) z)) r (getD-set-same ends (i - 1) v 0 (omega (arith, f .within, f .long)) ∙ e)
 
 pub ended-all : (l tab ends₀ ends : List ℕ) (i : ℕ) → Ended l tab ends₀ ends i → i ≤ 0 → (length ends ≡ length ends₀) × Each (EndAt l tab) ends (length l)
 ended-all l tab ends₀ ends i f h = (f .long, λ j k. f .later .each j (omega arith) k)

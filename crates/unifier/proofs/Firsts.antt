@@ -4,13 +4,13 @@ use mathlib.Core.Path.{_≡_, refl, sym, ap, _∙_}
 use mathlib.Core.List.{List}
 use Prim.Native.Nat.{ℕ, zero, suc, _+_, _-_, _≤_, _<_}
 use native.Mathlib.Omega.{arith}
-use native.Mathlib.Decide.{decLt}
 use lib.Dec.{eqb}
 use lib.ListN.{length, set, length-set, replicate}
 use lib.Seq.{getD-set-same, getD-set-other}
 use Rattle.terms.proofs.Shape.{Says, eqb-says}
 use mathlib.Core.Bool.{Bool, true, false}
 use Rattle.classes.specs.Steps.{at}
+use Rattle.classes.proofs.Ranges.{below-more}
 use Rattle.unifier.specs.Result.{FirstClass, Firsts}
 
 -- an empty table
@@ -57,14 +57,11 @@ first-old l firsts i b f g e h q z =
 -- the table with node i
 module _ (l firsts : List ℕ) (i b c : ℕ) (g : Firsts l firsts i) (e : b ≡ at l i) (m : b < 256) (f : FirstClass l i c) (h : c ≤ i) where
   none-more : (a : ℕ) → 128 ≤ a → a < 256 → (t : Bool) → Says (a ≡ b) t → at (set firsts b (c + 1)) a ≡ 0 → (j : ℕ) → j < i + 1 → at l j ≡ a → ⊥
-  none-more a p q true y z j k r =
+  none-more a p q true y z = λ j k r.
       let s : at (set firsts b (c + 1)) a ≡ c + 1 = ap (at (set firsts b (c + 1))) y ∙ getD-set-same firsts b (c + 1) 0 (omega (arith, g .long)) in
       omega arith
-  none-more a p q false y z j k r = go (decLt j i)
-    where
-      go : Dec (j < i) → ⊥
-      go (yes d) = g .none a p q (sym (getD-set-other firsts b a (c + 1) 0 y) ∙ z) j d r
-      go (no d) = let s : i ≡ j = omega arith in y (sym r ∙ ap (at l) (sym s) ∙ sym e)
+  none-more a p q false y z =
+      below-more (λ j. at l j ≡ a → ⊥) i (g .none a p q (sym (getD-set-other firsts b a (c + 1) 0 y) ∙ z)) (λ r. y (sym r ∙ sym e))
 
   some-more : (a : ℕ) → 128 ≤ a → (t : Bool) → Says (a ≡ b) t → (at (set firsts b (c + 1)) a ≡ 0 → ⊥) →
       (at (set firsts b (c + 1)) a ≤ i + 1) × (at l (at (set firsts b (c + 1)) a - 1) ≡ a) × ((j : ℕ) → j + 1 < at (set firsts b (c + 1)) a → at l j ≡ a → ⊥)

@@ -1,5 +1,5 @@
--- How unification begins: where subterms end, first classes (a variable with its first node), and the two terms joined; the bytes spell the terms.
--- Assumes nothing.
+-- How unification begins: first classes (a variable with its first node), then the two terms joined; where the ends are right, the bytes spell the
+-- terms. Assumes nothing.
 -- Read first: specs/Result (Laid, EndAt, FirstClass), classes/specs/Arena (Spells, Classes), classes/proofs/Arena.
 use mathlib.Core.Path.{_≡_, sym, ap, subst, _∙_}
 use mathlib.Core.List.{List, [], _∷_, _++_, append-assoc, append-nil}

@@ -1,7 +1,6 @@
 // Unification of two terms that stand one after the other in an arena of bytes, by classes of nodes.
 mod start;
 
-ghost use mathlib.Core.Path.{_≡_};
 ghost use Prim.Native.Nat.{_<_, _≤_};
 ghost use lib.ListN.{length};
 ghost use Rattle.classes.specs.Steps.{at, arena, Ready};
