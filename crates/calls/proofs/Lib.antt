@@ -1,3 +1,3 @@
-pub mod Singles
-pub mod Instances
+pub mod Comparing
 pub mod Unifying
+pub mod Parts

@@ -1,163 +1,41 @@
--- Two sides one behind the other are an arena; its classes give the definition's common instance up to renaming. Assumes nothing. A lemma for each
--- return of `common_instance` and `unify`.
--- Read first: specs/Answers (SidesUnify, Unifies), unifier/proofs/Instance.
+-- `unify` lays the two sides out for `instances::common_instance`, whose answer is the definition's: a lemma for each return, and for those of
+-- `answer`. Assumes nothing.
+-- Read first: specs/Answers (Unifies, found-told), instances/specs/Common (SidesUnify, TwoSides), single/specs/Places (SidesAt).
 use mathlib.Core.Path.{_≡_, refl, ap, sym, _∙_}
-use mathlib.Core.Bool.{Bool, true, false}
-use mathlib.Core.List.{List, _++_, append-assoc, append-nil}
-use mathlib.Core.Option.{Option, none, some}
-use Prim.Native.Nat.{ℕ, _+_, _-_, _<_, _≤_}
+use mathlib.Core.Bool.{true, false}
+use mathlib.Core.List.{List, _++_, append-assoc}
+use Prim.Native.Nat.{ℕ, _-_, _<_, _≤_}
 use native.Mathlib.Omega.{arith}
 use lib.Dec.{ltb}
 use lib.ListN.{length, take, drop, length-append}
 use lib.Seq.{drop-drop, drop-at, take-at}
 use borrow.Author.Tests.{lt-ltb, le-ltb}
-use Rattle.terms.specs.Base.{if_then_else_, is-some, field-bytes}
-use Rattle.terms.specs.Term.{Term, nil, cons, size, term-bytes, terms-bytes, subterm-in, subst-term}
-use Rattle.terms.specs.Flat.{Wf, Starts}
+use Rattle.terms.specs.Term.{size, term-bytes}
 use Rattle.terms.proofs.Flats.{widen}
 use Rattle.terms.proofs.Bytes.{length-bytes}
-use Rattle.terms.proofs.Limits.{size-vars}
-use Rattle.terms.proofs.Places.{size-pos}
-use Rattle.terms.proofs.Rename.{rename, renamed-twice}
-use Rattle.unify.specs.Unify.{Binding, mgu, under}
-use Rattle.unifier.specs.Arena.{Spells, same}
-use Rattle.unifier.specs.Steps.{at, arena}
-use Rattle.unifier.specs.Result.{Laid, LaidOut, Decided, Outcome, Solved}
-use Rattle.unifier.proofs.Starting.{laid-at}
-use Rattle.unifier.proofs.Verdict.{the-mgu, solved-image, solved-renames}
-use Rattle.unifier.proofs.Instance.{small-size, large-size, instance-renamed}
+use Rattle.unify.specs.Unify.{mgu}
 use Rattle.problem.specs.Problem.{ok, refused, _>>=_, refuse-if}
 use Rattle.problem.proofs.Fields.{bind-ok, bind-refused}
+use Rattle.completion.specs.Calls.{Single, Unified as Common, instance, no-instance, instance-too-large, parse-single, unified, enough, unify-call, after-unify}
 use Rattle.completion.proofs.Accepts.{single-fits}
-use Rattle.calls.proofs.Singles.{table, left-side, right-side}
-use Rattle.terms.proofs.Positions.{in-head, in-later}
-use Rattle.completion.specs.Calls.{Single, parse-single, instance, instance-too-large, unified, enough, unify-call, after-unify}
-use Rattle.calls.specs.Answers.{bytes-written, unified-told, unify-returns, Unifies, Sides, TwoSides, SidesUnify, instance-field, Spelt, WritesSpelt, SingleAt}
+use Rattle.single.specs.Places.{table, left-side, right-side, SidesAt}
+use Rattle.single.proofs.Singles.{left-starts, right-starts}
+use Rattle.instances.specs.Common.{found-of, Sides, TwoSides, SidesUnify}
+use Rattle.instances.specs.declared.Found.{Found}
+use Rattle.calls.specs.Answers.{unified-told, found-told, unify-returns, Unifies}
 use Rattle.calls.specs.declared.Unified.{Unified}
-use Rattle.calls.specs.declared.Unified.the-variants.{Instance, Nothing, TooLarge, Refused as NotUnified}
+use Rattle.calls.specs.declared.Unified.the-variants.{Refused as Unread}
 
--- the two sides as an arena
-module _ (l tab : List ℕ) (s t : Term) (k : Sides l tab s t) where
-  pub sides-laid : Laid l tab (cons s (cons t nil))
-  unfolding terms-bytes Wf
-  sides-laid = record { wf = (k .left, (k .right, tt)); bytes = k .bytes ∙ ap (λ (x : List ℕ). term-bytes s ++ x) (sym (append-nil (term-bytes t))) }
-
-  pub first-side : subterm-in (cons s (cons t nil)) 0 ≡ some s
-  first-side = in-head s (cons t nil) 0 refl
-
-  pub second-side : subterm-in (cons s (cons t nil)) (size s) ≡ some t
-  second-side = in-later s (cons t nil) (size s) 0 (omega arith) ∙ in-head t nil 0 refl
-
-  pub sides-length : length l ≡ size s + size t
-  sides-length = omega (arith, ap length (k .bytes), length-append (term-bytes s) (term-bytes t), length-bytes s, length-bytes t)
-
-  pub sides-spell : (b : ℕ) (ends cs zs : List ℕ) → Solved l tab 0 b ends cs zs → b ≡ size s →
-      Spells (arena l tab ends) same 0 s × Spells (arena l tab ends) same b t
-  sides-spell b ends cs zs h e = (
-    laid-at l tab ends (h .ended) (cons s (cons t nil)) sides-laid 0 s first-side,
-    laid-at l tab ends (h .ended) (cons s (cons t nil)) sides-laid b t (ap (subterm-in (cons s (cons t nil))) e ∙ second-side),
-  )
-
-  pub sides-decide : (b : ℕ) (r : Bool) → Decided l tab 0 b r → b ≡ size s → r ≡ is-some (mgu s t)
-  sides-decide b r h e = h (cons s (cons t nil)) sides-laid s t first-side (ap (subterm-in (cons s (cons t nil))) e ∙ second-side)
-
--- `common_instance` asks `unify`
-pub unify-asks : (l tab : List ℕ) (b : ℕ) → TwoSides l tab b →
-    ((length l ≤ 600) × (length l ≤ 240) × (length l ≤ 240) × (length l ≤ 240)) × (LaidOut l tab × (0 < length l) × (b < length l))
-unify-asks l tab b k =
-    let n = sides-length l tab (k .s) (k .t) (k .sides) in
-    let p = size-pos (k .s) in
-    let q = size-pos (k .t) in
-    let x = k .sides .small-left in
-    let y = k .sides .small-right in
-    ((omega arith, omega arith, omega arith, omega arith), ((cons (k .s) (cons (k .t) nil), sides-laid l tab (k .s) (k .t) (k .sides)), omega arith, omega (arith, k .begins)))
-
--- no instance
-none-is : (o : Option (List Binding)) → false ≡ is-some o → o ≡ none
-unfolding is-some
-none-is none e = refl
-none-is (some m) e = absurd (let z : _≡_ {A = ℕ} 0 1 = cc in omega arith)
-
-some-is : (o : Option (List Binding)) → true ≡ is-some o → (m : List Binding) × (o ≡ some m)
-unfolding is-some
-some-is none e = absurd (let z : _≡_ {A = ℕ} 0 1 = cc in omega arith)
-some-is (some m) e = (m, refl)
-
-pub answers-none : (l tab : List ℕ) (b : ℕ) (r : Bool) (d : List ℕ) → Decided l tab 0 b r → r ≡ false → SidesUnify l tab b Nothing d d
-unfolding unified unified-told unify-returns after-unify
-answers-none l tab b r d h z =
-    record {
-      unifies = λ s t k e.
-          let n : mgu s t ≡ none = none-is (mgu s t) (sym z ∙ sides-decide l tab s t k b r h e) in
-          rw n (record { told = refl; leaves = refl });
-    }
-
--- a common instance
-module _ (l tab : List ℕ) (b : ℕ) (ends cs zs : List ℕ) (h : Solved l tab 0 b ends cs zs) where
-  module _ (s t : Term) (k : Sides l tab s t) (e : b ≡ size s) (m : List Binding) (f : mgu s t ≡ some m) where
-    abbrev found : Term
-    found = subst-term (the-mgu l tab 0 b ends cs zs h) s
-
-    spelt : Spells (arena l tab ends) same 0 s
-    spelt = sides-spell l tab s t k b ends cs zs h e .0
-
-    renames-to : rename (under m s) ≡ rename found
-    renames-to = solved-renames l tab 0 b ends cs zs h s t spelt (sides-spell l tab s t k b ends cs zs h e .1) m f s
-
-    size-rename : (t : Term) → size (rename t) ≡ size t
-    unfolding rename
-    size-rename t = size-vars _ t
-
-    sizes-agree : size (under m s) ≡ size found
-    sizes-agree = sym (size-rename (under m s)) ∙ ap size renames-to ∙ size-rename found
-
-    large-found : 120 < at zs 0 → unified s (some m) ≡ instance-too-large
-    unfolding unified if_then_else_
-    large-found z = rw (lt-ltb 120 (size (under m s)) (omega (arith, sizes-agree, large-size l tab 0 b ends cs zs h 0 s spelt z))) refl
-
-    field-found : at zs 0 ≤ 120 → unified s (some m) ≡ instance (instance-field found)
-    unfolding unified if_then_else_ instance-field
-    field-found z =
-        rw (le-ltb 120 (size (under m s)) (omega (arith, sizes-agree, small-size l tab 0 b ends cs zs h 0 s spelt z)))
-        (ap (λ (x : List ℕ). instance (field-bytes (record { tag = 0x15; contents = x })))
-        (ap term-bytes (renamed-twice (under m s)) ∙ sym (instance-renamed l tab 0 b ends cs zs h 0 s spelt s t spelt (sides-spell l tab s t k b ends cs zs h e .1) m f)))
-
-  module _ (r : Bool) (a : Decided l tab 0 b r) (y : r ≡ true) where
-    the-found : (s t : Term) → Sides l tab s t → b ≡ size s → (m : List Binding) × (mgu s t ≡ some m)
-    the-found s t k e = some-is (mgu s t) (sym y ∙ sides-decide l tab s t k b r a e)
-
-    pub answers-large : 120 < at zs 0 → (d : List ℕ) → SidesUnify l tab b TooLarge d d
-    unfolding unified-told unify-returns after-unify
-    answers-large z d =
-        record {
-          unifies = λ s t k e.
-              let (m, f) = the-found s t k e in
-              let g : unified s (mgu s t) ≡ instance-too-large = ap (unified s) f ∙ large-found s t k e m f z in
-              rw g (record { told = refl; leaves = refl });
-        }
-
-    pub answers-instance : at zs 0 ≤ 120 → 0 < length l → (n : ℕ) (d d′ : List ℕ) → WritesSpelt l tab ends cs n d d′ → SidesUnify l tab b (Instance n) d d′
-    unfolding unified-told unify-returns after-unify
-    answers-instance z p n d d′ w =
-        record {
-          unifies = λ s t k e.
-              let (m, f) = the-found s t k e in
-              let (u, q, _) = h .sized .measured 0 p (h .known 0 p) in
-              let i : found s t k e m f ≡ u = solved-image l tab 0 b ends cs zs h 0 s u (spelt s t k e m f) q in
-              let g : unified s (mgu s t) ≡ instance (instance-field u) = ap (unified s) f ∙ field-found s t k e m f z ∙ ap (λ (x : Term). instance (instance-field x)) i in
-              rw g (record { told = ap bytes-written (w .count u q); leaves = w .leaves u q });
-        }
-
-  pub solved-spelt : at zs 0 ≤ 120 → 0 < length l → Spelt l tab ends cs
-  solved-spelt z p = let (u, q, i) = h .sized .measured 0 p (h .known 0 p) in record { term = u; spells = q; small = omega arith }
-
-pub outcome-solved : (l tab : List ℕ) (b : ℕ) (ends cs zs : List ℕ) (r : Bool) → Outcome l tab 0 b ends cs zs r → r ≡ true → Solved l tab 0 b ends cs zs
-outcome-solved l tab b ends cs zs true h e = h
-outcome-solved l tab b ends cs zs false h e = absurd (let z : _≡_ {A = ℕ} 0 1 = cc in omega arith)
+-- what is found for the definition's value is told as that value is
+found-returns : (u : Common) → found-told (found-of u) ≡ unify-returns (ok u)
+unfolding found-told found-of unify-returns
+found-returns (instance bytes) = refl
+found-returns no-instance = refl
+found-returns instance-too-large = refl
 
 -- `unify`
 module _ (l d : List ℕ) where
-  pub unify-short : length d < 16_384 → Unifies (unify-call l (length d)) (NotUnified 1 0) d d
+  pub unify-short : length d < 16_384 → Unifies (unify-call l (length d)) (Unread 1 0) d d
   unfolding unify-call enough refuse-if _>>=_ unified-told unify-returns after-unify
   unify-short h = let t : ltb (length d) 16_384 ≡ true = lt-ltb (length d) 16_384 h in rw t (record { told = refl; leaves = refl })
 
@@ -166,41 +44,41 @@ module _ (l d : List ℕ) where
     unfolding unify-call enough refuse-if _>>=_
     call-is = let t : ltb (length d) 16_384 ≡ false = le-ltb (length d) 16_384 room in rw t refl
 
-    pub unify-unread : (n p : ℕ) → parse-single l ≡ refused n p → Unifies (unify-call l (length d)) (NotUnified n p) d d
+    pub unify-unread : (n p : ℕ) → parse-single l ≡ refused n p → Unifies (unify-call l (length d)) (Unread n p) d d
     unfolding unified-told unify-returns after-unify
     unify-unread n p h = rw (call-is ∙ bind-refused _ h) (record { told = refl; leaves = refl })
 
-    module _ (e : ℕ) (S : Single) (A : SingleAt l e S) where
-      module _ (b c : ℕ) (first : (x : Term) → Starts (table l e) (drop (e + 10) l) x → b ≡ e + 10 + size x) (second : (x : Term) → Starts (table l e) (drop b l) x → c ≡ b + size x) where
-        second-starts : Starts (table l e) (drop b l) (right-side S)
-        second-starts = rw (first (left-side S) (A .left)) (A .right)
+    module _ (e a b c : ℕ) (S : Single) (A : SidesAt l e a b c S) where
+      both-bytes : take (c - a) (drop a l) ≡ term-bytes (left-side S) ++ term-bytes (right-side S)
+      both-bytes =
+          let s = left-starts l e a b c S A in
+          let t = right-starts l e a b c S A in
+          let n : length (term-bytes (left-side S) ++ term-bytes (right-side S)) ≡ c - a =
+          omega (arith, length-append (term-bytes (left-side S)) (term-bytes (right-side S)), length-bytes (left-side S), length-bytes (right-side S), A .right-is, A .end-is) in
+          let r : s .rest ≡ term-bytes (right-side S) ++ t .rest =
+          sym (drop-at (term-bytes (left-side S)) (s .rest) (size (left-side S)) (length-bytes (left-side S))) ∙ ap (drop (size (left-side S))) (sym (s .bytes)) ∙ drop-drop (size (left-side S)) a l
+          ∙ ap (λ (n : ℕ). drop n l) (sym (A .right-is)) ∙ t .bytes in
+          ap (take (c - a)) (s .bytes ∙ ap (λ (x : List ℕ). term-bytes (left-side S) ++ x) r ∙ sym (append-assoc (term-bytes (left-side S)) (term-bytes (right-side S)) (t .rest)))
+          ∙ take-at (term-bytes (left-side S) ++ term-bytes (right-side S)) (t .rest) (c - a) n
 
-        both-bytes : take (c - (e + 10)) (drop (e + 10) l) ≡ term-bytes (left-side S) ++ term-bytes (right-side S)
-        both-bytes =
-            let n : length (term-bytes (left-side S) ++ term-bytes (right-side S)) ≡ c - (e + 10) =
-            omega (arith, length-append (term-bytes (left-side S)) (term-bytes (right-side S)), length-bytes (left-side S), length-bytes (right-side S), first (left-side S) (A .left), second (right-side S) second-starts) in
-            let r : A .left .rest ≡ term-bytes (right-side S) ++ second-starts .rest =
-            sym (drop-at (term-bytes (left-side S)) (A .left .rest) (size (left-side S)) (length-bytes (left-side S))) ∙ ap (drop (size (left-side S))) (sym (A .left .bytes)) ∙ drop-drop (size (left-side S)) (e + 10) l
-            ∙ ap (λ (n : ℕ). drop n l) (sym (first (left-side S) (A .left))) ∙ second-starts .bytes in
-            ap (take (c - (e + 10))) (A .left .bytes ∙ ap (λ (x : List ℕ). term-bytes (left-side S) ++ x) r ∙ sym (append-assoc (term-bytes (left-side S)) (term-bytes (right-side S)) (second-starts .rest)))
-            ∙ take-at (term-bytes (left-side S) ++ term-bytes (right-side S)) (second-starts .rest) (c - (e + 10)) n
+      unify-sides : Sides (take (c - a) (drop a l)) (table l e) (left-side S) (right-side S)
+      unify-sides =
+          let k = single-fits l S (A .single .is) in
+          record {
+            left = widen 32 128 (table l e) (left-side S) (omega arith) (A .single .left .wf);
+            right = widen 32 128 (table l e) (right-side S) (omega arith) (A .single .right .wf);
+            small-left = k .fits .left .small;
+            small-right = k .fits .right .small;
+            bytes = both-bytes;
+          }
 
-        unify-sides : Sides (take (c - (e + 10)) (drop (e + 10) l)) (table l e) (left-side S) (right-side S)
-        unify-sides =
-            let k = single-fits l S (A .is) in
-            record {
-              left = widen 32 128 (table l e) (left-side S) (omega arith) (A .left .wf);
-              right = widen 32 128 (table l e) (right-side S) (omega arith) (A .right .wf);
-              small-left = k .fits .left .small;
-              small-right = k .fits .right .small;
-              bytes = both-bytes;
-            }
+      begins-at : b - a ≡ size (left-side S)
+      begins-at = omega (arith, A .right-is)
 
-        begins-at : b - (e + 10) ≡ size (left-side S)
-        begins-at = omega (arith, first (left-side S) (A .left))
+      pub unify-two : TwoSides (take (c - a) (drop a l)) (table l e) (b - a)
+      unify-two = record { s = left-side S; t = right-side S; sides = unify-sides; begins = begins-at }
 
-        pub unify-two : TwoSides (take (c - (e + 10)) (drop (e + 10) l)) (table l e) (b - (e + 10))
-        unify-two = record { s = (left-side S); t = (right-side S); sides = unify-sides; begins = begins-at }
-
-        pub unify-answers : (r : Unified) (d′ : List ℕ) → SidesUnify (take (c - (e + 10)) (drop (e + 10) l)) (table l e) (b - (e + 10)) r d d′ → Unifies (unify-call l (length d)) r d d′
-        unify-answers r d′ h = rw (call-is ∙ bind-ok _ (A .is)) (h .unifies (left-side S) (right-side S) unify-sides begins-at)
+      pub unify-answers : (f : Found) (r : Unified) (d′ : List ℕ) → SidesUnify (take (c - a) (drop a l)) (table l e) (b - a) f d d′ → unified-told r ≡ found-told f → Unifies (unify-call l (length d)) r d d′
+      unify-answers f r d′ h q =
+          let g = h .unifies (left-side S) (right-side S) unify-sides begins-at in
+          rw (call-is ∙ bind-ok _ (A .single .is)) (record { told = q ∙ ap found-told (g .answer) ∙ found-returns (unified (left-side S) (mgu (left-side S) (right-side S))); leaves = g .leaves })

@@ -1,24 +1,17 @@
 -- Document 01, "The result and settle": what `compare`, `unify` and `subterm` answer, by numbers and bytes. Assumes nothing.
 use mathlib.Core.Path.{_≡_}
 use mathlib.Core.Bool.{Bool, true}
-use mathlib.Core.List.{List, _++_}
+use mathlib.Core.List.{List}
 use mathlib.Core.Option.{Option, none, some}
 use Prim.Native.Nat.{ℕ, _+_, _-_, _≤_}
 use lib.Dec.{eqb, leb}
 use lib.ListN.{length, take, drop}
 use denote.Ref.{RefT}
-use Rattle.terms.specs.Term.{Term, size, term-bytes, subterm-at}
-use Rattle.terms.specs.Flat.{Wf, Starts}
-use Rattle.terms.specs.Base.{field-bytes}
-use Rattle.unifier.specs.Arena.{Spells}
-use Rattle.unifier.specs.Steps.{at, arena}
-use Rattle.naming.specs.Names.{renamed-bytes}
-use Rattle.unify.specs.Unify.{mgu}
+use Rattle.terms.specs.Term.{Term, size, subterm-at}
 use Rattle.problem.specs.Problem.{Reading, ok, refused}
-use Rattle.completion.specs.Calls.{Single, parse-single, subterm-call, Unified as Common, instance, no-instance, instance-too-large, unified, written, after-unify}
-use Rattle.problem.specs.Parser.{symbols-of, Table}
-use Rattle.problem.specs.declared.Read.{Read}
-use Rattle.problem.specs.declared.Read.the-variants.{Value, Refused}
+use Rattle.completion.specs.Calls.{parse-single, subterm-call, Unified as Common, instance, no-instance, instance-too-large, after-unify}
+use Rattle.instances.specs.declared.Found.{Found}
+use Rattle.instances.specs.declared.Found.the-variants.{Instance as Written, Nothing as None, TooLarge as Large}
 use Rattle.calls.specs.declared.Compared.{Compared}
 use Rattle.calls.specs.declared.Compared.the-variants.{LeftAbove, RightAbove, Identical, Neither, Refused as Unread}
 use Rattle.calls.specs.declared.Unified.{Unified}
@@ -45,6 +38,12 @@ unified-told Nothing = none-common
 unified-told TooLarge = number-only 22
 unified-told (NotUnified number place) = number-and-place number place
 
+-- the same of what `instances::common_instance` answers
+unfoldable pub found-told : Found → Returned
+found-told (Written count) = bytes-written count
+found-told None = none-common
+found-told Large = number-only 22
+
 unfoldable pub unify-returns : Reading Common → Returned
 unify-returns (ok (instance bytes)) = bytes-written (length bytes)
 unify-returns (ok no-instance) = none-common
@@ -55,56 +54,6 @@ unify-returns (refused n place) = number-and-place n place
 pub record Unifies (u : Reading Common) (r : Unified) (d d′ : List ℕ) : Type 0 where
   pub told : unified-told r ≡ unify-returns u
   pub leaves : d′ ≡ after-unify u d
-
--- nodes that are those of the two sides, one behind the other
-pub record Sides (l tab : List ℕ) (s t : Term) : Type 0 where
-  pub left : Wf 128 tab s
-  pub right : Wf 128 tab t
-  pub small-left : size s ≤ 120
-  pub small-right : size t ≤ 120
-  pub bytes : l ≡ term-bytes s ++ term-bytes t
-
--- "one field, tag 15"
-unfoldable pub instance-field : Term → List ℕ
-instance-field u = field-bytes (record { tag = 0x15; contents = renamed-bytes (term-bytes u) })
-
--- the second side begins at b
-pub record TwoSides (l tab : List ℕ) (b : ℕ) : Type 0 where
-  pub s : Term
-  pub t : Term
-  pub sides : Sides l tab s t
-  pub begins : b ≡ size s
-
-pub record SidesUnify (l tab : List ℕ) (b : ℕ) (r : Unified) (d d′ : List ℕ) : Type 0 where
-  pub unifies : (s t : Term) → Sides l tab s t → b ≡ size s → Unifies (ok (unified s (mgu s t))) r d d′
-
--- node 0 stands for a term of at most 120 nodes when each node is read at the root of its class
-pub record Spelt (l tab ends cs : List ℕ) : Type 0 where
-  pub term : Term
-  pub spells : Spells (arena l tab ends) (at cs) 0 term
-  pub small : size term ≤ 120
-
--- that term is written, renamed, in r bytes
-pub record WritesSpelt (l tab ends cs : List ℕ) (r : ℕ) (d d′ : List ℕ) : Type 0 where
-  pub count : (u : Term) → Spells (arena l tab ends) (at cs) 0 u → r ≡ length (instance-field u)
-  pub leaves : (u : Term) → Spells (arena l tab ends) (at cs) 0 u → d′ ≡ written (instance-field u) d
-
--- a problem with one equation field, whose table ends at e: where its sides start
-pub record SingleAt (l : List ℕ) (e : ℕ) (S : Single) : Type 0 where
-  pub is : parse-single l ≡ ok S
-  pub small : length l ≤ 8192
-  pub symbols-are : S .symbols ≡ symbols-of (take (e - 3) (drop 3 l))
-  pub table : Table (take (e - 3) (drop 3 l))
-  pub low : 5 ≤ e
-  pub high : e ≤ 35
-  pub within : e + 10 ≤ length l
-  pub first-is : S .equation .first ≡ e + 7
-  pub left : Starts (take (e - 3) (drop 3 l)) (drop (e + 10) l) (S .equation .sides .left)
-  pub right : Starts (take (e - 3) (drop 3 l)) (drop (e + 10 + size (S .equation .sides .left)) l) (S .equation .sides .right)
-
-abbrev pub IsSingle : List ℕ → Read → Type 0
-IsSingle l (Value e) = (S : Single) × SingleAt l e S
-IsSingle l (Refused n p) = parse-single l ≡ refused n p
 
 -- "Subterm takes lent problem bytes and a position in the left side of the only equation; it must hand back that part of the lent bytes."
 -- The part's first byte, counted from that of the lent bytes, and how many bytes it has.

@@ -1,6 +1,6 @@
 -- `named`: each of the numbers 1 to 4 is told by the answer that is returned for it. Assumes nothing.
--- Read first: specs/Answers (told), proofs/Singles.
-use Rattle.calls.proofs.Singles.{named-left, named-right, named-identical, named-neither}
+-- Read first: specs/Answers (told), proofs/Comparing.
+use Rattle.calls.proofs.Comparing.{named-left, named-right, named-identical, named-neither}
 use borrow.Author.Needs.{needs}
 use Rattle.calls.proofs.named.Statement.{statement}
 use Rattle.calls.proofs.named.Tie as tie

@@ -1,8 +1,8 @@
 -- `subterm`: the part that is handed back lies in the lent block at those bounds, and is empty only if refused. Assumes nothing.
--- Read first: specs/Answers (IsPart, PartAt), completion/specs/Calls (subterm-call), proofs/Singles.
+-- Read first: specs/Answers (IsPart, PartAt), completion/specs/Calls (subterm-call), proofs/Parts.
 use mathlib.Core.Path.{refl}
 use native.Mathlib.Omega.{arith}
-use Rattle.calls.proofs.Singles.{part-bytes, part-only}
+use Rattle.calls.proofs.Parts.{part-bytes, part-only}
 use borrow.Author.Needs.{needs}
 use Rattle.calls.proofs.subterm.Statement.{statement}
 use Rattle.calls.proofs.subterm.Tie as tie

@@ -1,11 +1,11 @@
 -- `write_instance`: the spelt term has at most 120 bytes, hence few names; written, renamed and put as a field: `spelt-written`. Assumes nothing.
--- Read first: specs/Answers (Spelt, WritesSpelt), proofs/Instances.
+-- Read first: specs/Common (Spelt, WritesSpelt), proofs/Instances.
 use native.Mathlib.Omega.{arith}
 use mathlib.Core.Path.{refl}
-use Rattle.calls.proofs.Instances.{spelt-room, spelt-few, prefix-length, rename-room, again-within, again-count, again-few, spelt-written}
+use Rattle.instances.proofs.Instances.{spelt-room, spelt-few, prefix-length, rename-room, again-within, again-count, again-few, spelt-written}
 use borrow.Author.Needs.{needs}
-use Rattle.calls.proofs.write_instance.Statement.{statement}
-use Rattle.calls.proofs.write_instance.Tie as tie
+use Rattle.instances.proofs.write_instance.Statement.{statement}
+use Rattle.instances.proofs.write_instance.Tie as tie
 
 write-requires : tie.Need-write-requires
 write-requires c κs = (c .before .before .before .before .before .before .pre .0, spelt-room _ _ _ _ (c .before .before .before .before .before .before .pre .1 .0))

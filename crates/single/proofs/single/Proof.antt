@@ -1,11 +1,11 @@
 -- `single`: a lemma for each of the five returns: refused by `parse`, no equation, no whole field there, one equation, more than one. Assumes
 -- nothing.
--- Read first: specs/Answers (IsSingle, SingleAt), proofs/Singles.
-use Rattle.calls.proofs.Singles.{single-unread, single-no-equation, single-not-due, single-one, single-more}
+-- Read first: specs/Places (IsSingle, SingleAt), proofs/Singles.
+use Rattle.single.proofs.Singles.{single-unread, single-no-equation, single-not-due, single-one, single-more}
 use native.Mathlib.Omega.{arith}
 use borrow.Author.Needs.{needs}
-use Rattle.calls.proofs.single.Statement.{statement}
-use Rattle.calls.proofs.single.Tie as tie
+use Rattle.single.proofs.single.Statement.{statement}
+use Rattle.single.proofs.single.Tie as tie
 
 returns : tie.Need-returns
 returns c = let A = rw (c .before .before .table-end .given .1) at (c .before .before .before .before .parse .ensures .1) in single-no-equation _ _ _ _ _ (A .1) (c .if1 .taken)

@@ -1,5 +1,5 @@
 -- The term that node 0 spells is written, renamed, as a field of tag 15: lemmas for `put_field` and `write_instance`. Assumes nothing.
--- Read first: specs/Answers (Spelt, WritesSpelt, instance-field), naming/specs/Names (renamed-bytes).
+-- Read first: specs/Common (Spelt, WritesSpelt, instance-field), naming/specs/Names (renamed-bytes).
 use mathlib.Core.Path.{_≡_, ap, ap₂, sym, _∙_}
 use mathlib.Core.List.{List, [], _∷_, _++_, append-nil}
 use Prim.Native.Nat.{ℕ, suc, _+_, _-_, _≤_}
@@ -19,7 +19,7 @@ use Rattle.naming.proofs.Few.{collect-few}
 use Rattle.unifier.specs.Written.{put, Writes}
 use Rattle.unifier.proofs.Writing.{put-reads}
 use Rattle.completion.specs.Calls.{written}
-use Rattle.calls.specs.Answers.{instance-field, Spelt, WritesSpelt}
+use Rattle.instances.specs.Common.{instance-field, Spelt, WritesSpelt}
 
 -- `put_field`
 small-number : (n : ℕ) → n ≤ 120 → number-bytes 2 n ≡ 0 ∷ n ∷ []

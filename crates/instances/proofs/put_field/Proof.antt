@@ -2,10 +2,10 @@
 -- Read first: terms/specs/Base (field-bytes), completion/specs/Calls (written), proofs/Instances.
 use native.Mathlib.Omega.{arith}
 use lib.ListN.{length}
-use Rattle.calls.proofs.Instances.{header-length, field-length, field-put, field-same, copy-room}
+use Rattle.instances.proofs.Instances.{header-length, field-length, field-put, field-same, copy-room}
 use borrow.Author.Needs.{needs}
-use Rattle.calls.proofs.put_field.Statement.{statement}
-use Rattle.calls.proofs.put_field.Tie as tie
+use Rattle.instances.proofs.put_field.Statement.{statement}
+use Rattle.instances.proofs.put_field.Tie as tie
 
 slice-write-result-2 : tie.Need-slice-write-result-2
 slice-write-result-2 c = omega (arith, header-length (c .before .before .args .result .now) (length (c .before .before .args .contents .now)))

@@ -1,9 +1,9 @@
 -- `common_instance`: `unifier::unify` decides; too large by the size of node 0, else its term is written: a lemma for each return. Assumes nothing.
--- Read first: specs/Answers (TwoSides, SidesUnify), proofs/Unifying.
-use Rattle.calls.proofs.Unifying.{unify-asks, outcome-solved, solved-spelt, answers-none, answers-large, answers-instance}
+-- Read first: specs/Common (TwoSides, SidesUnify), proofs/Unifying.
+use Rattle.instances.proofs.Unifying.{unify-asks, outcome-solved, solved-spelt, answers-none, answers-large, answers-instance}
 use borrow.Author.Needs.{needs}
-use Rattle.calls.proofs.common_instance.Statement.{statement}
-use Rattle.calls.proofs.common_instance.Tie as tie
+use Rattle.instances.proofs.common_instance.Statement.{statement}
+use Rattle.instances.proofs.common_instance.Tie as tie
 
 unify-requires : tie.Need-unify-requires
 unify-requires c κs = unify-asks _ _ _ (c .before .before .before .before .before .before .pre .0)

@@ -1,0 +1,72 @@
+-- What `named` and `compare` tell: a lemma for each return. Assumes nothing.
+-- Read first: specs/Answers (told), single/specs/Places (SidesAt), order/specs/Walk (IsCompared).
+use mathlib.Core.Path.{_≡_, ap, sym, _∙_}
+use mathlib.Core.Bool.{Bool, true, false}
+use mathlib.Core.List.{List}
+use Prim.Native.Nat.{ℕ, _≤_}
+use native.Mathlib.Omega.{arith}
+use lib.ListN.{length, length-drop}
+use Rattle.terms.specs.Base.{if_then_else_}
+use Rattle.terms.specs.Term.{Term, same}
+use Rattle.terms.proofs.Starts.{from, from-drop}
+use Rattle.order.specs.Order.{above, comparison}
+use Rattle.order.specs.Walk.{rank, IsCompared}
+use Rattle.problem.specs.Problem.{ok, refused, Symbol, rank-of}
+use Rattle.problem.proofs.Fields.{bind-ok, bind-refused}
+use Rattle.completion.specs.Calls.{Single, parse-single, compare-call}
+use Rattle.completion.proofs.Ranks.{ranks-are}
+use Rattle.single.specs.Places.{table, left-side, right-side, SidesAt}
+use Rattle.single.proofs.Singles.{left-starts, right-starts}
+use Rattle.calls.specs.Answers.{told}
+use Rattle.calls.specs.declared.Compared.{Compared}
+use Rattle.calls.specs.declared.Compared.the-variants.{LeftAbove, RightAbove, Identical, Neither, Refused as Unread}
+
+-- `named` and `compare`
+pub named-left : (n : ℕ) → n ≡ 1 → told LeftAbove ≡ ok n
+unfolding told
+named-left n h = ap ok (sym h)
+
+pub named-right : (n : ℕ) → n ≡ 2 → told RightAbove ≡ ok n
+unfolding told
+named-right n h = ap ok (sym h)
+
+pub named-identical : (n : ℕ) → n ≡ 3 → told Identical ≡ ok n
+unfolding told
+named-identical n h = ap ok (sym h)
+
+pub named-neither : (n : ℕ) → n ≡ 4 → told Neither ≡ ok n
+unfolding told
+named-neither n h = ap ok (sym h)
+
+range : (r : ℕ → ℕ) (s t : Term) → (1 ≤ comparison r s t) × (comparison r s t ≤ 4)
+unfolding comparison if_then_else_
+range r s t = go (above r s t) (above r t s) (same s t)
+  where
+    go : (a b d : Bool) → (1 ≤ (if a then 1 else if b then 2 else if d then 3 else 4)) × ((if a then 1 else if b then 2 else if d then 3 else 4) ≤ 4)
+    go true b d = (omega arith, omega arith)
+    go false true d = (omega arith, omega arith)
+    go false false true = (omega arith, omega arith)
+    go false false false = (omega arith, omega arith)
+
+pub part-small : (l : List ℕ) (a : ℕ) → length l ≤ 8192 → length (from l a) ≤ 65536
+part-small l a h = omega (arith, ap length (from-drop l a), length-drop a l)
+
+module _ (l : List ℕ) where
+  pub compare-unread : (n p : ℕ) → parse-single l ≡ refused n p → told (Unread n p) ≡ compare-call l
+  unfolding told compare-call
+  compare-unread n p h = sym (bind-refused _ h)
+
+  module _ (e a b c : ℕ) (S : Single) (A : SidesAt l e a b c S) where
+    module _ (n : ℕ) (h : IsCompared (table l e) (from l a) (from l b) n) where
+      compared : n ≡ comparison (rank (table l e)) (left-side S) (right-side S)
+      compared = h (left-side S) (right-side S) (rw (from-drop l a) (left-starts l e a b c S A)) (rw (from-drop l b) (right-starts l e a b c S A))
+
+      pub compare-range : (1 ≤ n) × (n ≤ 4)
+      compare-range = rw compared (range (rank (table l e)) (left-side S) (right-side S))
+
+      pub compare-read : (r : Compared) → told r ≡ ok n → told r ≡ compare-call l
+      unfolding compare-call
+      compare-read r q =
+          q ∙ ap ok (compared ∙ ap (λ (f : ℕ → ℕ). comparison f (left-side S) (right-side S)) (sym (ranks-are (table l e) (A .single .known)))
+          ∙ ap (λ (Σ : List Symbol). comparison (rank-of Σ) (left-side S) (right-side S)) (sym (A .single .symbols-are)))
+          ∙ sym (bind-ok _ (A .single .is))

@@ -1,0 +1,70 @@
+// The most general common instance of two terms, renamed, as a field of the result.
+ghost use mathlib.Core.Path.{_≡_};
+ghost use Prim.Native.Nat.{_≤_};
+ghost use lib.ListN.{length};
+ghost use Rattle.terms.specs.Base.{field-bytes};
+ghost use Rattle.unifier.specs.Steps.{Ready};
+ghost use Rattle.completion.specs.Calls.{written};
+ghost use Rattle.instances.specs.Common.{TwoSides, SidesUnify, Spelt, WritesSpelt};
+
+// Writes a field of tag 15 (hexadecimal) with these contents, and answers how many bytes it has.
+fn put_field(contents: &[u8], result: &mut [u8]) -> usize
+    requires { ⌜ (length (now contents) ≤ 120) × (123 ≤ length (now result)) ⌝ }
+    ensures { λ r. ⌜ r ≡ length (field-bytes (record { tag = 0x15; contents = now (contents .entry) })) ⌝ }
+    ensures { λ r. ⌜ now (result .exit) ≡ written (field-bytes (record { tag = 0x15; contents = now (contents .entry) })) (now (result .entry)) ⌝ }
+{
+    let n = contents.len();
+    result[0] = 0x15;
+    result[1] = 0;
+    result[2] = n as u8;
+    bytes::copy(contents, &mut result[3..]);
+    n + 3
+}
+
+// Writes the instance of the term at node 0, renamed.
+fn write_instance(
+    nodes: &[u8],
+    table: &[u8],
+    ends: &[u16],
+    class: &[u16],
+    result: &mut [u8],
+) -> usize
+    requires { ⌜ Ready (now nodes) (now table) (now ends) (now class) ⌝ }
+    requires { ⌜ Spelt (now nodes) (now table) (now ends) (now class) ⌝ }
+    requires { ⌜ 123 ≤ length (now result) ⌝ }
+    ensures { λ r. ⌜ WritesSpelt (now (nodes .entry)) (now (table .entry)) (now (ends .entry)) (now (class .entry)) r (now (result .entry)) (now (result .exit)) ⌝ }
+{
+    let mut out = [0u8; 120];
+    let n = unifier::write(nodes, table, ends, class, 0, 1, &mut out, 0);
+    let mut names = [0u8; 120];
+    naming::rename(&mut out[..n], &mut names);
+    put_field(&out[..n], result)
+}
+
+pub enum Found {
+    // The instance was written, so many bytes of the result.
+    Instance(usize),
+    // There is none.
+    Nothing,
+    // It has over 120 nodes.
+    TooLarge,
+}
+
+// The most general common instance of the terms at nodes 0 and b.
+pub fn common_instance(nodes: &[u8], table: &[u8], b: usize, result: &mut [u8]) -> Found
+    requires { ⌜ TwoSides (now nodes) (now table) b ⌝ }
+    requires { ⌜ 123 ≤ length (now result) ⌝ }
+    ensures { λ r. ⌜ SidesUnify (now (nodes .entry)) (now (table .entry)) b r (now (result .entry)) (now (result .exit)) ⌝ }
+{
+    let mut ends = [0u16; 240];
+    let mut class = [0u16; 240];
+    let mut sizes = [0u8; 240];
+    if unifier::unify(nodes, table, 0, b, &mut ends, &mut class, &mut sizes) {
+        if sizes[0] > 120 {
+            return Found::TooLarge;
+        }
+        let n = write_instance(nodes, table, &ends, &class, result);
+        return Found::Instance(n);
+    }
+    Found::Nothing
+}
