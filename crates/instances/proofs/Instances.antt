@@ -4,7 +4,7 @@ use mathlib.Core.Path.{_≡_, ap, ap₂, sym, _∙_}
 use mathlib.Core.List.{List, [], _∷_, _++_, append-nil}
 use Prim.Native.Nat.{ℕ, suc, _+_, _-_, _≤_}
 use native.Mathlib.Omega.{arith}
-use lib.ListN.{length, take, drop, set, length-append, length-drop, length-take, length-set}
+use lib.ListN.{length, take, drop, set, length-drop, length-take, length-set}
 use lib.Seq.{take-length, drop-length, take-at, take-all, length-take-le}
 use Rattle.completion.proofs.Writing.{written-length}
 use Rattle.terms.specs.Base.{number-bytes, field-bytes}
@@ -59,6 +59,9 @@ pub copy-room : (n : ℕ) (d : List ℕ) → n ≤ 120 → 123 ≤ length d → 
 copy-room n d few room = simp (length-take, length-drop, length-set) (omega arith)
 
 -- `write_instance`
+pub front-room : (n : ℕ) (l : List ℕ) → n ≤ 120 → length l ≡ 120 → (n ≤ length l) × (n ≤ 240) × (length (collect [] (take n l)) ≤ 127)
+front-room n l h k = (omega arith, omega arith, omega (arith, collect-few [] (take n l), length-take n l))
+
 module _ (l tab ends cs : List ℕ) (k : Spelt l tab ends cs) where
   pub spelt-room : (us : Terms) × SpellsAll (arena l tab ends) (at cs) 0 1 us × (0 + sizes us ≤ 120)
   unfolding sizes
@@ -80,30 +83,15 @@ module _ (l tab ends cs : List ℕ) (k : Spelt l tab ends cs) where
         ∙ ap (take (length (term-bytes u))) (w .bytes (cons u nil) (more p no-more) ∙ ap (λ (x : List ℕ). put 0 x d) (append-nil (term-bytes u)))
         ∙ put-reads (term-bytes u) d (omega (arith, spelt-few .0))
 
-    pub prefix-length : r ≡ length (take r e)
-    prefix-length = sym (length-take-le r e (omega (arith, spelt-few .0, spelt-few .1)))
-
-    pub rename-room : (length (take r e) ≤ 120) × (length (collect [] (take r e)) ≤ 127)
-    rename-room = (omega (arith, prefix-length, spelt-few .0), omega (arith, prefix-length, spelt-few .0, collect-few [] (take r e)))
-
-    module _ (q : List ℕ) (h : q ≡ renamed-bytes (take r e)) where
-      pub again-length : length q ≡ r
-      again-length = ap length h ∙ length-renamed (take r e) ∙ sym prefix-length
-
-      pub again-within : r ≤ length (q ++ drop r e)
-      again-within = omega (arith, again-length, length-append q (drop r e))
-
-      pub again-count : r ≡ length (take r (q ++ drop r e))
-      again-count = sym (length-take-le r (q ++ drop r e) again-within)
-
-      pub again-few : length (take r (q ++ drop r e)) ≤ 120
-      again-few = omega (arith, again-count, spelt-few .0)
+    module _ (q : List ℕ) (h : q ≡ renamed-bytes (take r e) ++ drop r e) where
+      front-is : take r q ≡ renamed-bytes (take r e)
+      front-is = ap (take r) h ∙ take-at (renamed-bytes (take r e)) (drop r e) r (length-renamed (take r e) ∙ length-take-le r e (omega (arith, spelt-few .0, spelt-few .1)))
 
       pub spelt-written : (n : ℕ) (d₀ d₁ : List ℕ) →
-          (n ≡ length (field-bytes (record { tag = 0x15; contents = take r (q ++ drop r e) }))) × (d₁ ≡ written (field-bytes (record { tag = 0x15; contents = take r (q ++ drop r e) })) d₀) →
+          (n ≡ length (field-bytes (record { tag = 0x15; contents = take r q }))) × (d₁ ≡ written (field-bytes (record { tag = 0x15; contents = take r q })) d₀) →
           WritesSpelt l tab ends cs n d₀ d₁
       unfolding instance-field
       spelt-written n d₀ d₁ f =
-          let c : (u : Term) → Spells (arena l tab ends) (at cs) 0 u → take r (q ++ drop r e) ≡ renamed-bytes (term-bytes u)
-          = λ u p. take-at q (drop r e) r again-length ∙ h ∙ ap renamed-bytes (spelt-bytes u p) in
+          let c : (u : Term) → Spells (arena l tab ends) (at cs) 0 u → take r q ≡ renamed-bytes (term-bytes u)
+          = λ u p. front-is ∙ ap renamed-bytes (spelt-bytes u p) in
           record { count = λ u p. rw (c u p) at (f .0); leaves = λ u p. rw (c u p) at (f .1) }

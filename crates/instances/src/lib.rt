@@ -36,8 +36,7 @@ fn write_instance(
 {
     let mut out = [0u8; 120];
     let n = unifier::write(nodes, table, ends, class, 0, 1, &mut out, 0);
-    let mut names = [0u8; 120];
-    naming::rename(&mut out[..n], &mut names);
+    naming::rename_front(&mut out, n);
     put_field(&out[..n], result)
 }
 

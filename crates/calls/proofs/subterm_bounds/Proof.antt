@@ -11,7 +11,7 @@ sub-if1 : tie.Need-sub-if1
 sub-if1 c = let A = rw (c .before .table-end .given .1) at (c .before .before .before .sides .ensures) in omega (arith, in-order _ _ _ _ _ _ (A .1))
 
 returns : tie.Need-returns
-returns c = let A = rw (c .before .before .table-end .given .1) at (c .before .before .before .before .sides .ensures) in bounds-past _ _ _ _ _ _ _ (A .1) (c .if1 .taken)
+returns c = let A = rw (c .before .before .table-end .given .1) at (c .before .before .before .before .sides .ensures) in bounds-past _ _ _ _ _ _ _ (A .1) (omega (arith, c .if1 .taken))
 
 add-s : tie.Need-add-s
 add-s c = let A = rw (c .before .before .table-end .given .1) at (c .before .before .before .before .sides .ensures) in omega (arith, in-order _ _ _ _ _ _ (A .1))
