@@ -11,8 +11,8 @@ use Rattle.terms.specs.Base.{number-bytes, field-bytes}
 use Rattle.terms.specs.Term.{Term, Terms, nil, cons, size, sizes, term-bytes, terms-bytes}
 use Rattle.terms.proofs.Bytes.{length-bytes}
 use Rattle.terms.proofs.Limits.{length-field-bytes}
-use Rattle.unifier.specs.Arena.{Spells, SpellsAll, none as no-more, more}
-use Rattle.unifier.specs.Steps.{at, arena}
+use Rattle.classes.specs.Arena.{Spells, SpellsAll, none as no-more, more}
+use Rattle.classes.specs.Steps.{at, arena}
 use Rattle.naming.specs.Names.{collect, renamed-bytes}
 use Rattle.naming.proofs.Renaming.{length-renamed}
 use Rattle.naming.proofs.Few.{collect-few}

@@ -17,8 +17,8 @@ use Rattle.terms.proofs.Limits.{size-vars}
 use Rattle.terms.proofs.Places.{size-pos}
 use Rattle.terms.proofs.Rename.{rename, renamed-twice}
 use Rattle.unify.specs.Unify.{Binding, mgu, under}
-use Rattle.unifier.specs.Arena.{Spells, same}
-use Rattle.unifier.specs.Steps.{at, arena}
+use Rattle.classes.specs.Arena.{Spells, same}
+use Rattle.classes.specs.Steps.{at, arena}
 use Rattle.unifier.specs.Result.{Laid, LaidOut, Decided, Outcome, Solved}
 use Rattle.unifier.proofs.Starting.{laid-at}
 use Rattle.unifier.proofs.Verdict.{the-mgu, solved-image, solved-renames}

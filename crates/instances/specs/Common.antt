@@ -6,8 +6,8 @@ use lib.ListN.{length}
 use Rattle.terms.specs.Term.{Term, size, term-bytes}
 use Rattle.terms.specs.Flat.{Wf}
 use Rattle.terms.specs.Base.{field-bytes}
-use Rattle.unifier.specs.Arena.{Spells}
-use Rattle.unifier.specs.Steps.{at, arena}
+use Rattle.classes.specs.Arena.{Spells}
+use Rattle.classes.specs.Steps.{at, arena}
 use Rattle.naming.specs.Names.{renamed-bytes}
 use Rattle.unify.specs.Unify.{mgu}
 use Rattle.problem.specs.Problem.{ok}

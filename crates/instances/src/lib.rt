@@ -3,7 +3,7 @@ ghost use mathlib.Core.Path.{_≡_};
 ghost use Prim.Native.Nat.{_≤_};
 ghost use lib.ListN.{length};
 ghost use Rattle.terms.specs.Base.{field-bytes};
-ghost use Rattle.unifier.specs.Steps.{Ready};
+ghost use Rattle.classes.specs.Steps.{Ready};
 ghost use Rattle.completion.specs.Calls.{written};
 ghost use Rattle.instances.specs.Common.{TwoSides, SidesUnify, Spelt, WritesSpelt};
 

@@ -1,4 +1,2 @@
-pub mod Arena
-pub mod Steps
 pub mod Result
 pub mod Written
