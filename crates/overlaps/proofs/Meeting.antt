@@ -84,7 +84,7 @@ never-mgu s t n = go (mgu (apart s) t) refl
     go none e = refl
     go (some m) e = absurd (n (λ x. unifier m (16 + x)) (unifier m) (sym (subst-subst (unifier m) (λ x. var (16 + x)) s) ∙ mgu-right (apart s) t m e .unifies))
 
--- the subterm at p of a left side begins p bytes behind it
+-- the subterm at p of a left side stands at p in its bytes
 stands-at : (tab l r : List ℕ) (p : ℕ) (o : Pair) (u : Term) → Sides 16 tab l r o → subterm-at (o .left) p ≡ some u → Starts tab (drop p l) u
 stands-at tab l r p o u d e =
     starts-inside tab l (o .left) p u
@@ -101,7 +101,7 @@ module _ (tab l₁ r₁ l₂ r₂ : List ℕ) (p : ℕ) (L R : List ℕ) where
         (overlap-is i o p (m .0) (m .1) (m .2) ∙ ap (instances (o .left) (replace-at (o .left) p (apart (i .right))) (o .right)) (never-mgu (i .left) (node (m .0) (m .1)) n));
   }
 
--- the byte there is a variable's or a symbol's
+-- the byte where a term begins is a variable's or a symbol's
 abbrev Begins : ℕ → Term → Type 0
 Begins b (var x) = b ≡ 128 + x
 Begins b (node f ts) = b < 16
@@ -122,7 +122,7 @@ overlap-variable : (i o : Pair) (p x : ℕ) → subterm-at (o .left) p ≡ some 
 unfolding overlap overlap-at
 overlap-variable i o p x e = ap (overlap-at i o p) e
 
--- behind the end of the outer left side
+-- there is no overlap behind the end of the outer left side
 pub overlap-behind : (i o : Pair) (p : ℕ) → size (o .left) ≤ p → overlap i o p ≡ none
 overlap-behind i o p h = go (subterm-at (o .left) p) refl
   where
