@@ -13,15 +13,14 @@ use Rattle.terms.specs.Base.{if_then_else_, is-some, field-bytes}
 use Rattle.terms.specs.Term.{Term, nil, cons, size, term-bytes, terms-bytes, subterm-in, subst-term}
 use Rattle.terms.specs.Flat.{Wf}
 use Rattle.terms.proofs.Bytes.{length-bytes}
-use Rattle.terms.proofs.Limits.{size-vars}
 use Rattle.terms.proofs.Places.{size-pos}
-use Rattle.terms.proofs.Rename.{rename, renamed-twice}
+use Rattle.terms.proofs.Rename.{renamed-twice}
 use Rattle.unify.specs.Unify.{Binding, mgu, under}
 use Rattle.classes.specs.Arena.{Spells, same}
 use Rattle.classes.specs.Steps.{at, arena}
 use Rattle.unifier.specs.Result.{Laid, LaidOut, Decided, Outcome, Solved}
 use Rattle.unifier.proofs.Starting.{laid-at}
-use Rattle.unifier.proofs.Verdict.{the-mgu, solved-image, solved-renames}
+use Rattle.unifier.proofs.Verdict.{the-mgu, solved-image, solved-sizes}
 use Rattle.unifier.proofs.Instance.{small-size, large-size, instance-renamed}
 use Rattle.terms.proofs.Positions.{in-head, in-later}
 use Rattle.completion.specs.Calls.{instance, instance-too-large, unified, after-unify}
@@ -93,15 +92,8 @@ module _ (l tab : List ℕ) (b : ℕ) (ends cs zs : List ℕ) (h : Solved l tab 
     spelt : Spells (arena l tab ends) same 0 s
     spelt = sides-spell l tab s t k b ends cs zs h e .0
 
-    renames-to : rename (under m s) ≡ rename found
-    renames-to = solved-renames l tab 0 b ends cs zs h s t spelt (sides-spell l tab s t k b ends cs zs h e .1) m f s
-
-    size-rename : (t : Term) → size (rename t) ≡ size t
-    unfolding rename
-    size-rename t = size-vars _ t
-
     sizes-agree : size (under m s) ≡ size found
-    sizes-agree = sym (size-rename (under m s)) ∙ ap size renames-to ∙ size-rename found
+    sizes-agree = solved-sizes l tab 0 b ends cs zs h s t spelt (sides-spell l tab s t k b ends cs zs h e .1) m f s
 
     large-found : 120 < at zs 0 → unified s (some m) ≡ instance-too-large
     unfolding unified if_then_else_

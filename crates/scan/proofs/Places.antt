@@ -3,7 +3,6 @@
 use mathlib.Core.Path.{_≡_, refl, sym, _∙_, ap, subst}
 use mathlib.Core.Bool.{Bool, true, false}
 use mathlib.Core.List.{List, [], _∷_, _++_}
-use mathlib.Core.Option.{Option, none, some}
 use Prim.Native.Nat.{ℕ, suc, _+_, _-_, _*_, _<_, _≤_}
 use native.Mathlib.Nat.{sub-zero}
 use native.Mathlib.Omega.{arith}
@@ -13,10 +12,10 @@ use lib.ListN.{length, getD, take, drop, drop-of-length-le}
 use lib.Seq.{length-take-le, take-suc, drop-cons, getD-take}
 use borrow.Author.Tests.{ltb-true, ltb-false, lt-ltb, le-ltb}
 use Rattle.terms.specs.Base.{count-from, if_then_else_}
-use Rattle.terms.specs.Term.{Term, Pair, size, subterm-at}
-use Rattle.terms.proofs.Positions.{subterm-below}
-use Rattle.rewriting.specs.Overlap.{Rule, overlap, overlap-at, Place, places, positions, places-with, places-self, all-places}
+use Rattle.terms.specs.Term.{size}
+use Rattle.rewriting.specs.Overlap.{Rule, Place, places, positions, places-with, places-self, all-places}
 use Rattle.rewriting.specs.Rewrite.{Paying}
+use Rattle.overlaps.proofs.Meeting.{overlap-behind}
 use Rattle.completion.specs.Turn.{Candidate, scan, scan-inputs}
 use Rattle.scan.specs.declared.spots.Spot.{Spot}
 use Rattle.scan.specs.Walk.{visit, visits, rule-at, no-rule, at-place, of-rules}
@@ -32,15 +31,6 @@ pub scan-visits : (rs : List Rule) (cs : List Candidate) (ps : List Place) → s
 unfolding scan visits visit
 scan-visits rs cs [] = refl
 scan-visits rs cs (p ∷ ps) = ap (visit rs p) (scan-visits rs cs ps)
-
--- there is no overlap behind the end of the outer rule's left side
-none-behind : (i o : Pair) (p : ℕ) → size (o .left) ≤ p → overlap i o p ≡ none
-unfolding overlap overlap-at
-none-behind i o p l = go (subterm-at (o .left) p) refl
-  where
-    go : (v : Option Term) → subterm-at (o .left) p ≡ v → overlap-at i o p (subterm-at (o .left) p) ≡ none
-    go none e = ap (overlap-at i o p) e
-    go (some u) e = absurd (omega (arith, subterm-below (o .left) p u e))
 
 abbrev spot : ℕ → ℕ → ℕ → Spot
 spot i o p = record { inner = i; outer = o; position = p }
@@ -73,7 +63,7 @@ module _ (rs : List Rule) where
           let l : left-size o ≤ p = ltb-false _ _ e in
           let n : left-size o - p ≡ 0 = omega arith in
           let m : left-size o - (p + 1) ≡ 0 = omega arith in
-          rw (n, m) (sym (visit-none rs place next (none-behind _ _ p l)))
+          rw (n, m) (sym (visit-none rs place next (overlap-behind _ _ p l)))
 
   all-positions : (i o : ℕ) (next : Paying Candidate) → visits rs (places (rule-at rs i) (rule-at rs o) (positions (rule-at rs o))) next ≡ at-positions i o 0 rs next
   unfolding at-positions positions
