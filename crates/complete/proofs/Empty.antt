@@ -15,7 +15,7 @@ use Rattle.completion.specs.Calls.{end-number, entry-field, result-bytes}
 use Rattle.completion.proofs.Turning.{turn-unpaid, turn-stops, run-begins, run-ends}
 use Rattle.making.specs.Made.{stop-code}
 use Rattle.making.proofs.Verdicts.{not-neither}
-use Rattle.turn.proofs.Whole.{nothing}
+use Rattle.terms.proofs.Lists.{nothing}
 use Rattle.report.specs.Fields.{Writes}
 use Rattle.report.specs.Report.{Reports}
 use Rattle.complete.specs.Answer.{WritesNothing, WritesEmpty, WritesProblem}

@@ -12,6 +12,7 @@ use lib.ListN.{length}
 use borrow.Author.Tests.{le-leb, lt-leb, lt-ltb, le-ltb}
 use Rattle.terms.specs.Base.{if_then_else_}
 use Rattle.terms.specs.Term.{Pair, same, pair-variables}
+use Rattle.rewriting.proofs.Holds.{and-then-assoc}
 use Rattle.rewriting.specs.Overlap.{Rule, overlap, Place, all-places}
 use Rattle.rewriting.specs.Rewrite.{End, spent, too-large, rules-full, log-full, Paid, done, stop, Paying, return, end-with, and-then, _>>=_, end-if, pay, normalise-pair}
 use Rattle.problem.specs.Problem.{Problem}
@@ -55,13 +56,7 @@ module _ (P : Problem) (s : State) (units : ℕ) where
     unfolding if_then_else_
     turn-makes few e = past-log few ∙ ap (λ b. (if b then return (settled s t) else make-rule P s t) left) e
 
--- Steps 4 to 7.
-and-then-assoc : {A B C : Type 0} (p : Paid A) (f : A → Paying B) (g : B → Paying C) → and-then (and-then p f) g ≡ and-then p (λ a left. and-then (f a left) g)
-unfolding and-then
-and-then-assoc (done a left) f g = refl
-and-then-assoc (stop e left) f g = refl
-
--- the first lines of `make-rule`: the variables are counted, and the pair is oriented
+-- Steps 4 to 7. The first lines of `make-rule`: the variables are counted, and the pair is oriented
 abbrev pub oriented : Problem → Pair → Paying Pair
 oriented P e = end-if (ltb 16 (length (pair-variables e))) too-large >>= λ _. orient P e
 

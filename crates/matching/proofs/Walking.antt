@@ -18,6 +18,7 @@ use Rattle.terms.proofs.Places.{size-pos}
 use Rattle.terms.proofs.Shape.{Says, eqb-says}
 use Rattle.unify.specs.Unify.{Binding}
 use Rattle.rewriting.specs.Rewrite.{bound, bind-to, matching, matching-all}
+use Rattle.rewriting.proofs.Matching.{after}
 use Rattle.matching.specs.Cells.{cells, cells-all, Stands}
 use Rattle.matching.specs.Held.{Slot, Rep, Within, Cleared, BoundTo, Advanced, Answers, Matched}
 use Rattle.matching.proofs.Celled.{length-cells, cell-byte}
@@ -26,9 +27,6 @@ use Rattle.matching.proofs.Clearing.{cleared-within}
 unfoldable pub join : Terms → Terms → Terms
 join nil us = us
 join (cons t ts) us = cons t (join ts us)
-
-abbrev after : Option (List Binding) → (List Binding → Option (List Binding)) → Option (List Binding)
-after o k = elim o [ none ↦ none | some bs ↦ k bs ]
 
 after-some : (o : Option (List Binding)) (k : List Binding → Option (List Binding)) → ((bs : List Binding) → k bs ≡ some bs) → after o k ≡ o
 after-some none k h = refl

@@ -1,16 +1,15 @@
 -- Well-formed terms have symbols below 128; the renamed bytes of two sides are those of the renamed pair, which is well-formed. Assumes nothing.
 -- Read first: terms/specs/Flat (Wf), terms/specs/Term (renamed), proofs/Renaming (renamed-terms).
-use mathlib.Core.Path.{_≡_, refl, sym, ap, _∙_}
-use mathlib.Core.List.{List, _++_, append-nil, List·Memᴰ·head, Memᴰ·append-left, Memᴰ·append-right}
+use mathlib.Core.Path.{_≡_, sym, ap, _∙_}
+use mathlib.Core.List.{List, _++_, append-nil}
 use Prim.Native.Nat.{ℕ, _≤_, _<_}
 use native.Mathlib.Omega.{arith}
 use lib.ListN.{length}
 use Rattle.terms.specs.Base.{place-in}
-use Rattle.terms.specs.Term.{Term, var, node, Terms, nil, cons, variables, variables-of, subst-term, subst-terms, term-bytes, terms-bytes, Pair, pair-variables, renamed}
-use Rattle.terms.specs.Scan.{count}
+use Rattle.terms.specs.Term.{Term, var, node, Terms, nil, cons, term-bytes, terms-bytes, Pair, pair-variables, renamed}
 use Rattle.terms.specs.Flat.{Wf, Wfs}
-use Rattle.terms.proofs.Flats.{wf-below}
-use Rattle.terms.proofs.Subst.{In, VarsIn, count-subst}
+use Rattle.terms.proofs.Flats.{wf-below, wf-subst}
+use Rattle.terms.proofs.Subst.{In}
 use Rattle.terms.proofs.Below.{place-in-below, in-pair-left, in-pair-right}
 use Rattle.terms.proofs.Limits.{variables-few}
 use Rattle.terms.proofs.Rename.{renamed-sides}
@@ -41,27 +40,14 @@ renamed-pair e v w =
 pub wf-few : (n : ℕ) (tab : List ℕ) (e : Pair) → Wf n tab (e .left) → Wf n tab (e .right) → length (pair-variables e) ≤ n
 wf-few n tab e v w = variables-few n e (wf-below n tab (e .left) v) (wf-below n tab (e .right) w)
 
--- variables below m for variables below n
-module _ (m n : ℕ) (tab : List ℕ) (f : ℕ → ℕ) where
-  mutual
-    unfolding Wf subst-term variables count
-
-    wf-vars : (t : Term) → Wf n tab t → VarsIn (λ x. f x < m) t → Wf m tab (subst-term (λ x. var (f x)) t)
-    wf-vars (var x) w h = h x (List·Memᴰ·head refl)
-    wf-vars (node g ts) w h = (w .0, count-subst (λ x. var (f x)) ts ∙ w .1, wfs-vars ts (w .2) h)
-
-    wfs-vars : (ts : Terms) → Wfs n tab ts → ((x : ℕ) → In x (variables-of ts) → f x < m) → Wfs m tab (subst-terms (λ x. var (f x)) ts)
-    wfs-vars nil w h = tt
-    wfs-vars (cons t ts) w h = (wf-vars t (w .0) (λ x i. h x (Memᴰ·append-left (variables-of ts) i)), wfs-vars ts (w .1) (λ x i. h x (Memᴰ·append-right (variables t) i)))
-
 module _ (m n : ℕ) (tab : List ℕ) (e : Pair) (few : length (pair-variables e) ≤ m) where
   below : (x : ℕ) → In x (pair-variables e) → place-in x (pair-variables e) < m
   below x i = omega (arith, place-in-below x (pair-variables e) i, few)
 
   pub renamed-left-wf : Wf n tab (e .left) → Wf m tab (renamed e .left)
-  unfolding renamed
-  renamed-left-wf w = wf-vars m n tab (λ x. place-in x (pair-variables e)) (e .left) w (λ x i. below x (in-pair-left e x i))
+  unfolding renamed Wf
+  renamed-left-wf w = wf-subst n m tab (λ x. var (place-in x (pair-variables e))) (e .left) w (λ x i. below x (in-pair-left e x i))
 
   pub renamed-right-wf : Wf n tab (e .right) → Wf m tab (renamed e .right)
-  unfolding renamed
-  renamed-right-wf w = wf-vars m n tab (λ x. place-in x (pair-variables e)) (e .right) w (λ x i. below x (in-pair-right e x i))
+  unfolding renamed Wf
+  renamed-right-wf w = wf-subst n m tab (λ x. var (place-in x (pair-variables e))) (e .right) w (λ x i. below x (in-pair-right e x i))

@@ -9,9 +9,9 @@ use lib.Dec.{ltb}
 use borrow.Author.Tests.{lt-ltb, le-ltb}
 use lib.ListN.{length, getD, drop, take, set, length-set, length-append}
 use lib.Seq.{drop-at, take-set-lt}
-use Rattle.terms.specs.Term.{Term, Terms, var, node, nil, cons, size, subst-term, subst-terms}
-use Rattle.terms.specs.Flat.{Wf, Wfs}
-use Rattle.terms.proofs.Subst.{Subst, count-subst}
+use Rattle.terms.specs.Term.{Term, size}
+use Rattle.terms.specs.Flat.{Wf}
+use Rattle.terms.proofs.Flats.{wf-subst-below}
 use Rattle.unify.specs.Unify.{Binding}
 use Rattle.rewriting.specs.Overlap.{Rule, sides-of}
 use Rattle.rewriting.specs.Rewrite.{bound, bound-or-variable, instantiate, root-step}
@@ -27,17 +27,6 @@ use Rattle.normaliser.proofs.Marking.{instance-marked, marked-length}
 use Rattle.normaliser.proofs.Parts.{head-of}
 
 -- an instance is well-formed
-mutual
-  unfolding Wf Wfs subst-term
-
-  wf-subst : (m n : ℕ) (tab : List ℕ) (σ : Subst) → ((x : ℕ) → x < m → Wf n tab (σ x)) → (t : Term) → Wf m tab t → Wf n tab (subst-term σ t)
-  wf-subst m n tab σ h (var x) w = h x w
-  wf-subst m n tab σ h (node f ts) w = (w .0, count-subst σ ts ∙ w .1, wf-substs m n tab σ h ts (w .2))
-
-  wf-substs : (m n : ℕ) (tab : List ℕ) (σ : Subst) → ((x : ℕ) → x < m → Wf n tab (σ x)) → (ts : Terms) → Wfs m tab ts → Wfs n tab (subst-terms σ ts)
-  wf-substs m n tab σ h nil w = tt
-  wf-substs m n tab σ h (cons t ts) w = (wf-subst m n tab σ h t (w .0), wf-substs m n tab σ h ts (w .1))
-
 slot-wf : (tab T : List ℕ) (n x : ℕ) → x < 16 → (k : ℕ) (o : Option Term) → Slot tab T n k o → Wf 32 tab (bound-or-variable x o)
 unfolding bound-or-variable Wf
 slot-wf tab T n x h zero none s = omega arith
@@ -47,7 +36,7 @@ slot-wf tab T n x h (suc k) (some u) s = s .wf
 
 wf-instance : (tab T : List ℕ) (n : ℕ) (B : List ℕ) (bs : List Binding) → Rep tab T n B bs → (r : Term) → Wf 16 tab r → Wf 32 tab (instantiate bs r)
 unfolding instantiate
-wf-instance tab T n B bs rep r w = wf-subst 16 32 tab (by bs) (λ x h. slot-wf tab T n x h (getD B x 0) (bound bs x) (rep x h)) r w
+wf-instance tab T n B bs rep r w = wf-subst-below 16 32 tab (by bs) (λ x h. slot-wf tab T n x h (getD B x 0) (bound bs x) (rep x h)) r w
 
 -- the part of a slot that is its right side
 pub contracted-by : (rules lens t t′ B : List ℕ) (k len end most m w : ℕ) → m ≡ getD lens (2 * k + 1) 0 → Put t t′ 0 most w (replaced (take len t) B (take (240 * k + 120 + m - (240 * k + 120)) (drop (240 * k + 120) rules)) end) →

@@ -13,6 +13,7 @@ use Rattle.terms.specs.Term.{Term, Terms, nil, cons, size, sizes}
 use Rattle.terms.specs.Flat.{Wf, Wfs}
 use Rattle.terms.specs.Scan.{count}
 use Rattle.terms.proofs.Starts.{from}
+use Rattle.rewriting.proofs.Holds.{and-then-assoc}
 use Rattle.rewriting.specs.Overlap.{Rule, sides-of}
 use Rattle.rewriting.specs.Rewrite.{Paid, done, stop, and-then}
 use Rattle.matching.specs.Cells.{cells, cells-all}
@@ -54,8 +55,7 @@ and-done (stop e m) = refl
 
 and-behind : (f : Terms → Terms) (y : Term) (p : Paid Terms) → and-then (and-then p (λ us m. done (cons y us) m)) (λ us m. done (f us) m) ≡ and-then p (λ us m. done (f (cons y us)) m)
 unfolding and-then
-and-behind f y (done us m) = refl
-and-behind f y (stop e m) = refl
+and-behind f y p = and-then-assoc p (λ us m. done (cons y us) m) (λ us m. done (f us) m)
 
 module _ (tab rules lens : List ℕ) (number : ℕ) (t₀ : List ℕ) (n len most units : ℕ) where
   pub row-start : len ≤ most → Row tab rules lens number t₀ n len most units t₀ n 0 len units

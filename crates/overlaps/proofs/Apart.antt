@@ -3,18 +3,15 @@
 use mathlib.Core.Path.{_≡_, refl, sym, ap, ap₂, _∙_}
 use mathlib.Core.List.{List, [], _∷_, _++_, map, map-append, append-assoc, append-nil}
 use mathlib.Core.Option.{some}
-use Prim.Native.Nat.{ℕ, zero, suc, _+_, _-_, _<_}
+use Prim.Native.Nat.{ℕ, _+_, _<_}
 use native.Mathlib.Omega.{arith}
-use lib.Dec.{ltb}
 use lib.ListN.{length, take, drop, length-append}
 use lib.Seq.{take-at, drop-at}
-use Rattle.terms.specs.Term.{Term, var, node, Terms, nil, cons, Pair, size, term-bytes, terms-bytes, subst-term, subst-terms, subterm-at, replace-at, replace-in}
-use Rattle.terms.specs.Scan.{count, skip}
-use Rattle.terms.proofs.Shape.{either-has}
-use Rattle.terms.proofs.Subst.{count-subst}
+use Rattle.terms.specs.Term.{Term, var, node, Terms, nil, cons, Pair, size, term-bytes, terms-bytes, subst-term, subst-terms, subterm-at, replace-at}
+use Rattle.terms.specs.Scan.{skip}
 use Rattle.terms.specs.Flat.{Wf, Wfs}
 use Rattle.terms.proofs.Bytes.{length-bytes, around}
-use Rattle.terms.proofs.Flats.{widen, skip-term, wf-subterm}
+use Rattle.terms.proofs.Flats.{widen, skip-term, wf-subterm, wf-subst-below, wf-replace}
 use Rattle.rewriting.specs.Overlap.{apart}
 use Rattle.laying.specs.Layout.{moved, four-bytes}
 use Rattle.normaliser.specs.Stored.{Sides}
@@ -37,41 +34,9 @@ moved-apart : (tab : List ℕ) (t : Term) → Wf 16 tab t → map (moved 16) (te
 unfolding apart
 moved-apart tab t w = moved-term tab t w
 
-mutual
-  unfolding subst-term subst-terms Wf Wfs
-
-  up-wf : (tab : List ℕ) (t : Term) → Wf 16 tab t → Wf 32 tab (subst-term (λ x. var (16 + x)) t)
-  up-wf tab (var x) w = let h : 16 + x < 32 = omega arith in h
-  up-wf tab (node f ts) w = (w .0, count-subst (λ x. var (16 + x)) ts ∙ w .1, ups-wf tab ts (w .2))
-
-  ups-wf : (tab : List ℕ) (ts : Terms) → Wfs 16 tab ts → Wfs 32 tab (subst-terms (λ x. var (16 + x)) ts)
-  ups-wf tab nil w = tt
-  ups-wf tab (cons t ts) w = (up-wf tab t (w .0), ups-wf tab ts (w .1))
-
 apart-wf : (tab : List ℕ) (t : Term) → Wf 16 tab t → Wf 32 tab (apart t)
-unfolding apart
-apart-wf tab t w = up-wf tab t w
-
--- a subterm replaced
-count-replace : (ts : Terms) (p : ℕ) (v : Term) → count (replace-in ts p v) ≡ count ts
-unfolding count replace-in
-count-replace nil p v = refl
-count-replace (cons t ts) p v =
-    either-has (λ us. count us ≡ suc (count ts)) (ltb p (size t)) (cons (replace-at t p v) ts) (cons t (replace-in ts (p - size t) v)) refl (ap suc (count-replace ts (p - size t) v))
-
-mutual
-  unfolding replace-at replace-in Wf Wfs
-
-  replace-wf : (tab : List ℕ) (t : Term) → Wf 32 tab t → (p : ℕ) (v : Term) → Wf 32 tab v → Wf 32 tab (replace-at t p v)
-  replace-wf tab (var x) w zero v h = h
-  replace-wf tab (var x) w (suc p) v h = w
-  replace-wf tab (node f ts) w zero v h = h
-  replace-wf tab (node f ts) w (suc p) v h = (w .0, count-replace ts p v ∙ w .1, replaces-wf tab ts (w .2) p v h)
-
-  replaces-wf : (tab : List ℕ) (ts : Terms) → Wfs 32 tab ts → (p : ℕ) (v : Term) → Wf 32 tab v → Wfs 32 tab (replace-in ts p v)
-  replaces-wf tab nil w p v h = tt
-  replaces-wf tab (cons t ts) w p v h =
-      either-has (Wfs 32 tab) (ltb p (size t)) (cons (replace-at t p v) ts) (cons t (replace-in ts (p - size t) v)) (replace-wf tab t (w .0) p v h, w .1) (w .0, replaces-wf tab ts (w .1) (p - size t) v h)
+unfolding apart Wf
+apart-wf tab t w = wf-subst-below 16 32 tab (λ x. var (16 + x)) (λ x h. let k : 16 + x < 32 = omega arith in k) t w
 
 -- the four terms
 abbrev pub the-four : Pair → Pair → ℕ → Terms
@@ -82,7 +47,7 @@ module _ (tab l₁ r₁ l₂ r₂ : List ℕ) (i o : Pair) (s : Sides 16 tab l�
   unfolding Wfs
   four-wf =
       let x = widen 16 32 tab (o .left) (omega arith) (t .left-wf) in
-      (x, (apart-wf tab (i .left) (s .left-wf), (replace-wf tab (o .left) x p (apart (i .right)) (apart-wf tab (i .right) (s .right-wf)), (widen 16 32 tab (o .right) (omega arith) (t .right-wf), tt))))
+      (x, (apart-wf tab (i .left) (s .left-wf), (wf-replace 32 tab (o .left) x p (apart (i .right)) (apart-wf tab (i .right) (s .right-wf)), (widen 16 32 tab (o .right) (omega arith) (t .right-wf), tt))))
 
   replaced-bytes : (u : Term) → subterm-at (o .left) p ≡ some u → (v : Term) → take p l₂ ++ (term-bytes v ++ drop (p + skip tab (drop p l₂) 1) l₂) ≡ term-bytes (replace-at (o .left) p v)
   replaced-bytes u e v =

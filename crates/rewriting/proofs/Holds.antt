@@ -17,6 +17,12 @@ use Rattle.rewriting.proofs.Relations.{Star}
 use Rattle.rewriting.proofs.Abstract.{append, one}
 use Rattle.rewriting.proofs.Stepping.{StepBy, step-sound}
 
+-- what follows an answer that follows another
+pub and-then-assoc : {A B C : Type 0} (p : Paid A) (f : A → Paying B) (g : B → Paying C) → and-then (and-then p f) g ≡ and-then p (λ a left. and-then (f a left) g)
+unfolding and-then
+and-then-assoc (done a left) f g = refl
+and-then-assoc (stop e left) f g = refl
+
 abbrev pub Holds : {A : Type 0} → (A → Type 0) → (End → ℕ → Type 0) → Paid A → Type 0
 Holds Q E (done a left) = Q a
 Holds Q E (stop e left) = E e left

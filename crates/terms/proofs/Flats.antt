@@ -1,15 +1,17 @@
--- Well-formed terms: more variables may be allowed, the walk over their bytes stops at their end, their bytes determine them and are below 128 + n, and
--- their subterms are well-formed. Assumes nothing.
+-- Well-formed terms: more variables may be allowed, the walk over their bytes stops at their end, their bytes determine them and are below 128 + n; their
+-- subterms, their instances and they with a subterm replaced are well-formed. Assumes nothing.
 -- Read first: specs/Flat, proofs/Scans, proofs/Limits (`Made`).
 use mathlib.Core.Path.{_≡_, refl, ap, ap₂, sym, _∙_}
-use mathlib.Core.List.{List, _++_, append-assoc}
+use mathlib.Core.List.{List, _++_, append-assoc, List·Memᴰ·head, Memᴰ·append-left, Memᴰ·append-right}
 use mathlib.Core.Option.{some}
-use Prim.Native.Nat.{ℕ, _+_, _≤_, _<_}
+use Prim.Native.Nat.{ℕ, zero, suc, _+_, _-_, _≤_, _<_}
 use native.Mathlib.Omega.{arith}
-use Rattle.terms.specs.Term.{Term, var, node, Terms, nil, cons, term-bytes, terms-bytes, size, subterm-at, subterm-in}
+use lib.Dec.{ltb}
+use Rattle.terms.specs.Term.{Term, var, node, Terms, nil, cons, term-bytes, terms-bytes, size, variables, variables-of, subst-term, subst-terms, subterm-at, subterm-in, replace-at, replace-in}
 use Rattle.terms.specs.Scan.{arity, count, skip}
 use Rattle.terms.specs.Flat.{Wf, Wfs}
-use Rattle.terms.proofs.Subst.{VarsIn}
+use Rattle.terms.proofs.Subst.{Subst, In, VarsIn, count-subst}
+use Rattle.terms.proofs.Shape.{either-has}
 use Rattle.terms.proofs.Every.{Every}
 use Rattle.terms.proofs.Positions.{Inherits, subterm-inherits, subterm-in-inherits}
 use Rattle.terms.proofs.Limits.{Made, MadeAll, made-vars, made-bytes}
@@ -101,3 +103,39 @@ wf-below n tab t w = made-vars (λ f. f < 16) (λ x. x < n) t (wf-made n tab t w
 
 pub wf-bytes : (n : ℕ) (tab : List ℕ) (t : Term) → Wf n tab t → Every (λ b. b < 128 + n) (term-bytes t)
 wf-bytes n tab t w = made-bytes (λ f. f < 16) (λ x. x < n) (λ b. b < 128 + n) (λ f h. omega arith) (λ x h. omega arith) t (wf-made n tab t w)
+
+-- Under a substitution that has well-formed terms for the variables, and with a well-formed term at a node.
+module _ (m n : ℕ) (tab : List ℕ) (σ : Subst) where
+  mutual
+    unfolding Wf subst-term variables count
+
+    pub wf-subst : (t : Term) → Wf m tab t → VarsIn (λ x. Wf n tab (σ x)) t → Wf n tab (subst-term σ t)
+    wf-subst (var x) w h = h x (List·Memᴰ·head refl)
+    wf-subst (node f ts) w h = (w .0, count-subst σ ts ∙ w .1, wfs-subst ts (w .2) h)
+
+    wfs-subst : (ts : Terms) → Wfs m tab ts → ((x : ℕ) → In x (variables-of ts) → Wf n tab (σ x)) → Wfs n tab (subst-terms σ ts)
+    wfs-subst nil w h = tt
+    wfs-subst (cons t ts) w h = (wf-subst t (w .0) (λ x i. h x (Memᴰ·append-left (variables-of ts) i)), wfs-subst ts (w .1) (λ x i. h x (Memᴰ·append-right (variables t) i)))
+
+  pub wf-subst-below : ((x : ℕ) → x < m → Wf n tab (σ x)) → (t : Term) → Wf m tab t → Wf n tab (subst-term σ t)
+  wf-subst-below h t w = wf-subst t w (λ x i. h x (wf-below m tab t w x i))
+
+count-replace : (ts : Terms) (p : ℕ) (v : Term) → count (replace-in ts p v) ≡ count ts
+unfolding count replace-in
+count-replace nil p v = refl
+count-replace (cons t ts) p v =
+    either-has (λ us. count us ≡ suc (count ts)) (ltb p (size t)) (cons (replace-at t p v) ts) (cons t (replace-in ts (p - size t) v)) refl (ap suc (count-replace ts (p - size t) v))
+
+mutual
+  unfolding replace-at replace-in Wf Wfs
+
+  pub wf-replace : (n : ℕ) (tab : List ℕ) (t : Term) → Wf n tab t → (p : ℕ) (v : Term) → Wf n tab v → Wf n tab (replace-at t p v)
+  wf-replace n tab (var x) w zero v h = h
+  wf-replace n tab (var x) w (suc p) v h = w
+  wf-replace n tab (node f ts) w zero v h = h
+  wf-replace n tab (node f ts) w (suc p) v h = (w .0, count-replace ts p v ∙ w .1, wfs-replace n tab ts (w .2) p v h)
+
+  wfs-replace : (n : ℕ) (tab : List ℕ) (ts : Terms) → Wfs n tab ts → (p : ℕ) (v : Term) → Wf n tab v → Wfs n tab (replace-in ts p v)
+  wfs-replace n tab nil w p v h = tt
+  wfs-replace n tab (cons t ts) w p v h =
+      either-has (Wfs n tab) (ltb p (size t)) (cons (replace-at t p v) ts) (cons t (replace-in ts (p - size t) v)) (wf-replace n tab t (w .0) p v h, w .1) (w .0, wfs-replace n tab ts (w .1) (p - size t) v h)

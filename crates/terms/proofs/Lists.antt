@@ -1,11 +1,16 @@
--- Lists in general: a part of a front, and lists made of one list for each element. Assumes nothing.
+-- Lists in general: a list of no length, a part of a front, and lists made of one list for each element. Assumes nothing.
 -- Read first: nothing.
 use mathlib.Core.Path.{_≡_, refl, sym, ap, _∙_}
 use mathlib.Core.List.{List, [], _∷_, _++_, append-assoc, append-nil, map, flatMap}
 use Prim.Native.Nat.{ℕ, zero, suc, _+_}
 use native.Mathlib.Nat.{zero-add, suc-add}
-use lib.ListN.{take, drop}
+use native.Mathlib.Omega.{arith}
+use lib.ListN.{length, take, drop}
 use lib.Seq.{take-nil}
+
+pub nothing : {A : Type 0} (l : List A) → length l ≡ 0 → l ≡ []
+nothing [] h = refl
+nothing (x ∷ l) h = absurd (omega arith)
 
 pub take-drop : (a n : ℕ) (l : List ℕ) → take n (drop a l) ≡ drop a (take (a + n) l)
 take-drop zero n l = rw (zero-add n) refl

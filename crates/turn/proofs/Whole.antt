@@ -6,6 +6,7 @@ use Prim.Native.Nat.{ℕ, suc, _-_, _*_, _<_, _≤_}
 use native.Mathlib.Omega.{arith}
 use lib.ListN.{length, getD, take, List·getD-map}
 use lib.Seq.{length-take-le, take-at, take-take, getD-take}
+use Rattle.terms.proofs.Lists.{nothing}
 use Rattle.terms.specs.Term.{Pair}
 use Rattle.problem.specs.Problem.{Problem}
 use Rattle.rewriting.specs.Overlap.{Rule, all-places}
@@ -148,10 +149,6 @@ module _ (st : Whole) (tab L R L′ R′ origin : List ℕ) (u : ℕ) (w : Walk)
       }
 
 -- `turn_scan`
-pub nothing : {A : Type 0} (l : List A) → length l ≡ 0 → l ≡ []
-nothing [] h = refl
-nothing (c ∷ l) h = absurd (omega arith)
-
 -- the rules' numbers, from the list of them
 numbered-by : (count : ℕ) (ns : List ℕ) (rs : List Rule) → take count ns ≡ map (λ (r : Rule). r .number) rs → (k : ℕ) → k < count → getD ns k 0 ≡ walk.rule-at rs k .number
 numbered-by count ns rs e k l = sym (getD-take count ns k 0 l) ∙ ap (λ z. getD z k 0) e ∙ List·getD-map (λ (r : Rule). r .number) rs k walk.no-rule
