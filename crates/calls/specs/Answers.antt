@@ -9,7 +9,8 @@ use lib.ListN.{length, take, drop}
 use denote.Ref.{RefT}
 use Rattle.terms.specs.Term.{Term, size, subterm-at}
 use Rattle.problem.specs.Problem.{Reading, ok, refused}
-use Rattle.completion.specs.Calls.{parse-single, subterm-call, Unified as Common, instance, no-instance, instance-too-large, after-unify}
+use Rattle.rewriting.specs.Rewrite.{too-large}
+use Rattle.completion.specs.Calls.{end-number, parse-single, subterm-call, Unified as Common, instance, no-instance, instance-too-large, after-unify}
 use Rattle.instances.specs.declared.Found.{Found}
 use Rattle.instances.specs.declared.Found.the-variants.{Instance as Written, Nothing as None, TooLarge as Large}
 use Rattle.calls.specs.declared.Compared.{Compared}
@@ -25,7 +26,8 @@ told Identical = ok 3
 told Neither = ok 4
 told (Unread number place) = refused number place
 
--- What unify returns: the count of result bytes, "none", a number only, or a number and a place.
+-- What unify returns: the count of result bytes, "none", a number only, or a number and a place. "a common instance over 120 nodes" has the number of
+-- the run's end for a term over 120 nodes.
 pub data Returned : Type 0 where
   bytes-written : ℕ → Returned
   none-common : Returned
@@ -35,19 +37,19 @@ pub data Returned : Type 0 where
 unfoldable pub unified-told : Unified → Returned
 unified-told (Instance count) = bytes-written count
 unified-told Nothing = none-common
-unified-told TooLarge = number-only 22
+unified-told TooLarge = number-only (end-number too-large)
 unified-told (NotUnified number place) = number-and-place number place
 
 -- the same of what `instances::common_instance` answers
 unfoldable pub found-told : Found → Returned
 found-told (Written count) = bytes-written count
 found-told None = none-common
-found-told Large = number-only 22
+found-told Large = number-only (end-number too-large)
 
 unfoldable pub unify-returns : Reading Common → Returned
 unify-returns (ok (instance bytes)) = bytes-written (length bytes)
 unify-returns (ok no-instance) = none-common
-unify-returns (ok instance-too-large) = number-only 22
+unify-returns (ok instance-too-large) = number-only (end-number too-large)
 unify-returns (refused n place) = number-and-place n place
 
 -- the answer and the result buffer, before and after, are what the definition says

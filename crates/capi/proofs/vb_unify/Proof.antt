@@ -1,6 +1,7 @@
 -- `vb_unify`: the code of each answer is that of what `calls::unify` told; the buffer is as that call leaves it. Assumes nothing.
 -- Read first: specs/Codes (unify-code), calls/specs/Answers (unified-told, Unifies).
 use mathlib.Core.Path.{ap, _∙_}
+use Rattle.completion.specs.Calls.{end-number}
 use Rattle.calls.specs.Answers.{unified-told}
 use Rattle.capi.specs.Codes.{unify-code}
 use borrow.Author.Needs.{needs}
@@ -16,7 +17,7 @@ unfolding unified-told unify-code
 returns-2 c = (c .code2 .ensures ∙ ap unify-code (rw (c .before .enum-told .given .1) at (c .before .before .before .before .before .unify .ensures .told)), c .before .before .before .before .before .unify .ensures .leaves)
 
 returns-3 : tie.Need-returns-3
-unfolding unified-told unify-code
+unfolding unified-told unify-code end-number
 returns-3 c = (c .code3 .ensures ∙ ap unify-code (rw (c .before .enum-told2 .given .1) at (c .before .before .before .before .before .unify .ensures .told)), c .before .before .before .before .before .unify .ensures .leaves)
 
 returns-4 : tie.Need-returns-4
