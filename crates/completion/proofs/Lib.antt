@@ -30,5 +30,6 @@ pub mod ReadBack
 pub mod Promised
 pub mod Computes
 pub mod Instances
+pub mod Scanning
 pub mod Turning
 pub mod Comparing

@@ -1,10 +1,9 @@
 -- A turn case by case: what `turn` comes to, from what its steps come to, for code that follows them one after the other. No invariant is assumed.
 -- Assumes nothing.
 -- Read first: specs/Turn.
-use mathlib.Core.Path.{_≡_, refl, sym, ap, _∙_, subst}
-use mathlib.Core.Bool.{Bool, true, false}
+use mathlib.Core.Path.{_≡_, refl, sym, ap, _∙_}
+use mathlib.Core.Bool.{true, false}
 use mathlib.Core.List.{List, [], _∷_, _++_}
-use mathlib.Core.Option.{Option, none, some}
 use Prim.Native.Nat.{ℕ, zero, suc, _≤_, _<_, _-_}
 use native.Mathlib.Omega.{arith}
 use lib.Dec.{ltb, leb}
@@ -13,10 +12,10 @@ use borrow.Author.Tests.{le-leb, lt-leb, lt-ltb, le-ltb}
 use Rattle.terms.specs.Base.{if_then_else_}
 use Rattle.terms.specs.Term.{Pair, same, pair-variables}
 use Rattle.rewriting.proofs.Holds.{and-then-assoc}
-use Rattle.rewriting.specs.Overlap.{Rule, overlap, Place, all-places}
-use Rattle.rewriting.specs.Rewrite.{End, spent, too-large, rules-full, log-full, Paid, done, stop, Paying, return, end-with, and-then, _>>=_, end-if, pay, normalise-pair}
+use Rattle.rewriting.specs.Overlap.{Rule, all-places}
+use Rattle.rewriting.specs.Rewrite.{End, spent, too-large, rules-full, log-full, done, stop, Paying, return, end-with, and-then, _>>=_, end-if, pay, normalise-pair}
 use Rattle.problem.specs.Problem.{Problem}
-use Rattle.completion.specs.Turn.{Origin, scanned-input, Candidate, State, Taken, candidates, scan-overlap, if-different, if-different-overlap, scan-inputs, scan, take-pair, orient, kept, removed, normalise-rights, make-rule, settled, turn, Finished, initial, turns, run}
+use Rattle.completion.specs.Turn.{scanned-input, Candidate, State, Taken, candidates, scan, take-pair, orient, kept, removed, normalise-rights, make-rule, settled, turn, Finished, initial, turns, run}
 
 -- Step 1 behind its unit, and the rest of a turn.
 pub turn-unpaid : (P : Problem) (s : State) → turn P s 0 ≡ stop spent 0
@@ -111,47 +110,6 @@ module _ (P : Problem) (s : State) (t : Taken) (units : ℕ) where
         normalise-rights [] (kept (new-rule s sides) (s .rules)) (new-rule s sides) left ≡ done rules now → make-rule P s t units ≡ done (next-state s t sides rules) now
     unfolding and-then return
     make-done few rules now r = past-rules few ∙ ap (λ p. and-then p (λ rules. return (next-state s t sides rules))) r
-
--- What the scan takes has two different sides.
-abbrev Differs : Paid Candidate → Type 0
-Differs (done c left) = same (c .sides .left) (c .sides .right) ≡ false
-Differs (stop e left) = Unit {0}
-
-different : (o : Origin) (f : Pair) (next : Paying Candidate) → ((n : ℕ) → Differs (next n)) → (left : ℕ) → Differs (if-different o f next left)
-unfolding if-different if_then_else_ return
-different o f next k left = go (same (f .left) (f .right)) refl
-  where
-    go : (b : Bool) → same (f .left) (f .right) ≡ b → Differs ((if b then next else return (record { origin = o; sides = f })) left)
-    go true e = k left
-    go false e = e
-
-then-differs : {A : Type 0} (p : Paid A) (next : A → Paying Candidate) → ((a : A) (n : ℕ) → Differs (next a n)) → Differs (and-then p next)
-unfolding and-then
-then-differs (done a left) next k = k a left
-then-differs (stop e left) next k = tt
-
-inputs-differ : (rules : List Rule) (cs : List Candidate) (left : ℕ) → Differs (scan-inputs rules cs left)
-unfolding scan-inputs _>>=_ end-with
-inputs-differ rules [] left = tt
-inputs-differ rules (c ∷ cs) left =
-    then-differs (normalise-pair rules (c .sides) left) (λ forms. if-different (c .origin) forms (scan-inputs rules cs)) λ forms n.
-    different (c .origin) forms (scan-inputs rules cs) (λ m. inputs-differ rules cs m) n
-
-different-at : (at : Place) (o : Option Pair) (next : Paying Candidate) → ((n : ℕ) → Differs (next n)) → (left : ℕ) → Differs (if-different-overlap at o next left)
-unfolding if-different-overlap
-different-at at none next k left = k left
-different-at at (some f) next k left = different _ f next k left
-
-scan-differ : (rules : List Rule) (inputs : List Candidate) (ps : List Place) (left : ℕ) → Differs (scan rules inputs ps left)
-unfolding scan _>>=_
-scan-differ rules inputs [] left = inputs-differ rules inputs left
-scan-differ rules inputs (at ∷ ps) left =
-    then-differs (scan-overlap rules (overlap (at .inner .sides) (at .outer .sides) (at .position)) left) (λ forms. if-different-overlap at forms (scan rules inputs ps)) λ forms n.
-    different-at at forms (scan rules inputs ps) (λ m. scan-differ rules inputs ps m) n
-
-pub scan-different : (rules : List Rule) (inputs : List Candidate) (ps : List Place) (units left : ℕ) (c : Candidate) → scan rules inputs ps units ≡ done c left →
-    same (c .sides .left) (c .sides .right) ≡ false
-scan-different rules inputs ps units left c e = subst Differs e (scan-differ rules inputs ps units)
 
 -- Step 1: the scan, or the oldest waiting equation.
 module _ (P : Problem) (rules : List Rule) (units : ℕ) where

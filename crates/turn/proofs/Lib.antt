@@ -1,3 +1,2 @@
-pub mod ScanEnds
 pub mod Taking
 pub mod Whole

@@ -1,5 +1,5 @@
 -- Step 1 of a turn: what a pair's walk says of what the definition takes, for the oldest waiting equation and for the scan. Assumes nothing.
--- Read first: completion/specs/Turn (take-pair), scan/specs/Walk (Walked, Finds), making/specs/Made (TakenBy), proofs/ScanEnds.
+-- Read first: completion/specs/Turn (take-pair), scan/specs/Walk (Walked, Finds), making/specs/Made (TakenBy), completion/proofs/Scanning.
 use mathlib.Core.Path.{_≡_, refl, sym, ap, _∙_, subst}
 use mathlib.Core.Bool.{true, false}
 use mathlib.Core.List.{List, [], _∷_}
@@ -10,7 +10,8 @@ use Rattle.problem.specs.Problem.{Problem}
 use Rattle.rewriting.specs.Overlap.{all-places}
 use Rattle.rewriting.specs.Rewrite.{End, complete, neither-above, spent, too-large, rules-full, log-full, Paid, done, stop, _>>=_, normalise-pair}
 use Rattle.completion.specs.Turn.{scanned-input, Candidate, State as RunState, Taken, candidates, scan, take-pair, turn}
-use Rattle.completion.proofs.Turning.{turn-stops, scan-different, take-scan-stops, take-scan, take-waiting-stops, take-waiting}
+use Rattle.completion.proofs.Scanning.{ScanEnd, scan-ends, scan-different}
+use Rattle.completion.proofs.Turning.{turn-stops, take-scan-stops, take-scan, take-waiting-stops, take-waiting}
 use Rattle.completion.proofs.Comparing.{found-forms, equal-forms, stop-forms}
 use Rattle.engine.specs.State.{Whole, Represents}
 use Rattle.scan.specs.Walk.{compared, Walked, found, short, large, on, Shows, Finds, stop-number}
@@ -19,7 +20,6 @@ use Rattle.making.specs.Made.{Outcome, Stops, stop-code, TakenBy}
 use Rattle.turn.specs.Turns.{Shown, TurnedIs}
 use Rattle.making.proofs.Verdicts.{stop-positive, not-neither}
 use Rattle.making.proofs.Keeping.{held-of}
-use Rattle.turn.proofs.ScanEnds.{ScanEnd, scan-ends}
 
 -- a stop of step 1 is a stop of the turn
 module _ (tab L R : List ℕ) (P : Problem) (s : RunState) (u i j : ℕ) (st : Whole) (w : Walk) (o : Outcome) where

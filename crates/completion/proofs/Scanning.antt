@@ -1,14 +1,15 @@
--- The definition's scan ends with complete, spent or too large, and with no other end. Assumes nothing.
--- Read first: completion/specs/Turn (scan), rewriting/proofs/Holds (Holds, Pays).
+-- What the scan takes has two different sides, and it ends with complete, spent or too large and with no other end. Assumes nothing.
+-- Read first: specs/Turn (scan), rewriting/proofs/Holds (Holds, Pays).
 use mathlib.Core.Path.{_≡_, subst}
+use mathlib.Core.Bool.{false}
 use mathlib.Core.List.{List, [], _∷_}
 use mathlib.Core.Option.{Option, none, some}
 use Prim.Native.Nat.{ℕ}
-use Rattle.terms.specs.Term.{Pair, renamed}
+use Rattle.terms.specs.Term.{Pair, same, renamed}
 use Rattle.rewriting.specs.Overlap.{Rule, Overlap, Place}
-use Rattle.rewriting.specs.Rewrite.{End, complete, neither-above, spent, too-large, rules-full, log-full, stop, Paying, normalise-pair}
+use Rattle.rewriting.specs.Rewrite.{End, complete, neither-above, spent, too-large, rules-full, log-full, done, stop, Paying, normalise-pair}
 use Rattle.rewriting.proofs.Holds.{Holds, Forms, Pays, bind-holds, return-holds, end-with-holds, if-holds, hold-holds, normalise-pair-holds}
 use Rattle.completion.specs.Turn.{Origin, Candidate, scan-overlap, if-different, if-different-overlap, scan-inputs, scan}
 
 abbrev pub ScanEnd : End → Type 0
 ScanEnd complete = Unit {0}
@@ -38,24 +39,32 @@ overlap-scans rules (some o) =
     bind-holds _ _ (pair-scans rules (renamed (o .sides))) λ forms _.
     return-holds (some forms) tt
 
-different-scans : (o : Origin) (f : Pair) (next : Paying Candidate) → Pays Any E next → Pays Any E (if-different o f next)
-unfolding if-different
-different-scans o f next k = if-holds _ _ _ (λ _. k) (λ _. return-holds _ tt)
+-- the two sides are different
+abbrev Differ : Candidate → Type 0
+Differ c = same (c .sides .left) (c .sides .right) ≡ false
 
-different-at : (at : Place) (o : Option Pair) (next : Paying Candidate) → Pays Any E next → Pays Any E (if-different-overlap at o next)
+different-scans : (o : Origin) (f : Pair) (next : Paying Candidate) → Pays Differ E next → Pays Differ E (if-different o f next)
+unfolding if-different
+different-scans o f next k = if-holds _ _ _ (λ _. k) (λ e. return-holds _ e)
+
+different-at : (at : Place) (o : Option Pair) (next : Paying Candidate) → Pays Differ E next → Pays Differ E (if-different-overlap at o next)
 unfolding if-different-overlap
 different-at at none next k = k
 different-at at (some f) next k = different-scans _ f next k
 
-inputs-scan : (rules : List Rule) (cs : List Candidate) → Pays Any E (scan-inputs rules cs)
+inputs-scan : (rules : List Rule) (cs : List Candidate) → Pays Differ E (scan-inputs rules cs)
 unfolding scan-inputs
 inputs-scan rules [] = end-with-holds complete (λ _. tt)
 inputs-scan rules (c ∷ cs) = bind-holds _ _ (pair-scans rules (c .sides)) λ forms _. different-scans _ forms _ (inputs-scan rules cs)
 
-scan-scans : (rules : List Rule) (inputs : List Candidate) (ps : List Place) → Pays Any E (scan rules inputs ps)
+scan-scans : (rules : List Rule) (inputs : List Candidate) (ps : List Place) → Pays Differ E (scan rules inputs ps)
 unfolding scan
 scan-scans rules inputs [] = inputs-scan rules inputs
 scan-scans rules inputs (at ∷ ps) = bind-holds _ _ (overlap-scans rules _) λ forms _. different-at at forms _ (scan-scans rules inputs ps)
 
 pub scan-ends : (rules : List Rule) (inputs : List Candidate) (ps : List Place) (units left : ℕ) (e : End) → scan rules inputs ps units ≡ stop e left → ScanEnd e
-scan-ends rules inputs ps units left e h = subst (Holds Any E) h (scan-scans rules inputs ps .out units)
+scan-ends rules inputs ps units left e h = subst (Holds Differ E) h (scan-scans rules inputs ps .out units)
+
+pub scan-different : (rules : List Rule) (inputs : List Candidate) (ps : List Place) (units left : ℕ) (c : Candidate) → scan rules inputs ps units ≡ done c left →
+    same (c .sides .left) (c .sides .right) ≡ false
+scan-different rules inputs ps units left c h = subst (Holds Differ E) h (scan-scans rules inputs ps .out units)
