@@ -9,8 +9,8 @@ use lib.ListN.{length, take, drop}
 use denote.Ref.{RefT}
 use Rattle.terms.specs.Term.{Term, size, subterm-at}
 use Rattle.problem.specs.Problem.{Reading, ok, refused}
-use Rattle.rewriting.specs.Rewrite.{too-large}
-use Rattle.completion.specs.Calls.{end-number, parse-single, subterm-call, Unified as Common, instance, no-instance, instance-too-large, after-unify}
+use Rattle.rewriting.specs.Rewrite.{too-large, end-number}
+use Rattle.completion.specs.Calls.{parse-single, subterm-call, Unified as Common, instance, no-instance, instance-too-large, after-unify}
 use Rattle.instances.specs.declared.Found.{Found}
 use Rattle.instances.specs.declared.Found.the-variants.{Instance as Written, Nothing as None, TooLarge as Large}
 use Rattle.calls.specs.declared.Compared.{Compared}

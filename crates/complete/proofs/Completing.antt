@@ -10,9 +10,9 @@ use Rattle.terms.specs.Base.{if_then_else_}
 use Rattle.matching.proofs.Replacing.{take-less-zero}
 use Rattle.problem.specs.Problem.{Reading, ok, refused, _>>=_, refuse-if, rank-of, Problem, parse}
 use Rattle.problem.specs.Parser.{ParsedAt}
-use Rattle.rewriting.specs.Rewrite.{End, complete, neither-above, spent, too-large, rules-full, log-full}
+use Rattle.rewriting.specs.Rewrite.{End, complete, neither-above, spent, too-large, rules-full, log-full, end-number}
 use Rattle.completion.specs.Turn.{run}
-use Rattle.completion.specs.Calls.{end-number, result-bytes, enough, complete-call, after-complete}
+use Rattle.completion.specs.Calls.{result-bytes, enough, complete-call, after-complete}
 use Rattle.report.specs.Fields.{Writes}
 use Rattle.report.specs.Report.{OfState}
 use Rattle.completion.proofs.Accepts.{accepts}

@@ -8,9 +8,9 @@ use Rattle.terms.specs.Base.{if_then_else_}
 use Rattle.terms.specs.Term.{Pair}
 use Rattle.problem.specs.Problem.{Reading, ok, refused, Problem}
 use Rattle.problem.specs.Parser.{ParsedAt}
-use Rattle.rewriting.specs.Rewrite.{neither-above}
+use Rattle.rewriting.specs.Rewrite.{neither-above, end-number}
 use Rattle.completion.specs.Turn.{Finished, run}
-use Rattle.completion.specs.Calls.{end-number, result-bytes}
+use Rattle.completion.specs.Calls.{result-bytes}
 use Rattle.completion.specs.Promise.{Delivers}
 use Rattle.report.specs.Fields.{Writes}
 use Rattle.engine.specs.State.{whole}

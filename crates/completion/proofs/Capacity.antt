@@ -14,12 +14,12 @@ use Rattle.terms.proofs.Limits.{made-vars, variables-few, Bytes}
 use Rattle.terms.proofs.Numerals.{number-back}
 use Rattle.terms.proofs.Every.{every-in}
 use Rattle.rewriting.specs.Overlap.{Rule, Overlap, overlap, Place, all-places}
-use Rattle.rewriting.specs.Rewrite.{End, complete, neither-above, spent, too-large, rules-full, log-full, done}
+use Rattle.rewriting.specs.Rewrite.{End, complete, neither-above, spent, too-large, rules-full, log-full, done, end-number}
 use Rattle.rewriting.proofs.Limits.{OverlapMade, MaybeOverlap, overlap-made}
 use Rattle.rewriting.proofs.Holds.{Holds}
 use Rattle.problem.specs.Problem.{ok, Problem, parse}
 use Rattle.completion.specs.Turn.{Candidate, Entry, State, Taken, take-pair, kept, removed, run}
-use Rattle.completion.specs.Calls.{end-number, result-bytes, enough, complete-call}
+use Rattle.completion.specs.Calls.{result-bytes, enough, complete-call}
 use Rattle.problem.proofs.Reading.{from-bind, passed}
 use Rattle.completion.proofs.Limits.{CandidateFits, RuleFits, EntryFits, Limits}
 use Rattle.completion.proofs.Kept.{PlaceFits, all-places-fit, kept-removed, TakenFits, reachable-limits}

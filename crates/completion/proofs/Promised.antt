@@ -14,11 +14,11 @@ use Rattle.terms.proofs.Shape.{zero≢one}
 use Rattle.terms.specs.Base.{if_then_else_, number-bytes, Tagged}
 use Rattle.terms.proofs.Every.{Every, of-none, of-cons, every-one, every-append, every-map, every-both}
 use Rattle.rewriting.specs.Overlap.{Rule}
-use Rattle.rewriting.specs.Rewrite.{End, complete, neither-above, spent, too-large, rules-full, log-full}
+use Rattle.rewriting.specs.Rewrite.{End, complete, neither-above, spent, too-large, rules-full, log-full, end-number}
 use Rattle.problem.specs.Problem.{ok, Problem, parse}
 use Rattle.problem.proofs.Reading.{from-bind, ok-injective}
 use Rattle.completion.specs.Turn.{Entry, run}
-use Rattle.completion.specs.Calls.{end-number, rule-field, entry-field, forms-field, result-fields, result-bytes, complete-call}
+use Rattle.completion.specs.Calls.{rule-field, entry-field, forms-field, result-fields, result-bytes, complete-call}
 use Rattle.completion.specs.Delivery.{Delivered, delivered-rules}
 use Rattle.completion.specs.Promise.{fields-of, one-byte, end-in, rules-in, Promise, Delivers}
 use Rattle.completion.proofs.Limits.{RuleFits, Accepted, Limits}

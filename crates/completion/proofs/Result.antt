@@ -12,10 +12,10 @@ use Rattle.terms.proofs.Bytes.{length-bytes}
 use Rattle.terms.proofs.Limits.{Bytes, number-bytes-bytes, length-number-bytes, field-bytes-bytes, length-field-bytes, term-bytes-bytes}
 use Rattle.terms.proofs.Every.{Every, of-none, every-head, every-tail, every-one, of-cons, every-append, every-map, every-mapped, every-of}
 use Rattle.rewriting.specs.Overlap.{Rule}
-use Rattle.rewriting.specs.Rewrite.{End, complete, neither-above, spent, too-large, rules-full, log-full}
+use Rattle.rewriting.specs.Rewrite.{End, complete, neither-above, spent, too-large, rules-full, log-full, end-number}
 use Rattle.problem.specs.Problem.{Problem}
 use Rattle.completion.specs.Turn.{Origin, waiting-input, removed-rule, scanned-input, overlapping, Entry, run}
-use Rattle.completion.specs.Calls.{end-number, pair-bytes, rule-field, origin-bytes, entry-field, forms-field, result-fields, result-bytes}
+use Rattle.completion.specs.Calls.{pair-bytes, rule-field, origin-bytes, entry-field, forms-field, result-fields, result-bytes}
 use Rattle.completion.proofs.Limits.{HeldPair, RuleFits, Limits, Accepted, renamed-held}
 use Rattle.completion.proofs.Ends.{Neither}
 use Rattle.completion.proofs.Reachable.{run-neither}

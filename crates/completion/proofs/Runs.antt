@@ -9,7 +9,7 @@ use Rattle.terms.specs.Term.{Term, node, nil, cons, Pair}
 use Rattle.problem.specs.Problem.{Reading, ok, refused, parse}
 use Rattle.rewriting.specs.Overlap.{Rule}
 use Rattle.completion.specs.Turn.{run, Finished}
-use Rattle.completion.specs.Calls.{end-number}
+use Rattle.rewriting.specs.Rewrite.{end-number}
 use Rattle.completion.proofs.Instances.{group, e, x, y, z, i, _*_, _≈_, problem}
 use Rattle.completion.proofs.Computes.{computes}
 

@@ -12,17 +12,8 @@ use Rattle.problem.specs.Stops.{short-buffer}
 use Rattle.order.specs.Order.{comparison}
 use Rattle.unify.specs.Unify.{Binding, mgu, under}
 use Rattle.rewriting.specs.Overlap.{Rule}
-use Rattle.rewriting.specs.Rewrite.{End, complete, neither-above, spent, too-large, rules-full, log-full}
+use Rattle.rewriting.specs.Rewrite.{End, complete, neither-above, spent, too-large, rules-full, log-full, end-number}
 use Rattle.completion.specs.Turn.{Origin, waiting-input, removed-rule, scanned-input, overlapping, Entry, Finished, run}
-
--- "0, complete"; the ends 20 to 23 of the table of stops
-unfoldable pub end-number : End → ℕ
-end-number complete = 0
-end-number (neither-above e) = 20
-end-number spent = 21
-end-number too-large = 22
-end-number rules-full = 23
-end-number log-full = 23
 
 unfoldable pub pair-bytes : Pair → List ℕ
 pair-bytes e = term-bytes (e .left) ++ term-bytes (e .right)

@@ -9,10 +9,10 @@ use lib.ListN.{length, length-append}
 use Rattle.terms.specs.Term.{Pair}
 use Rattle.problem.specs.Problem.{Problem}
 use Rattle.rewriting.specs.Overlap.{Rule, sides-of}
-use Rattle.rewriting.specs.Rewrite.{End, neither-above, too-large, rules-full, Paid, done, stop}
+use Rattle.rewriting.specs.Rewrite.{End, neither-above, too-large, rules-full, Paid, done, stop, end-number}
 use Rattle.normaliser.specs.Stored.{Layout, Stored, code}
 use Rattle.completion.specs.Turn.{Origin, State as RunState, Taken, kept, removed, normalise-rights, make-rule}
-use Rattle.completion.specs.Calls.{origin-bytes, end-number}
+use Rattle.completion.specs.Calls.{origin-bytes}
 use Rattle.completion.proofs.Turning.{new-rule, make-stops, make-rules-full, make-rights-stop, make-done}
 use Rattle.compose.specs.Rights.{AllIs}
 use Rattle.compose.specs.declared.Composed.{Composed}

@@ -10,12 +10,11 @@ use Rattle.terms.specs.Term.{Pair}
 use Rattle.order.specs.Walk.{rank}
 use Rattle.problem.specs.Problem.{rank-of, Problem}
 use Rattle.rewriting.specs.Overlap.{Rule, sides-of}
-use Rattle.rewriting.specs.Rewrite.{End, too-large, neither-above, Paid, done, stop}
+use Rattle.rewriting.specs.Rewrite.{End, too-large, neither-above, Paid, done, stop, end-number}
 use Rattle.normaliser.specs.Stored.{Layout, Sides, Stored, RuleAt}
 use Rattle.store.specs.Slots.{ShortAt}
 use Rattle.store.proofs.Listing.{layout-of}
 use Rattle.completion.specs.Turn.{State as RunState, Taken, normalise-rights, make-rule}
-use Rattle.completion.specs.Calls.{end-number}
 use Rattle.completion.proofs.Turning.{new-rule}
 use Rattle.compose.specs.Rights.{All}
 use Rattle.compose.specs.declared.Composed.{Composed}

@@ -23,10 +23,9 @@ use Rattle.naming.proofs.Few.{names-few}
 use Rattle.naming.proofs.Pairs.{wf-low, renamed-pair, renamed-left-wf, renamed-right-wf}
 use Rattle.order.specs.Order.{above}
 use Rattle.order.specs.Walk.{rank, IsAbove}
-use Rattle.rewriting.specs.Rewrite.{_>>=_, and-then, end-if, return, end-with}
+use Rattle.rewriting.specs.Rewrite.{_>>=_, and-then, end-if, return, end-with, end-number}
 use Rattle.problem.specs.Problem.{rank-of, Problem}
 use Rattle.completion.specs.Turn.{orient}
-use Rattle.completion.specs.Calls.{end-number}
 use Rattle.store.specs.Slots.{patched, Holds, OnlySlot}
 use Rattle.store.proofs.Listing.{rule-put, short-put, slot-kept}
 use Rattle.orient.specs.Seen.{Counted}

@@ -7,11 +7,10 @@ use lib.Dec.{ltb}
 use lib.ListN.{length}
 use Rattle.terms.specs.Term.{Pair, pair-variables, renamed}
 use Rattle.order.specs.Walk.{rank}
-use Rattle.rewriting.specs.Rewrite.{Paid, done, stop, Paying, too-large, neither-above, _>>=_, end-if}
+use Rattle.rewriting.specs.Rewrite.{Paid, done, stop, Paying, too-large, neither-above, _>>=_, end-if, end-number}
 use Rattle.normaliser.specs.Stored.{Sides, RuleAt}
 use Rattle.problem.specs.Problem.{rank-of, Problem}
 use Rattle.completion.specs.Turn.{orient}
-use Rattle.completion.specs.Calls.{end-number}
 use Rattle.store.specs.Slots.{OnlySlot, ShortAt}
 
 -- the first lines of `make-rule`

@@ -1,5 +1,5 @@
 -- Document 01, "Stops and what they leave": the refusals' numbers, each once. The ends of a run have theirs in `end-number` of
--- completion/specs/Calls. Where a refusal is given, and with which place, stands at its use. Assumes nothing.
+-- rewriting/specs/Rewrite. Where a refusal is given, and with which place, stands at its use. Assumes nothing.
 use Prim.Native.Nat.{ℕ}
 
 -- "result buffer under 16,384 bytes (complete, unify)"

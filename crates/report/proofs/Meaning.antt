@@ -10,13 +10,13 @@ use lib.Seq.{getD-drop, drop-drop}
 use Rattle.terms.specs.Base.{if_then_else_, number-bytes, Tagged, field-bytes}
 use Rattle.terms.specs.Term.{Pair, renamed}
 use Rattle.rewriting.specs.Overlap.{Rule, sides-of}
-use Rattle.rewriting.specs.Rewrite.{End, complete, neither-above, spent, too-large, rules-full, log-full}
+use Rattle.rewriting.specs.Rewrite.{End, complete, neither-above, spent, too-large, rules-full, log-full, end-number}
 use Rattle.normaliser.specs.Stored.{Sides, RuleAt, Stored}
 use Rattle.naming.specs.Names.{renamed-bytes}
 use Rattle.naming.proofs.Renaming.{Low}
 use Rattle.naming.proofs.Pairs.{wf-low, renamed-pair}
 use Rattle.completion.specs.Turn.{Finished}
-use Rattle.completion.specs.Calls.{end-number, pair-bytes, rule-field, entry-field, forms-field, result-fields, result-bytes}
+use Rattle.completion.specs.Calls.{pair-bytes, rule-field, entry-field, forms-field, result-fields, result-bytes}
 use Rattle.report.specs.Fields.{Writes, tagged, slot-bytes, slot-field, slot-fields, low, forms-bytes, all-bytes}
 use Rattle.terms.proofs.Lists.{flatMap-append, flatMap-map}
 use Rattle.report.proofs.Lowness.{term-low}

@@ -1,7 +1,7 @@
 -- `vb_unify`: the code of each answer is that of what `calls::unify` told; the buffer is as that call leaves it. Assumes nothing.
 -- Read first: specs/Codes (unify-code), calls/specs/Answers (unified-told, Unifies).
 use mathlib.Core.Path.{ap, _∙_}
-use Rattle.completion.specs.Calls.{end-number}
+use Rattle.rewriting.specs.Rewrite.{end-number}
 use Rattle.calls.specs.Answers.{unified-told}
 use Rattle.capi.specs.Codes.{unify-code}
 use borrow.Author.Needs.{needs}
