@@ -5,13 +5,14 @@ use mathlib.Core.Bool.{Bool, true, false}
 use mathlib.Core.Option.{Option, none, some}
 use mathlib.Core.List.{List}
 use Prim.Native.Nat.{ℕ, suc, zero, _≤_, _<_}
+use native.Mathlib.Omega.{arith}
 use lib.Dec.{ltb}
 use borrow.Author.Tests.{ltb-true, ltb-false}
 use Rattle.terms.specs.Base.{if_then_else_}
 use Rattle.terms.proofs.Shape.{zero≢one}
 use Rattle.terms.specs.Term.{Term, Pair, size}
 use Rattle.rewriting.specs.Overlap.{Rule}
-use Rattle.rewriting.specs.Rewrite.{step, End, spent, too-large, Paid, done, stop, Paying, return, end-with, and-then, _>>=_, end-if, pay, hold, normalise, normalise-pair}
+use Rattle.rewriting.specs.Rewrite.{step, End, complete, neither-above, spent, too-large, rules-full, log-full, end-number, goes-on, Paid, done, stop, Paying, return, end-with, and-then, _>>=_, end-if, pay, hold, normalise, normalise-pair}
 use Rattle.rewriting.proofs.Relations
 use Rattle.rewriting.proofs.Relations.{Star}
 use Rattle.rewriting.proofs.Abstract.{append, one}
@@ -147,3 +148,13 @@ module _ (E : End → ℕ → Type 0) (rules : List Rule) (out-of-units : E spen
 -- an end is no answer
 pub stop≢done : {A : Type 0} {a : A} {e : End} {l m : ℕ} → stop e l ≡ done a m → ⊥
 stop≢done q = zero≢one (cc)
+
+-- no end has the number of what goes on
+pub goes-on≢end : (e : End) → goes-on ≡ end-number e → ⊥
+unfolding end-number
+goes-on≢end complete p = omega arith
+goes-on≢end (neither-above q) p = omega arith
+goes-on≢end spent p = omega arith
+goes-on≢end too-large p = omega arith
+goes-on≢end rules-full p = omega arith
+goes-on≢end log-full p = omega arith
