@@ -14,14 +14,14 @@ use Rattle.terms.specs.Flat.{Wf}
 use Rattle.terms.proofs.Flats.{wf-subst-below}
 use Rattle.unify.specs.Unify.{Binding}
 use Rattle.rewriting.specs.Overlap.{Rule, sides-of}
-use Rattle.rewriting.specs.Rewrite.{bound, bound-or-variable, instantiate, root-step}
+use Rattle.rewriting.specs.Rewrite.{bound, bound-or-variable, instantiate, root-step, end-number, spent, too-large, goes-on}
 use Rattle.rewriting.proofs.Matching.{by}
 use Rattle.matching.specs.Cells.{cells, root-byte, cells-below, Stands}
 use Rattle.matching.specs.Held.{Slot, Rep, Within}
 use Rattle.matching.specs.Pieces.{Put, pieces, replaced}
 use Rattle.matching.proofs.Celled.{length-cells, cells-root, root-low}
 use Rattle.normaliser.specs.Marks.{Marked, ArgumentsNormal, open-cells}
-use Rattle.normaliser.specs.Stored.{Stored, right-side, Choice, Found, out, Tested, Wrote, Rewritten}
+use Rattle.normaliser.specs.Stored.{Stored, right-side, Choice, Found, out, rewritten, Tested, Wrote, Rewritten}
 use Rattle.normaliser.specs.declared.Out.{Out}
 use Rattle.normaliser.proofs.Marking.{instance-marked, marked-length}
 use Rattle.normaliser.proofs.Parts.{head-of}
@@ -66,24 +66,25 @@ module _ (rules lens t : List ℕ) (number len end most units k : ℕ) (B B′ T
   stands tab x post w b d = record { wf = w; rest = post; text = eT ∙ text tab x post w b d; inside = omega arith }
 
   -- no step: the length and the end stay
-  stays : (t′ : List ℕ) (v u : ℕ) → length t′ ≡ length t → v ≤ 2 → u ≤ units →
+  stays : (t′ : List ℕ) (v u : ℕ) → length t′ ≡ length t → (v ≡ rewritten → ⊥) → u ≤ units →
       ((tab : List ℕ) (rs : List Rule) → Stored tab rules lens 0 (sides-of rs) → number ≡ length rs → (x : Term) (post : List ℕ) → Wf 32 tab x → take len t ≡ open-cells x ++ post → end ≡ size x → ArgumentsNormal rs x →
       Wrote tab rs t′ x post most units (out v u len end) (root-step rs x)) → Rewritten rules lens number t t′ len end most units (out v u len end)
-  stays t′ v u s l h a = record { same = s; known = omega arith; ends = p; small = q; left-over = h; paid = λ z. absurd (omega arith); place = λ z. (refl, refl); answer = a }
+  stays t′ v u s l h a = record { same = s; ends = p; small = q; left-over = h; paid = λ z. absurd (l z); place = λ z. (refl, refl); answer = a }
 
-  pub step-none : k ≡ number → Rewritten rules lens number t (set t 0 c) len end most units (out 0 units len end)
-  step-none e = stays (set t 0 c) 0 units (length-set t 0 c) (omega arith) (omega arith) λ tab rs st n x post w b d nb.
-      subst (λ o. Wrote tab rs (set t 0 c) x post most units (out 0 units len end) o) (sym (f .missing e tab rs st n x (stands tab x post w b d))) (refl, refl, text tab x post w b d)
+  pub step-none : k ≡ number → Rewritten rules lens number t (set t 0 c) len end most units (out goes-on units len end)
+  step-none e = stays (set t 0 c) goes-on units (length-set t 0 c) (λ z. omega arith) (omega arith) λ tab rs st n x post w b d nb.
+      subst (λ o. Wrote tab rs (set t 0 c) x post most units (out goes-on units len end) o) (sym (f .missing e tab rs st n x (stands tab x post w b d))) (refl, refl, text tab x post w b d)
 
   module _ (ne : k ≡ number → ⊥) where
     chosen : (tab : List ℕ) (rs : List Rule) → Stored tab rules lens 0 (sides-of rs) → number ≡ length rs → (x : Term) (post : List ℕ) → Wf 32 tab x → take len t ≡ open-cells x ++ post → end ≡ size x → Choice tab rules lens T B′ k x (root-step rs x)
     chosen tab rs st n x post w b d = f .lowest (let i = f .bounded in omega arith) tab rs st n x (stands tab x post w b d)
 
-    pub step-spent : units ≡ 0 → Rewritten rules lens number t (set t 0 c) len end most units (out 1 0 len end)
-    step-spent u = stays (set t 0 c) 1 0 (length-set t 0 c) (omega arith) (omega arith) λ tab rs st n x post w b d nb.
+    pub step-spent : units ≡ 0 → Rewritten rules lens number t (set t 0 c) len end most units (out (end-number spent) 0 len end)
+    unfolding end-number
+    step-spent u = stays (set t 0 c) (end-number spent) 0 (length-set t 0 c) (λ z. omega arith) (omega arith) λ tab rs st n x post w b d nb.
         let h = chosen tab rs st n x post w b d in
-        subst (λ o. Wrote tab rs (set t 0 c) x post most units (out 1 0 len end) o) (sym (h .result))
-        (subst (λ m. Wrote tab rs (set t 0 c) x post most m (out 1 0 len end) (some (instantiate (h .bindings) (h .rule .right)))) (sym u) (refl, refl))
+        subst (λ o. Wrote tab rs (set t 0 c) x post most units (out (end-number spent) 0 len end) o) (sym (h .result))
+        (subst (λ m. Wrote tab rs (set t 0 c) x post most m (out (end-number spent) 0 len end) (some (instantiate (h .bindings) (h .rule .right)))) (sym u) (refl, refl))
 
     pub found-within : Within (take len (set t 0 c)) B′
     found-within = subst (λ l. Within l B′) eT (f .within (let i = f .bounded in omega arith))
@@ -110,10 +111,10 @@ module _ (rules lens t : List ℕ) (number len end most units k : ℕ) (B B′ T
         filled-length : length (pieces T B′ right ++ drop end T) ≡ size new + length post
         filled-length = length-append (pieces T B′ right) (drop end T) ∙ ap₂ _+_ (marked-length rs marks) (ap length rest)
 
-        large-go : (n : ℕ) → most < w → Tested tab rs t′ post n (out 2 n len end) new (ltb most (size new + length post))
+        large-go : (n : ℕ) → most < w → Tested tab rs t′ post n (out (end-number too-large) n len end) new (ltb most (size new + length post))
         large-go n l = let g : most < size new + length post = omega (arith, put .over l, filled-length) in rw (lt-ltb most (size new + length post) g) (refl, refl)
 
-        done-go : (n : ℕ) → w ≤ most → Tested tab rs t′ post n (out 3 n w 0) new (ltb most (size new + length post))
+        done-go : (n : ℕ) → w ≤ most → Tested tab rs t′ post n (out rewritten n w 0) new (ltb most (size new + length post))
         unfolding new
         done-go n l =
             let g : size new + length post ≤ most = omega (arith, put .next l, filled-length) in
@@ -130,29 +131,29 @@ module _ (rules lens t : List ℕ) (number len end most units k : ℕ) (B B′ T
 
       module _ (u : units ≡ 0 → ⊥) where
         wrote-large : (tab : List ℕ) (rs : List Rule) (x : Term) (post : List ℕ) → Wf 32 tab x → take len t ≡ open-cells x ++ post → end ≡ size x → ArgumentsNormal rs x → most < w → (o : Option Term) → Choice tab rules lens T B′ k x o →
-            (v : ℕ) → v ≡ units → Wrote tab rs t′ x post most v (out 2 (v - 1) len end) o
+            (v : ℕ) → v ≡ units → Wrote tab rs t′ x post most v (out (end-number too-large) (v - 1) len end) o
         unfolding new
         wrote-large tab rs x post wf b d nb l o h zero e = absurd (u (sym e))
         wrote-large tab rs x post wf b d nb l o h (suc n) e =
             let g : suc n - 1 ≡ n = omega arith in
-            subst (λ z. Wrote tab rs t′ x post most (suc n) (out 2 (suc n - 1) len end) z) (sym (h .result)) (rw g (large-go tab rs x post wf b d nb o h n l))
+            subst (λ z. Wrote tab rs t′ x post most (suc n) (out (end-number too-large) (suc n - 1) len end) z) (sym (h .result)) (rw g (large-go tab rs x post wf b d nb o h n l))
 
-        pub step-large : most < w → Rewritten rules lens number t t′ len end most units (out 2 (units - 1) len end)
-        step-large l = stays t′ 2 (units - 1) (pt .same ∙ length-set t 0 c) (omega arith) (omega arith) λ tab rs st n x post wf b d nb.
+        pub step-large : most < w → Rewritten rules lens number t t′ len end most units (out (end-number too-large) (units - 1) len end)
+        unfolding end-number
+        step-large l = stays t′ (end-number too-large) (units - 1) (pt .same ∙ length-set t 0 c) (λ z. omega arith) (omega arith) λ tab rs st n x post wf b d nb.
             wrote-large tab rs x post wf b d nb l (root-step rs x) (chosen tab rs st n x post wf b d) units refl
 
         wrote-done : (tab : List ℕ) (rs : List Rule) (x : Term) (post : List ℕ) → Wf 32 tab x → take len t ≡ open-cells x ++ post → end ≡ size x → ArgumentsNormal rs x → w ≤ most → (o : Option Term) → Choice tab rules lens T B′ k x o →
-            (v : ℕ) → v ≡ units → Wrote tab rs t′ x post most v (out 3 (v - 1) w 0) o
+            (v : ℕ) → v ≡ units → Wrote tab rs t′ x post most v (out rewritten (v - 1) w 0) o
         unfolding new
         wrote-done tab rs x post wf b d nb l o h zero e = absurd (u (sym e))
         wrote-done tab rs x post wf b d nb l o h (suc n) e =
             let g : suc n - 1 ≡ n = omega arith in
-            subst (λ z. Wrote tab rs t′ x post most (suc n) (out 3 (suc n - 1) w 0) z) (sym (h .result)) (rw g (done-go tab rs x post wf b d nb o h n l))
+            subst (λ z. Wrote tab rs t′ x post most (suc n) (out rewritten (suc n - 1) w 0) z) (sym (h .result)) (rw g (done-go tab rs x post wf b d nb o h n l))
 
-        pub step-done : w ≤ most → Rewritten rules lens number t t′ len end most units (out 3 (units - 1) w 0)
+        pub step-done : w ≤ most → Rewritten rules lens number t t′ len end most units (out rewritten (units - 1) w 0)
         step-done l = record {
           same = pt .same ∙ length-set t 0 c;
-          known = omega arith;
           ends = omega arith;
           small = l;
           left-over = omega arith;

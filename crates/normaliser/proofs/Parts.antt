@@ -1,5 +1,5 @@
--- Parts of a list, lent and given back, and what stands first in one; the limit less what stands before; and no end has the code 0. Assumes nothing.
--- Read first: specs/Stored (code), terms/proofs/Starts (from).
+-- Parts of a list, lent and given back, and what stands first in one; the limit less what stands before. Assumes nothing.
+-- Read first: terms/proofs/Starts (from).
 use mathlib.Core.Path.{_≡_, refl, sym, _∙_, ap, ap₂}
 use mathlib.Core.Bool.{Bool, true, false}
 use mathlib.Core.List.{List, _∷_, _++_, append-nil, nil≢cons}
@@ -11,8 +11,6 @@ use lib.ListN.{length, getD, drop, take, length-append, length-drop, drop-of-len
 use lib.Seq.{take-append-add, length-take-le, getD-take, getD-drop}
 use Rattle.terms.proofs.Lists.{take-drop}
 use Rattle.terms.proofs.Starts.{from, from-drop}
-use Rattle.rewriting.specs.Rewrite.{End, complete, neither-above, spent, too-large, rules-full, log-full}
-use Rattle.normaliser.specs.Stored.{code}
 
 abbrev pub back : ℕ → List ℕ → List ℕ → List ℕ
 back a t q = take a t ++ (q ++ drop (length t - a) (drop a t))
@@ -51,11 +49,3 @@ ltb-less m x d h = go (ltb (m - d) x) refl
     go : (b : Bool) → ltb (m - d) x ≡ b → ltb m (d + x) ≡ ltb (m - d) x
     go true e = let l : m - d < x = ltb-true (m - d) x e in lt-ltb m (d + x) (omega arith) ∙ sym e
     go false e = let l : x ≤ m - d = ltb-false (m - d) x e in le-ltb m (d + x) (omega arith) ∙ sym e
-
-pub zero≢code : (e : End) → _≡_ {A = ℕ} 0 (code e) → ⊥
-zero≢code complete p = omega arith
-zero≢code (neither-above q) p = omega arith
-zero≢code spent p = omega arith
-zero≢code too-large p = omega arith
-zero≢code rules-full p = omega arith
-zero≢code log-full p = omega arith

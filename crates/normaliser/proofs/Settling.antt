@@ -18,21 +18,21 @@ use Rattle.terms.proofs.Places.{size-pos}
 use Rattle.terms.proofs.Scans.{owes-symbol, owes-other}
 use Rattle.terms.proofs.Starts.{from}
 use Rattle.rewriting.specs.Overlap.{Rule, sides-of}
-use Rattle.rewriting.specs.Rewrite.{root-step, step, step-in, Paid, done, stop, too-large, and-then}
+use Rattle.rewriting.specs.Rewrite.{root-step, step, step-in, Paid, done, stop, spent, too-large, and-then, end-number, goes-on}
+use Rattle.rewriting.proofs.Holds.{goes-on≢end}
 use Rattle.matching.specs.Cells.{cells, cells-all, root-byte, cells-below}
 use Rattle.matching.proofs.Celled.{length-cells, cells-root, root-low, cell-size}
 use Rattle.normaliser.specs.Inside.{pay-for, normalise-in, normalise-all}
 use Rattle.normaliser.specs.Marks.{Marked, MarkedAll, leaf, visit, leave, no-more, ArgumentsNormal, open-cells}
-use Rattle.normaliser.specs.Stored.{Stored, Holds, HoldsAll, Tested, Wrote, Rewritten, out, Left, EndsWith, EndsAll, Limit, Settled, SettledAll}
+use Rattle.normaliser.specs.Stored.{Stored, Holds, HoldsAll, rewritten, Tested, Wrote, Rewritten, out, Left, EndsWith, EndsAll, Limit, Settled, SettledAll}
 use Rattle.normaliser.specs.declared.Out.{Out}
 use Rattle.normaliser.proofs.Sequence.{at-root, iterate-normal, normalise-normal, normalise-var, normalise-node, normalise-nil}
 use Rattle.normaliser.proofs.Marking.{marked-length}
-use Rattle.normaliser.proofs.Parts.{back, head-of, from-take, back-length, back-take, ltb-less, zero≢code}
+use Rattle.normaliser.proofs.Parts.{back, head-of, from-take, back-length, back-take, ltb-less}
 
 -- `leave`
-pub leave-long : (c len units e : ℕ) (o : Out) → o ≡ out 4 units len 0 → e ≡ c / 256 → len < e → Left c len units o
+pub leave-long : (c len units e : ℕ) (o : Out) → o ≡ out 3 units len 0 → e ≡ c / 256 → len < e → Left c len units o
 leave-long c len units e o d k h = subst (λ z. Left c len units z) (sym d) (record {
-  known = omega arith;
   whole = refl;
   left-over = refl;
   ends = omega arith;
@@ -40,9 +40,8 @@ leave-long c len units e o d k h = subst (λ z. Left c len units z) (sym d) (rec
   answer = λ z. absurd (omega arith);
 })
 
-pub leave-done : (c len units e : ℕ) (o : Out) → o ≡ out 0 units len e → e ≡ c / 256 → e ≤ len → 256 ≤ c → Left c len units o
+pub leave-done : (c len units e : ℕ) (o : Out) → o ≡ out goes-on units len e → e ≡ c / 256 → e ≤ len → 256 ≤ c → Left c len units o
 leave-done c len units e o d k h l = subst (λ z. Left c len units z) (sym d) (record {
-  known = omega arith;
   whole = refl;
   left-over = refl;
   ends = h;
@@ -99,9 +98,9 @@ module _ (tab rules lens : List ℕ) (number : ℕ) where
   }
 
   module _ (t₀ : List ℕ) (len most units : ℕ) (t : List ℕ) (l u : ℕ) (i : Turning tab rules lens number t₀ len most units t l u) where
-    pub turn-empty : l ≡ 0 → (o : Out) → o ≡ out 4 u 0 0 → Settled tab rules lens number t₀ t len most units o
+    pub turn-empty : l ≡ 0 → (o : Out) → o ≡ out 3 u 0 0 → Settled tab rules lens number t₀ t len most units o
     turn-empty e o d = subst (λ o. Settled tab rules lens number t₀ t len most units o) (sym d) (record {
-      bounds = record { same = i .same; known = omega arith; ends = omega arith; small = omega arith; cost = let c = i .cost in omega arith };
+      bounds = record { same = i .same; ends = omega arith; small = omega arith; cost = let c = i .cost in omega arith };
       first = λ z. absurd (omega arith);
       answer = λ rs st n x post h big lim. let p = i .place rs st n x post h big lim in absurd (none-held tab rs t l (p .term) post e (p .held));
     })
@@ -129,7 +128,7 @@ module _ (tab rules lens : List ℕ) (number : ℕ) where
           let e : o .len ≡ l = lf .whole in
           let v : o .units ≡ u = lf .left-over in
           record {
-            bounds = record { same = i .same; known = lf .known; ends = lf .ends; small = let m = i .small in omega arith; cost = let m = i .cost in omega arith };
+            bounds = record { same = i .same; ends = lf .ends; small = let m = i .small in omega arith; cost = let m = i .cost in omega arith };
             first = lf .first;
             answer = λ rs st n x post h big lim.
                 let p = i .place rs st n x post h big lim in
@@ -191,20 +190,19 @@ module _ (tab rules lens : List ℕ) (number : ℕ) where
           (back-length 1 t q one (d .same), omega arith, (let e = d .ends in omega arith), (let e = d .small in let k = i .small in omega arith))
 
       -- an argument came to no end
-      stop-go : (rs : List Rule) (big : ℕ → Bool) (post : List ℕ) (y : Term) → (r .verdict ≡ 0 → ⊥) → (p : Paid Terms) → EndsAll tab q post n r p → (t′ : List ℕ) →
+      stop-go : (rs : List Rule) (big : ℕ → Bool) (post : List ℕ) (y : Term) → (r .verdict ≡ goes-on → ⊥) → (p : Paid Terms) → EndsAll tab q post n r p → (t′ : List ℕ) →
           EndsWith tab t′ post r (and-then p (λ us m. at-root rs big (with-args y us) m))
       unfolding and-then
       stop-go rs big post y z (done us m) e t′ = absurd (z (e .0))
       stop-go rs big post y z (stop c m) e t′ = e
 
-      pub turn-stop : (r .verdict ≡ 0 → ⊥) → Settled tab rules lens number t₀ (back 1 t q) len most units r
+      pub turn-stop : (r .verdict ≡ goes-on → ⊥) → Settled tab rules lens number t₀ (back 1 t q) len most units r
       turn-stop z =
           let d = a .bounds in
           let nz : 0 < l = omega arith in
           record {
             bounds = record {
               same = back-length 1 t q one (d .same) ∙ i .same;
-              known = d .known;
               ends = d .ends;
               small = let s = d .small in omega arith;
               cost = let c = d .cost in let k = i .cost in omega arith;
@@ -218,7 +216,7 @@ module _ (tab rules lens : List ℕ) (number : ℕ) where
           }
 
       -- the arguments are normal, and the root is tried
-      module _ (zr : r .verdict ≡ 0) (t′ : List ℕ) (s : Out) (w : Rewritten rules lens number (back 1 t q) t′ (r .len + 1) (r .end + 1) most (r .units) s) where
+      module _ (zr : r .verdict ≡ goes-on) (t′ : List ℕ) (s : Out) (w : Rewritten rules lens number (back 1 t q) t′ (r .len + 1) (r .end + 1) most (r .units) s) where
         wf-with : (y : Term) (us : Terms) → Wf 32 tab y → Wfs 32 tab us → count us ≡ n → count (args y) ≡ n → Wf 32 tab (with-args y us)
         unfolding with-args Wf args
         wf-with (var x) us v k e d = v
@@ -243,28 +241,28 @@ module _ (tab rules lens : List ℕ) (number : ℕ) where
 
         -- what the step at the root says of `at-root`
         abbrev Next : List Rule → (ℕ → Bool) → List ℕ → Paid Term → Type 0
-        Next rs big post p = ((s .verdict ≡ 3 → ⊥) → EndsWith tab t′ post s p) ×
-            (s .verdict ≡ 3 → (v : Term) × Holds tab rs t′ (s .len) v post × (p ≡ normalise-in rs big v (s .units)))
+        Next rs big post p = ((s .verdict ≡ rewritten → ⊥) → EndsWith tab t′ post s p) ×
+            (s .verdict ≡ rewritten → (v : Term) × Holds tab rs t′ (s .len) v post × (p ≡ normalise-in rs big v (s .units)))
 
         tested-go : (rs : List Rule) (big : ℕ → Bool) (post : List ℕ) (v : Term) (k : ℕ) (b : Bool) → Tested tab rs t′ post k s v b → Next rs big post (if b then stop too-large k else normalise-in rs big v k)
-        unfolding if_then_else_
-        tested-go rs big post v k true e = (λ z. e, λ z. absurd (let d : s .verdict ≡ 2 = e .0 in omega arith))
+        unfolding if_then_else_ end-number
+        tested-go rs big post v k true e = (λ z. e, λ z. absurd (let d : s .verdict ≡ end-number too-large = e .0 in omega arith))
         tested-go rs big post v k false e = (λ z. absurd (z (e .0)), λ z. (v, e .2, ap (normalise-in rs big v) (sym (e .1))))
 
         root-go : (rs : List Rule) (big : ℕ → Bool) (post : List ℕ) → Limit big most post → (y : Term) → Wf 32 tab y → r .end + 1 ≡ size y → (o : Option Term) (k : ℕ) → Wrote tab rs t′ y post most k s o →
             Next rs big post (pay-for (λ v. big (size v)) (λ v m. normalise-in rs big v m) y o k)
-        unfolding pay-for
+        unfolding pay-for end-number
         root-go rs big post lim y v d none k o = (
           λ z. (o .0, o .1, w .place z .1 ∙ d, o .2, v),
-          λ z. absurd (let h : s .verdict ≡ 0 = o .0 in omega arith),
+          λ z. absurd (let h : s .verdict ≡ goes-on = o .0 in omega arith),
         )
-        root-go rs big post lim y v d (some x) zero o = (λ z. o, λ z. absurd (let h : s .verdict ≡ 1 = o .0 in omega arith))
+        root-go rs big post lim y v d (some x) zero o = (λ z. o, λ z. absurd (let h : s .verdict ≡ end-number spent = o .0 in omega arith))
         root-go rs big post lim y v d (some x) (suc k) o = tested-go rs big post x k (big (size x)) (subst (λ c. Tested tab rs t′ post k s x c) (sym (lim (size x))) o)
 
         root-next : (rs : List Rule) → Stored tab rules lens 0 (sides-of rs) → number ≡ length rs → (big : ℕ → Bool) (post : List ℕ) → Limit big most post → (y : Term) → Wf 32 tab y → Opened rs t l y post →
             (p : Paid Terms) → normalise-all rs (λ k. big (suc k)) (args y) u ≡ p → EndsAll tab q post n r p → Next rs big post (and-then p (λ us m. at-root rs big (with-args y us) m))
         unfolding and-then
-        root-next rs st m big post lim y v b (stop c k) j e = absurd (zero≢code c (sym zr ∙ e .0))
+        root-next rs st m big post lim y v b (stop c k) j e = absurd (goes-on≢end c (sym zr ∙ e .0))
         root-next rs st m big post lim y v b (done us k) j e =
             let d = number-of rs y post v b in
             let f = wf-with y us v (e .4) (e .5) d in
@@ -281,7 +279,7 @@ module _ (tab rules lens : List ℕ) (number : ℕ) where
             subst (λ o. Next rs big post o) (sym (p .answer ∙ by-parts rs big (p .term) u))
             (root-next rs st m big post lim (p .term) (p .held .wf) o (normalise-all rs (λ k. big (suc k)) (args (p .term)) u) refl (inner rs st m (p .term) post (p .held .wf) o big lim))
 
-        pub turn-end : (s .verdict ≡ 3 → ⊥) → Settled tab rules lens number t₀ t′ len most units s
+        pub turn-end : (s .verdict ≡ rewritten → ⊥) → Settled tab rules lens number t₀ t′ len most units s
         turn-end z =
             let d = a .bounds in
             let nz : 0 < l = omega arith in
@@ -289,7 +287,6 @@ module _ (tab rules lens : List ℕ) (number : ℕ) where
             record {
               bounds = record {
                 same = w .same ∙ back-length 1 t q one (d .same) ∙ i .same;
-                known = let k = w .known in omega arith;
                 ends = w .ends;
                 small = w .small;
                 cost = let c = d .cost in let k = i .cost in let o = w .left-over in omega arith;
@@ -298,10 +295,10 @@ module _ (tab rules lens : List ℕ) (number : ℕ) where
               answer = λ rs st m x post h big lim. next rs st m x post h big lim .0 z;
             }
 
-        pub turn-less : most ≤ 120 → s .verdict ≡ 3 → s .units < u
+        pub turn-less : most ≤ 120 → s .verdict ≡ rewritten → s .units < u
         turn-less h z = let c = a .bounds .cost in let k = i .small in let o = w .paid z in omega arith
 
-        pub turn-on : most ≤ 120 → s .verdict ≡ 3 → Turning tab rules lens number t₀ len most units t′ (s .len) (s .units)
+        pub turn-on : most ≤ 120 → s .verdict ≡ rewritten → Turning tab rules lens number t₀ len most units t′ (s .len) (s .units)
         turn-on h z =
             let d = a .bounds in
             let nz : 0 < l = omega arith in

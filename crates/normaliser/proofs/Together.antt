@@ -13,9 +13,9 @@ use Rattle.terms.specs.Term.{Term, Terms, nil, cons, size, sizes}
 use Rattle.terms.specs.Flat.{Wf, Wfs}
 use Rattle.terms.specs.Scan.{count}
 use Rattle.terms.proofs.Starts.{from}
-use Rattle.rewriting.proofs.Holds.{and-then-assoc}
+use Rattle.rewriting.proofs.Holds.{and-then-assoc, goes-on≢end}
 use Rattle.rewriting.specs.Overlap.{Rule, sides-of}
-use Rattle.rewriting.specs.Rewrite.{Paid, done, stop, and-then}
+use Rattle.rewriting.specs.Rewrite.{Paid, done, stop, and-then, goes-on}
 use Rattle.matching.specs.Cells.{cells, cells-all}
 use Rattle.matching.proofs.Celled.{length-cells}
 use Rattle.normaliser.specs.Inside.{normalise-in, normalise-all}
@@ -24,7 +24,7 @@ use Rattle.normaliser.specs.Stored.{Stored, HoldsAll, out, EndsWith, End
 use Rattle.normaliser.specs.declared.Out.{Out}
 use Rattle.normaliser.proofs.Sequence.{normalise-nil, normalise-cons, then-others}
 use Rattle.normaliser.proofs.Marking.{marked-lengths}
-use Rattle.normaliser.proofs.Parts.{back, from-take, back-length, back-take, ltb-less, zero≢code}
+use Rattle.normaliser.proofs.Parts.{back, from-take, back-length, back-take, ltb-less}
 
 -- Of n terms k are still to do, from the cell p on; `behind` puts those in front of them that are done, and all come to `goal`.
 pub record Ahead (tab : List ℕ) (rs : List Rule) (post t : List ℕ) (n most k p l u : ℕ) (goal : Paid Terms) : Type 0 where
@@ -86,19 +86,19 @@ module _ (tab rules lens : List ℕ) (number : ℕ) (t₀ : List ℕ) (n len mos
     -- no term is left
     end-go : (rs : List Rule) (post : List ℕ) (goal : Paid Terms) → k ≡ 0 → (todo : Terms) (ms : List ℕ) → count todo ≡ k → MarkedAll rs ms todo → take (l - p) (from t p) ≡ ms ++ post →
         (big : ℕ → Bool) (behind : Terms → Terms) → goal ≡ and-then (normalise-all rs big todo u) (λ us m. done (behind us) m) →
-        sizes (behind nil) ≡ p + sizes nil → count (behind nil) + k ≡ n + count nil → Wfs 32 tab (behind nil) → cells-all (behind nil) ≡ take p t ++ cells-all nil → EndsAll tab t post n (out 0 u l p) goal
+        sizes (behind nil) ≡ p + sizes nil → count (behind nil) + k ≡ n + count nil → Wfs 32 tab (behind nil) → cells-all (behind nil) ≡ take p t ++ cells-all nil → EndsAll tab t post n (out goes-on u l p) goal
     unfolding count sizes cells-all and-then
     end-go rs post goal z (cons x xs) ms c h b big f g s d w e = absurd (omega arith)
     end-go rs post goal z nil ms c (no-more q) b big f g s d w e =
         let v : goal ≡ done (f nil) u = g ∙ ap (λ o. and-then o (λ us m. done (f us) m)) (normalise-nil rs big u) in
         let y : drop p (take l t) ≡ post = sym (from-take p l t (i .place)) ∙ b ∙ ap (λ z. z ++ post) q in
         let x : take p (take l t) ≡ cells-all (f nil) = take-take p l t (i .place) ∙ sym (append-nil (take p t)) ∙ sym e in
-        subst (λ o. EndsAll tab t post n (out 0 u l p) o) (sym v) (refl, refl, omega arith, sym (take-append-drop p (take l t)) ∙ ap₂ _++_ x y, w, omega arith)
+        subst (λ o. EndsAll tab t post n (out goes-on u l p) o) (sym v) (refl, refl, omega arith, sym (take-append-drop p (take l t)) ∙ ap₂ _++_ x y, w, omega arith)
 
-    pub row-end : k ≡ 0 → (o : Out) → o ≡ out 0 u l p → SettledAll tab rules lens number t₀ t n len most units o
+    pub row-end : k ≡ 0 → (o : Out) → o ≡ out goes-on u l p → SettledAll tab rules lens number t₀ t n len most units o
     unfolding Wfs
     row-end z o d = subst (λ o. SettledAll tab rules lens number t₀ t n len most units o) (sym d) (record {
-      bounds = record { same = i .same; known = omega arith; ends = i .place; small = i .small; cost = i .cost };
+      bounds = record { same = i .same; ends = i .place; small = i .small; cost = i .cost };
       answer = λ rs st m xs post h e big lim.
           let a = i .ahead rs st m xs post h e big lim in
           end-go rs post (normalise-all rs big xs units) z (a .todo) (a .held .marks) (a .number) (a .held .marked) (a .held .text) (a .big) (a .behind) (a .answer) (a .behind-size nil) (a .behind-count nil) (a .behind-wf nil tt) (a .behind-cells nil);
@@ -117,12 +117,12 @@ module _ (tab rules lens : List ℕ) (number : ℕ) (t₀ : List ℕ) (n len mos
           s .answer rs st m x (b ++ post) (record { wf = w; marks = a; marked = h; text = e ∙ append-assoc a b post }) (λ j. big (j + sizes xs)) (next-lim rs xs b post big g lim)
 
       -- it came to no end
-      stop-go : (post′ post : List ℕ) (f : Term → ℕ → Paid Terms) (g : Terms → ℕ → Paid Terms) → (r .verdict ≡ 0 → ⊥) → (o : Paid Term) → EndsWith tab q post′ r o → (t′ : List ℕ) → EndsAll tab t′ post n r (and-then (and-then o f) g)
+      stop-go : (post′ post : List ℕ) (f : Term → ℕ → Paid Terms) (g : Terms → ℕ → Paid Terms) → (r .verdict ≡ goes-on → ⊥) → (o : Paid Term) → EndsWith tab q post′ r o → (t′ : List ℕ) → EndsAll tab t′ post n r (and-then (and-then o f) g)
       unfolding and-then
       stop-go post′ post f g z (done y m) e t′ = absurd (z (e .0))
       stop-go post′ post f g z (stop c m) e t′ = e
 
-      stops : (r .verdict ≡ 0 → ⊥) → (rs : List Rule) → Stored tab rules lens 0 (sides-of rs) → number ≡ length rs → (post : List ℕ) (goal : Paid Terms) (t′ : List ℕ) (todo : Terms) (ms : List ℕ) → count todo ≡ k → Wfs 32 tab todo → MarkedAll rs ms todo →
+      stops : (r .verdict ≡ goes-on → ⊥) → (rs : List Rule) → Stored tab rules lens 0 (sides-of rs) → number ≡ length rs → (post : List ℕ) (goal : Paid Terms) (t′ : List ℕ) (todo : Terms) (ms : List ℕ) → count todo ≡ k → Wfs 32 tab todo → MarkedAll rs ms todo →
           take (l - p) (from t p) ≡ ms ++ post → (big : ℕ → Bool) → Limit big (most - p) post → (f : Terms → Terms) → goal ≡ and-then (normalise-all rs big todo u) (λ us m. done (f us) m) → EndsAll tab t′ post n r goal
       unfolding Wfs count
       stops z rs st m post goal t′ nil ms c w h b big lim f g = absurd (omega arith)
@@ -133,13 +133,12 @@ module _ (tab rules lens : List ℕ) (number : ℕ) (t₀ : List ℕ) (n len mos
       same-back : length (back p t q) ≡ length t₀
       same-back = back-length p t q fits (s .bounds .same) ∙ i .same
 
-      pub row-stop : (r .verdict ≡ 0 → ⊥) → SettledAll tab rules lens number t₀ (back p t q) n len most units r
+      pub row-stop : (r .verdict ≡ goes-on → ⊥) → SettledAll tab rules lens number t₀ (back p t q) n len most units r
       row-stop z =
           let d = s .bounds in
           record {
             bounds = record {
               same = same-back;
-              known = d .known;
               ends = d .ends;
               small = let x = d .small in omega arith;
               cost = let x = d .cost in let y = i .cost in omega arith;
@@ -150,12 +149,12 @@ module _ (tab rules lens : List ℕ) (number : ℕ) (t₀ : List ℕ) (n len mos
           }
 
       -- it is normal
-      module _ (zr : r .verdict ≡ 0) where
+      module _ (zr : r .verdict ≡ goes-on) where
         on-done : (rs : List Rule) (post : List ℕ) (goal : Paid Terms) (xs : Terms) (ms : List ℕ) → suc (count xs) ≡ k → Wfs 32 tab xs → MarkedAll rs ms xs → (big : ℕ → Bool) → Limit big (most - p) post → (a : Ahead tab rs post t n most k p l u goal) →
             (o : Paid Term) → EndsWith tab q (ms ++ post) r o → goal ≡ and-then (and-then o (λ y m. then-others rs big xs y m)) (λ us m. done (a .behind us) m) →
             Ahead tab rs post (back p t q) n most (k - 1) (r .end + p) (r .len + p) (r .units) goal
         unfolding and-then size sizes count Wfs cells-all
-        on-done rs post goal xs ms c w h big lim a (stop e j) f g = absurd (zero≢code e (sym zr ∙ f .0))
+        on-done rs post goal xs ms c w h big lim a (stop e j) f g = absurd (goes-on≢end e (sym zr ∙ f .0))
         on-done rs post goal xs ms c w h big lim a (done y j) f g =
             let e : r .end ≡ size y = f .2 in
             let d = s .bounds in

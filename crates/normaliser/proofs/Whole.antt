@@ -14,7 +14,7 @@ use Rattle.terms.specs.Term.{Term, term-bytes, size}
 use Rattle.terms.specs.Flat.{Wf}
 use Rattle.terms.proofs.Bytes.{length-bytes}
 use Rattle.rewriting.specs.Overlap.{Rule, sides-of}
-use Rattle.rewriting.specs.Rewrite.{Paid, done, stop, spent, step, normalise}
+use Rattle.rewriting.specs.Rewrite.{Paid, done, stop, spent, step, normalise, end-number}
 use Rattle.matching.specs.Cells.{cells, node-bytes}
 use Rattle.matching.proofs.Celled.{bytes-cells}
 use Rattle.normaliser.specs.Inside.{pay-for, normalise-in}
@@ -56,7 +56,6 @@ module _ (tab rules lens : List ℕ) (number : ℕ) (S z t₁ t₂ : List ℕ) (
     pub whole : Normalised tab rules lens number t t′ len units (record { verdict = o .verdict; paid = units - o .units; len = o .len })
     whole = record {
       same = ap length e′ ∙ length-append (node-bytes C) (drop (length C) t) ∙ omega (arith, bytes-length C, length-C, length-drop (length C) t, s .bounds .small);
-      known = s .bounds .known;
       within = omega arith;
       small = s .bounds .small;
       answer = λ rs st m x w b. whole-go (normalise rs x units) (subst (λ p. EndsWith tab t₂ [] o p) (normalise-whole rs units x) (settled-term rs st m x w (eS ∙ b)));
@@ -64,18 +63,18 @@ module _ (tab rules lens : List ℕ) (number : ℕ) (S z t₁ t₂ : List ℕ) (
 
   -- `reducible`
   module _ (no : units ≡ 0) where
-    step-go : (rs : List Rule) (x : Term) (q : Option Term) → step rs x ≡ q → EndsWith tab t₂ [] o (normalise-in rs (ltb 120) x 0) → eqb (o .verdict) 1 ≡ is-some q
-    unfolding is-some pay-for
+    step-go : (rs : List Rule) (x : Term) (q : Option Term) → step rs x ≡ q → EndsWith tab t₂ [] o (normalise-in rs (ltb 120) x 0) → eqb (o .verdict) 21 ≡ is-some q
+    unfolding is-some pay-for end-number
     step-go rs x none e h =
         let g : EndsWith tab t₂ [] o (done x 0) = subst (λ p. EndsWith tab t₂ [] o p) (normalise-normal rs (ltb 120) x 0 e) h in
-        ap (λ v. eqb v 1) (g .0)
+        ap (λ v. eqb v 21) (g .0)
     step-go rs x (some u) e h =
         let d : normalise-in rs (ltb 120) x 0 ≡ stop spent 0 =
         iterate-step (step rs) (λ v. ltb 120 (size v)) x 0 ∙ ap (λ q. pay-for (λ v. ltb 120 (size v)) (λ v n. normalise-in rs (ltb 120) v n) x q 0) e in
         let g : EndsWith tab t₂ [] o (stop spent 0) = subst (λ p. EndsWith tab t₂ [] o p) d h in
-        ap (λ v. eqb v 1) (g .0)
+        ap (λ v. eqb v 21) (g .0)
 
-    pub reduces : Reducible tab rules lens number S (eqb (o .verdict) 1)
+    pub reduces : Reducible tab rules lens number S (eqb (o .verdict) 21)
     reduces = record {
       answer = λ rs st m x w b. step-go rs x (step rs x) refl (subst (λ k. EndsWith tab t₂ [] o (normalise-in rs (ltb 120) x k)) no (settled-term rs st m x w b));
     }

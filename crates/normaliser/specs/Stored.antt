@@ -12,7 +12,7 @@ use Rattle.terms.specs.Flat.{Wf, Wfs}
 use Rattle.terms.specs.Scan.{count}
 use Rattle.unify.specs.Unify.{Binding}
 use Rattle.rewriting.specs.Overlap.{Rule, sides-of}
-use Rattle.rewriting.specs.Rewrite.{matching, instantiate, root-step, step, normalise, Paid, done, stop, End, complete, neither-above, spent, too-large, rules-full, log-full}
+use Rattle.rewriting.specs.Rewrite.{matching, instantiate, root-step, step, normalise, Paid, done, stop, spent, too-large, end-number, goes-on}
 use Rattle.matching.specs.Cells.{cells, cells-all, Stands}
 use Rattle.matching.specs.Held.{Rep, Within, Answers}
 use Rattle.normaliser.specs.Inside.{normalise-in, normalise-all}
@@ -87,56 +87,48 @@ pub record HoldsAll (tab : List ℕ) (rs : List Rule) (t : List ℕ) (len : ℕ)
 abbrev pub out : ℕ → ℕ → ℕ → ℕ → Out
 out verdict units len end = record { verdict = verdict; units = units; len = len; end = end }
 
--- `rewrite`
+-- `rewrite`: the verdict where a step was made; no end has it
+abbrev pub rewritten : ℕ
+rewritten = 2
+
 abbrev pub Tested : List ℕ → List Rule → List ℕ → List ℕ → ℕ → Out → Term → Bool → Type 0
-Tested tab rs t post n o u true = (o .verdict ≡ 2) × (o .units ≡ n)
-Tested tab rs t post n o u false = (o .verdict ≡ 3) × (o .units ≡ n) × Holds tab rs t (o .len) u post
+Tested tab rs t post n o u true = (o .verdict ≡ end-number too-large) × (o .units ≡ n)
+Tested tab rs t post n o u false = (o .verdict ≡ rewritten) × (o .units ≡ n) × Holds tab rs t (o .len) u post
 
 abbrev pub Wrote : List ℕ → List Rule → List ℕ → Term → List ℕ → ℕ → ℕ → Out → Option Term → Type 0
-Wrote tab rs t x post most units o none = (o .verdict ≡ 0) × (o .units ≡ units) × (take (o .len) t ≡ cells x ++ post)
-Wrote tab rs t x post most zero o (some u) = (o .verdict ≡ 1) × (o .units ≡ 0)
+Wrote tab rs t x post most units o none = (o .verdict ≡ goes-on) × (o .units ≡ units) × (take (o .len) t ≡ cells x ++ post)
+Wrote tab rs t x post most zero o (some u) = (o .verdict ≡ end-number spent) × (o .units ≡ 0)
 Wrote tab rs t x post most (suc n) o (some u) = Tested tab rs t post n o u (ltb most (size u + length post))
 
 pub record Rewritten (rules lens : List ℕ) (number : ℕ) (t t′ : List ℕ) (len end most units : ℕ) (o : Out) : Type 0 where
   pub same : length t′ ≡ length t
-  pub known : o .verdict ≤ 3
   pub ends : o .end ≤ o .len
   pub small : o .len ≤ most
   pub left-over : o .units ≤ units
-  pub paid : o .verdict ≡ 3 → o .units + 1 ≡ units
-  pub place : (o .verdict ≡ 3 → ⊥) → (o .len ≡ len) × (o .end ≡ end)
+  pub paid : o .verdict ≡ rewritten → o .units + 1 ≡ units
+  pub place : (o .verdict ≡ rewritten → ⊥) → (o .len ≡ len) × (o .end ≡ end)
   pub answer : (tab : List ℕ) (rs : List Rule) → Stored tab rules lens 0 (sides-of rs) → number ≡ length rs → (x : Term) (post : List ℕ) → Wf 32 tab x → take len t ≡ open-cells x ++ post → end ≡ size x → ArgumentsNormal rs x →
       Wrote tab rs t′ x post most units o (root-step rs x)
 
 -- `leave`
 pub record Left (c len units : ℕ) (o : Out) : Type 0 where
-  pub known : o .verdict ≤ 4
   pub whole : o .len ≡ len
   pub left-over : o .units ≡ units
   pub ends : o .end ≤ o .len
-  pub first : o .verdict ≡ 0 → 1 ≤ o .end
-  pub answer : c / 256 ≤ len → (o .verdict ≡ 0) × (o .end ≡ c / 256)
+  pub first : o .verdict ≡ goes-on → 1 ≤ o .end
+  pub answer : c / 256 ≤ len → (o .verdict ≡ goes-on) × (o .end ≡ c / 256)
 
 -- `settle` and `settle_all`
-abbrev pub code : End → ℕ
-code complete = 9
-code (neither-above p) = 9
-code spent = 1
-code too-large = 2
-code rules-full = 9
-code log-full = 9
-
 abbrev pub EndsWith : List ℕ → List ℕ → List ℕ → Out → Paid Term → Type 0
-EndsWith tab t post o (done y left) = (o .verdict ≡ 0) × (o .units ≡ left) × (o .end ≡ size y) × (take (o .len) t ≡ cells y ++ post) × Wf 32 tab y
-EndsWith tab t post o (stop e left) = (o .verdict ≡ code e) × (o .units ≡ left)
+EndsWith tab t post o (done y left) = (o .verdict ≡ goes-on) × (o .units ≡ left) × (o .end ≡ size y) × (take (o .len) t ≡ cells y ++ post) × Wf 32 tab y
+EndsWith tab t post o (stop e left) = (o .verdict ≡ end-number e) × (o .units ≡ left)
 
 abbrev pub EndsAll : List ℕ → List ℕ → List ℕ → ℕ → Out → Paid Terms → Type 0
-EndsAll tab t post n o (done ys left) = (o .verdict ≡ 0) × (o .units ≡ left) × (o .end ≡ sizes ys) × (take (o .len) t ≡ cells-all ys ++ post) × Wfs 32 tab ys × (count ys ≡ n)
-EndsAll tab t post n o (stop e left) = (o .verdict ≡ code e) × (o .units ≡ left)
+EndsAll tab t post n o (done ys left) = (o .verdict ≡ goes-on) × (o .units ≡ left) × (o .end ≡ sizes ys) × (take (o .len) t ≡ cells-all ys ++ post) × Wfs 32 tab ys × (count ys ≡ n)
+EndsAll tab t post n o (stop e left) = (o .verdict ≡ end-number e) × (o .units ≡ left)
 
 pub record Bounds (t t′ : List ℕ) (len most units : ℕ) (o : Out) : Type 0 where
   pub same : length t′ ≡ length t
-  pub known : o .verdict ≤ 4
   pub ends : o .end ≤ o .len
   pub small : o .len ≤ most
   pub cost : 1000 * (o .units) + 2 * (o .len) ≤ 1000 * units + 2 * len
@@ -146,7 +138,7 @@ Limit big most post = (n : ℕ) → big n ≡ ltb most (n + length post)
 
 pub record Settled (tab rules lens : List ℕ) (number : ℕ) (t t′ : List ℕ) (len most units : ℕ) (o : Out) : Type 0 where
   pub bounds : Bounds t t′ len most units o
-  pub first : o .verdict ≡ 0 → 1 ≤ o .end
+  pub first : o .verdict ≡ goes-on → 1 ≤ o .end
   pub answer : (rs : List Rule) → Stored tab rules lens 0 (sides-of rs) → number ≡ length rs → (x : Term) (post : List ℕ) → Holds tab rs t len x post →
       (big : ℕ → Bool) → Limit big most post → EndsWith tab t′ post o (normalise-in rs big x units)
 
@@ -157,12 +149,11 @@ pub record SettledAll (tab rules lens : List ℕ) (number : ℕ) (t t′ : List 
 
 -- `normalise`: exactly as the definition says, and the units paid are those it takes
 abbrev pub NormalIs : List ℕ → List ℕ → ℕ → Normal → Paid Term → Type 0
-NormalIs tab t units o (done y left) = (o .verdict ≡ 0) × (o .paid + left ≡ units) × (o .len ≡ size y) × (take (o .len) t ≡ term-bytes y) × Wf 32 tab y
-NormalIs tab t units o (stop e left) = (o .verdict ≡ code e) × (o .paid + left ≡ units)
+NormalIs tab t units o (done y left) = (o .verdict ≡ goes-on) × (o .paid + left ≡ units) × (o .len ≡ size y) × (take (o .len) t ≡ term-bytes y) × Wf 32 tab y
+NormalIs tab t units o (stop e left) = (o .verdict ≡ end-number e) × (o .paid + left ≡ units)
 
 pub record Normalised (tab rules lens : List ℕ) (number : ℕ) (t t′ : List ℕ) (len units : ℕ) (o : Normal) : Type 0 where
   pub same : length t′ ≡ length t
-  pub known : o .verdict ≤ 4
   pub within : o .paid ≤ units
   pub small : o .len ≤ 120
   pub answer : (rs : List Rule) → Stored tab rules lens 0 (sides-of rs) → number ≡ length rs → (x : Term) → Wf 32 tab x → take len t ≡ term-bytes x →

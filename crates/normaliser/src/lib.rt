@@ -41,7 +41,12 @@ fn find(rules: &[u8], lens: &[u8], count: usize, t: &[u16], binds: &mut [u8]) ->
     k
 }
 
-// 0: normal; 1: a unit due and none left; 2: too large; 3: rewritten; 4: no term.
+// Verdicts that are no end: a step was made at the root; no term stands there.
+const REWRITTEN: u8 = 2;
+
+const NO_TERM: u8 = 3;
+
+// Verdict GOES_ON: normal; SPENT; TOO_LARGE; REWRITTEN; NO_TERM.
 pub struct Out {
     pub verdict: u8,
     pub units: u32,
@@ -100,16 +105,16 @@ fn rewrite(
     let mut binds = [0u8; 16];
     let k = find(rules, lens, count, &t[0..len], &mut binds);
     if k == count {
-        return ended(0, units, len, end);
+        return ended(rewriting::GOES_ON, units, len, end);
     }
     if units == 0 {
-        return ended(1, 0, len, end);
+        return ended(rewriting::SPENT, 0, len, end);
     }
     let w = contract(t, len, end, most, rules, lens, k, &binds);
     if w > most {
-        return ended(2, units - 1, len, end);
+        return ended(rewriting::TOO_LARGE, units - 1, len, end);
     }
-    ended(3, units - 1, w, 0)
+    ended(REWRITTEN, units - 1, w, 0)
 }
 
 // The term at the start, whose root has the cell c, is normal. It would be no term where it ends beyond len.
@@ -119,9 +124,9 @@ fn leave(c: u16, len: usize, units: u32) -> Out
 {
     let e = matching::size_of(c);
     if e > len {
-        return ended(4, units, len, 0);
+        return ended(NO_TERM, units, len, 0);
     }
-    ended(0, units, len, e)
+    ended(rewriting::GOES_ON, units, len, e)
 }
 
 // Normalises the term at the start of t, of which `len` cells are in use and at most `most` may be.
@@ -143,7 +148,7 @@ fn settle(
     let mut u = units;
     loop {
         if l == 0 {
-            return ended(4, u, 0, 0);
+            return ended(NO_TERM, u, 0, 0);
         }
         let c = t[0];
         if c >= 256 {
@@ -152,11 +157,11 @@ fn settle(
         let n = terms::owed_by(table, matching::byte_of(c));
         let m = most - 1;
         let r = settle_all(&mut t[1..], n, l - 1, m, table, rules, lens, count, u);
-        if r.verdict != 0 {
+        if r.verdict != rewriting::GOES_ON {
             return r;
         }
         let s = rewrite(t, r.len + 1, r.end + 1, most, rules, lens, count, r.units);
-        if s.verdict != 3 {
+        if s.verdict != REWRITTEN {
             return s;
         }
         l = s.len;
@@ -187,7 +192,7 @@ fn settle_all(
     while k > 0 {
         let m = most - p;
         let r = settle(&mut t[p..], l - p, m, table, rules, lens, count, u);
-        if r.verdict != 0 {
+        if r.verdict != rewriting::GOES_ON {
             return r;
         }
         l = r.len + p;
@@ -195,7 +200,7 @@ fn settle_all(
         u = r.units;
         k -= 1;
     }
-    ended(0, u, l, p)
+    ended(rewriting::GOES_ON, u, l, p)
 }
 
 fn cell(b: u8) -> u16
@@ -237,10 +242,10 @@ pub fn reducible(t: &[u8], table: &[u8], rules: &[u8], lens: &[u8], count: usize
     let mut cells = [0u16; 120];
     load(t, &mut cells);
     let r = settle(&mut cells, t.len(), 120, table, rules, lens, count, 0);
-    r.verdict == 1
+    r.verdict == rewriting::SPENT
 }
 
-// Verdict 0: normal; 1: a unit due and none left; 2: too large; 4: no term. `paid` units were paid, and `len` bytes are in use.
+// Verdict GOES_ON: normal; SPENT; TOO_LARGE; or another, where t held no term. `paid` units were paid, and `len` bytes are in use.
 pub struct Normal {
     pub verdict: u8,
     pub paid: u32,

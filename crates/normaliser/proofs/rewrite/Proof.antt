@@ -3,6 +3,7 @@
 -- Read first: specs/Stored (Rewritten), proofs/OneStep.
 use Rattle.normaliser.proofs.OneStep.{rewritten-as, found-within, step-none, step-spent, step-large, step-done}
 use Rattle.normaliser.proofs.Choosing.{layout-below}
+use Rattle.rewriting.specs.Rewrite.{end-number}
 use Rattle.matching.proofs.Replacing.{take-less-zero}
 use lib.ListN.{set, length-set}
 use native.Mathlib.Omega.{arith}
@@ -24,6 +25,7 @@ returns : tie.Need-returns
 returns c = let a = c .before .before .before .before .before .before .before .before .before .before .before .before .args in rewritten-as _ _ _ _ _ _ _ _ _ _ _ (c .ended .ensures) (step-none _ _ _ _ _ _ _ _ _ _ _ _ _ (c .before .before .before .before .before .before .before .sized .ensures) (take-less-zero (a .len) (set (a .t .now) 0 (c .before .before .before .before .before .before .before .sized .result))) (c .before .before .before .find .ensures) (search needs) (search needs) (search needs) (c .before .if1 .taken))
 
 returns-2 : tie.Need-returns-2
+unfolding end-number
 returns-2 c = let a = c .before .before .before .before .before .before .before .before .before .before .before .before .before .args in rewritten-as _ _ _ _ _ _ _ _ _ _ _ (c .ended2 .ensures) (step-spent _ _ _ _ _ _ _ _ _ _ _ _ _ (c .before .before .before .before .before .before .before .before .sized .ensures) (take-less-zero (a .len) (set (a .t .now) 0 (c .before .before .before .before .before .before .before .before .sized .result))) (c .before .before .before .before .find .ensures) (search needs) (search needs) (search needs) (c .before .before .if1 .left) (c .before .if2 .taken))
 
 contract-requires : tie.Need-contract-requires
@@ -41,6 +43,7 @@ same-length-3 : tie.Need-same-length-3
 same-length-3 c = c .before .before .before .before .contract .ensures .same ∙ length-set (c .before .before .before .before .before .before .before .before .before .before .before .before .before .before .before .before .before .before .before .args .t .now) 0 (c .before .before .before .before .before .before .before .before .before .before .before .before .before .before .sized .result)
 
 returns-3 : tie.Need-returns-3
+unfolding end-number
 returns-3 c = let a = c .before .before .before .before .before .before .before .before .before .before .before .before .before .before .before .before .before .before .before .args in let p = c .before .before .before .before .before .before .before .before .before .before .before .before .before .before .before .before .before .before .before .pre .1 in rewritten-as _ _ _ _ _ _ _ _ _ _ _ (c .ended3 .ensures) (step-large _ _ _ _ _ _ _ _ _ _ _ _ _ (c .before .before .before .before .before .before .before .before .before .before .before .before .before .before .sized .ensures) (take-less-zero (a .len) (set (a .t .now) 0 (c .before .before .before .before .before .before .before .before .before .before .before .before .before .before .sized .result))) (c .before .before .before .before .before .before .before .before .before .before .find .ensures) (omega arith) (omega arith) (omega arith) (c .before .before .before .before .before .before .before .before .if1 .left) _ _ (c .before .before .before .before .contract .ensures) (c .before .before .before .before .before .before .before .if2 .left) (c .before .if3 .taken))
 
 same-length-4 : tie.Need-same-length-4
