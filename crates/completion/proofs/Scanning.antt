@@ -1,5 +1,6 @@
--- What the scan takes has two different sides, and it ends with complete, spent or too large and with no other end. Assumes nothing.
--- Read first: specs/Turn (scan), rewriting/proofs/Holds (Holds, Pays).
+-- What the scan takes has two different sides, and it ends with complete, spent or too large and with no other end; normalising the right sides ends
+-- with spent or too large. Assumes nothing.
+-- Read first: specs/Turn (scan, normalise-rights), rewriting/proofs/Holds (Holds, Pays, NormalEnd).
 use mathlib.Core.Path.{_≡_, subst}
 use mathlib.Core.Bool.{false}
 use mathlib.Core.List.{List, [], _∷_}
@@ -8,8 +9,8 @@ use Prim.Native.Nat.{ℕ}
 use Rattle.terms.specs.Term.{Pair, same, renamed}
 use Rattle.rewriting.specs.Overlap.{Rule, Overlap, Place}
 use Rattle.rewriting.specs.Rewrite.{End, complete, neither-above, spent, too-large, rules-full, log-full, done, stop, Paying, normalise-pair}
-use Rattle.rewriting.proofs.Holds.{Holds, Forms, Pays, bind-holds, return-holds, end-with-holds, if-holds, hold-holds, normalise-pair-holds}
-use Rattle.completion.specs.Turn.{Origin, Candidate, scan-overlap, if-different, if-different-overlap, scan-inputs, scan}
+use Rattle.rewriting.proofs.Holds.{Holds, Forms, Pays, bind-holds, return-holds, end-with-holds, if-holds, hold-holds, normalise-pair-holds, NormalEnd, normalise-ends}
+use Rattle.completion.specs.Turn.{Origin, Candidate, scan-overlap, if-different, if-different-overlap, scan-inputs, scan, normalise-rights}
 
 abbrev pub ScanEnd : End → Type 0
 ScanEnd complete = Unit {0}
@@ -68,3 +69,11 @@ scan-ends rules inputs ps units left e h = subst (Holds Differ E) h (scan-scans 
 pub scan-different : (rules : List Rule) (inputs : List Candidate) (ps : List Place) (units left : ℕ) (c : Candidate) → scan rules inputs ps units ≡ done c left →
     same (c .sides .left) (c .sides .right) ≡ false
 scan-different rules inputs ps units left c h = subst (Holds Differ E) h (scan-scans rules inputs ps .out units)
+
+rights-scan : (before rules : List Rule) (new : Rule) → Pays Any (λ e left. NormalEnd e) (normalise-rights before rules new)
+unfolding normalise-rights
+rights-scan before [] new = return-holds _ tt
+rights-scan before (old ∷ rules) new = bind-holds _ _ (normalise-ends _ (old .sides .right)) λ r _. rights-scan _ rules new
+
+pub rights-end : (before rules : List Rule) (new : Rule) (units left : ℕ) (e : End) → normalise-rights before rules new units ≡ stop e left → NormalEnd e
+rights-end before rules new units left e h = subst (Holds Any (λ e left. NormalEnd e)) h (rights-scan before rules new .out units)

@@ -145,6 +145,18 @@ module _ (E : End → ℕ → Type 0) (rules : List Rule) (out-of-units : E spen
       bind-holds _ _ (normalise-holds (e .right) q) λ r b.
       return-holds _ (record { left = a; right = b })
 
+-- Normalising ends with spent or too large and with no other end.
+abbrev pub NormalEnd : End → Type 0
+NormalEnd complete = ⊥
+NormalEnd (neither-above e) = ⊥
+NormalEnd spent = Unit {0}
+NormalEnd too-large = Unit {0}
+NormalEnd rules-full = ⊥
+NormalEnd log-full = ⊥
+
+pub normalise-ends : (rules : List Rule) (t : Term) → Pays (Form rules t) (λ e left. NormalEnd e) (normalise rules t)
+normalise-ends rules t = normalise-holds (λ e left. NormalEnd e) rules tt t (λ _ _. tt)
+
 -- an end is no answer
 pub stop≢done : {A : Type 0} {a : A} {e : End} {l m : ℕ} → stop e l ≡ done a m → ⊥
 stop≢done q = zero≢one (cc)
