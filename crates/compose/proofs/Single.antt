@@ -9,10 +9,9 @@ use lib.ListN.{length, getD, drop, take, length-append, length-drop, length-take
 use lib.Seq.{length-take-le}
 use Rattle.terms.specs.Term.{Term}
 use Rattle.terms.proofs.Flats.{widen, made-wf}
-use Rattle.normaliser.proofs.Parts.{zero≢code}
 use Rattle.rewriting.specs.Overlap.{Rule, sides-of}
-use Rattle.rewriting.specs.Rewrite.{Paid, done, stop, normalise}
-use Rattle.rewriting.proofs.Holds.{Holds}
+use Rattle.rewriting.specs.Rewrite.{Paid, done, stop, normalise, goes-on}
+use Rattle.rewriting.proofs.Holds.{Holds, goes-on≢end}
 use Rattle.normaliser.specs.Stored.{Layout, RuleAt, Stored, NormalIs, Normalised}
 use Rattle.normaliser.specs.declared.Normal.{Normal}
 use Rattle.store.specs.Slots.{patched, OnlySlot, RightIs}
@@ -57,11 +56,11 @@ module _ (tab rules lens : List ℕ) (k older count units n : ℕ) (t₀ t t′ 
     low = normal-below tab rules lens (before ++ (old ∷ after)) (h .stored) (old .sides .right) (here .right-wf) units
 
   -- no answer: nothing is written
-  pub stopped : 0 < o .verdict → One tab rules lens rules lens k older units (record { verdict = o .verdict; units = units - o .paid })
-  stopped v = record { only = slot-kept rules lens k; layout = y; known = s .known; left-over = omega arith; answer = λ before old after h. go before old after (normalise (before ++ (old ∷ after)) (old .sides .right) units) (normalised before old after h) }
+  pub stopped : (o .verdict ≡ goes-on → ⊥) → One tab rules lens rules lens k older units (record { verdict = o .verdict; units = units - o .paid })
+  stopped v = record { only = slot-kept rules lens k; layout = y; left-over = omega arith; answer = λ before old after h. go before old after (normalise (before ++ (old ∷ after)) (old .sides .right) units) (normalised before old after h) }
     where
       go : (before : List Rule) (old : Rule) (after : List Rule) (p : Paid Term) → NormalIs tab t′ units o p → OneIs tab rules lens before old after (record { verdict = o .verdict; units = units - o .paid }) p
-      go before old after (done x left) e = let z : o .verdict ≡ 0 = e .0 in absurd (omega arith)
+      go before old after (done x left) e = absurd (v (e .0))
       go before old after (stop c left) e = (e .0, omega (arith, e .1))
 
   -- the answer is written
@@ -69,17 +68,16 @@ module _ (tab rules lens : List ℕ) (k older count units n : ℕ) (t₀ t t′ 
     short : length (take (o .len - 0) (drop 0 t′)) ≤ 120
     short = omega (arith, s .small, length-take (o .len - 0) (drop 0 t′))
 
-    pub composed : o .verdict ≡ 0 → One tab rules lens rules′ lens′ k older units (record { verdict = 0; units = units - o .paid })
+    pub composed : o .verdict ≡ goes-on → One tab rules lens rules′ lens′ k older units (record { verdict = goes-on; units = units - o .paid })
     composed v = record {
       only = only;
       layout = layout-kept tab rules lens rules′ lens′ k only (short-right (short-at tab rules lens (older + 1) k y (omega arith)) written short) (older + 1) y;
-      known = omega arith;
       left-over = omega arith;
       answer = λ before old after h. go before old after h (normalise (before ++ (old ∷ after)) (old .sides .right) units) (normalised before old after h) (low before old after h);
     }
       where
         go : (before : List Rule) (old : Rule) (after : List Rule) → Amid tab rules lens k older before old after →
-            (p : Paid Term) → NormalIs tab t′ units o p → Holds (Below 16) (λ e m. Unit {0}) p → OneIs tab rules′ lens′ before old after (record { verdict = 0; units = units - o .paid }) p
+            (p : Paid Term) → NormalIs tab t′ units o p → Holds (Below 16) (λ e m. Unit {0}) p → OneIs tab rules′ lens′ before old after (record { verdict = goes-on; units = units - o .paid }) p
         go before old after h (done x left) e b =
             let a : length (sides-of before) ≡ k = length-sides before ∙ h .place in
             let d : length (sides-of after) ≡ length after = length-sides after in
@@ -93,4 +91,4 @@ module _ (tab rules lens : List ℕ) (k older count units n : ℕ) (t₀ t t′ 
                   (ap (λ z. take z t′) (sub-zero (o .len)) ∙ e .3)
                   (subst (λ z. Stored tab rules lens 0 z) (sides-append before (old ∷ after)) (h .stored)),
             )
-        go before old after h (stop c left) e b = absurd (zero≢code c (sym v ∙ e .0))
+        go before old after h (stop c left) e b = absurd (goes-on≢end c (sym v ∙ e .0))

@@ -5,11 +5,11 @@ use mathlib.Core.List.{List, [], _∷_, _++_, append-assoc, append-nil, map-appe
 use Prim.Native.Nat.{ℕ, _+_, _<_, _≤_}
 use native.Mathlib.Omega.{arith}
 use lib.ListN.{length, length-append}
-use Rattle.normaliser.proofs.Parts.{zero≢code}
 use Rattle.store.proofs.Listing.{slot-same, slot-trans}
 use Rattle.terms.specs.Term.{Term}
 use Rattle.rewriting.specs.Overlap.{Rule, sides-of}
-use Rattle.rewriting.specs.Rewrite.{Paid, done, stop, and-then, _>>=_, return, normalise}
+use Rattle.rewriting.specs.Rewrite.{Paid, done, stop, and-then, _>>=_, return, normalise, goes-on}
+use Rattle.rewriting.proofs.Holds.{goes-on≢end}
 use Rattle.normaliser.specs.Stored.{Layout, Stored}
 use Rattle.completion.specs.Turn.{normalise-rights}
 use Rattle.completion.proofs.Ends.{with-right}
@@ -89,7 +89,7 @@ module _ (tab rules lens rules₁ lens₁ : List ℕ) (older units k left : ℕ)
         behind : (x : Term) → before ++ (with-right old x ∷ []) ++ later ++ (new ∷ []) ≡ before ++ (with-right old x ∷ (later ++ (new ∷ [])))
         behind x = ap (λ z. z ++ (new ∷ [])) (append-assoc before (with-right old x ∷ []) later) ∙ append-assoc before (with-right old x ∷ later) (new ∷ [])
 
-      further : o .verdict ≡ 0 → (before later : List Rule) (old : Rule) → Midway tab rules₁ lens₁ rs new k units left before (old ∷ later) →
+      further : o .verdict ≡ goes-on → (before later : List Rule) (old : Rule) → Midway tab rules₁ lens₁ rs new k units left before (old ∷ later) →
           (p : Paid Term) → OneIs tab rules₂ lens₂ before old (later ++ (new ∷ [])) o p → normalise-rights [] rs new units ≡ then-rest before old later new p →
           (before : List Rule) × (later : List Rule) × Midway tab rules₂ lens₂ rs new (k + 1) units (o .units) before later
       unfolding and-then
@@ -107,47 +107,45 @@ module _ (tab rules lens rules₁ lens₁ : List ℕ) (older units k left : ℕ)
               same-numbers = ap numbers (behind before later old m x) ∙ numbers-with before old x (later ++ (new ∷ [])) ∙ ap numbers (sym (append-assoc before (old ∷ later) (new ∷ []))) ∙ m .same-numbers;
             },
           )
-      further v before later old m (stop c n) e f = absurd (zero≢code c (sym v ∙ e .0))
+      further v before later old m (stop c n) e f = absurd (goes-on≢end c (sym v ∙ e .0))
 
-      ended : 0 < o .verdict → (before later : List Rule) (old : Rule) (p : Paid Term) → OneIs tab rules₂ lens₂ before old (later ++ (new ∷ [])) o p →
+      ended : (o .verdict ≡ goes-on → ⊥) → (before later : List Rule) (old : Rule) (p : Paid Term) → OneIs tab rules₂ lens₂ before old (later ++ (new ∷ [])) o p →
           normalise-rights [] rs new units ≡ then-rest before old later new p → AllIs tab rules₂ lens₂ older (rs ++ (new ∷ [])) o (normalise-rights [] rs new units)
       unfolding and-then
-      ended v before later old (done x n) e f = let z : o .verdict ≡ 0 = e .0 in absurd (omega arith)
+      ended v before later old (done x n) e f = absurd (v (e .0))
       ended v before later old (stop c n) e f = rw f e
 
-      next-midway : o .verdict ≡ 0 → (before later : List Rule) → Midway tab rules₁ lens₁ rs new k units left before later →
+      next-midway : o .verdict ≡ goes-on → (before later : List Rule) → Midway tab rules₁ lens₁ rs new k units left before later →
           (before : List Rule) × (later : List Rule) × Midway tab rules₂ lens₂ rs new (k + 1) units (o .units) before later
       next-midway v before [] m = absurd (omega (arith, m .place, m .total))
       next-midway v before (old ∷ later) m = further v before later old m _ (said before later old m) (runs before later old m)
 
-      next-ended : 0 < o .verdict → (before later : List Rule) → Midway tab rules₁ lens₁ rs new k units left before later →
+      next-ended : (o .verdict ≡ goes-on → ⊥) → (before later : List Rule) → Midway tab rules₁ lens₁ rs new k units left before later →
           AllIs tab rules₂ lens₂ older (rs ++ (new ∷ [])) o (normalise-rights [] rs new units)
       next-ended v before [] m = absurd (omega (arith, m .place, m .total))
       next-ended v before (old ∷ later) m = ended v before later old _ (said before later old m) (runs before later old m)
 
-    pub sweep-on : o .verdict ≡ 0 → SweptTo tab rules lens rules₂ lens₂ older units (k + 1) (o .units)
+    pub sweep-on : o .verdict ≡ goes-on → SweptTo tab rules lens rules₂ lens₂ older units (k + 1) (o .units)
     sweep-on v = record {
       within = omega arith;
       kept = still-kept;
       answer = λ rs new number h. let m = g .answer rs new number h in next-midway rs new number v (m .0) (m .1) (m .2);
     }
 
-    pub sweep-stop : 0 < o .verdict → All tab rules lens rules₂ lens₂ older units o
+    pub sweep-stop : (o .verdict ≡ goes-on → ⊥) → All tab rules lens rules₂ lens₂ older units o
     sweep-stop v = record {
       kept = still-kept;
-      known = one .known;
       answer = λ rs new number h. let m = g .answer rs new number h in next-ended rs new number v (m .0) (m .1) (m .2);
     }
 
-  pub sweep-end : older ≤ k → All tab rules lens rules₁ lens₁ older units (record { verdict = 0; units = left })
+  pub sweep-end : older ≤ k → All tab rules lens rules₁ lens₁ older units (record { verdict = goes-on; units = left })
   sweep-end over = record {
     kept = g .kept;
-    known = omega arith;
     answer = λ rs new number h. let m = g .answer rs new number h in last rs new number (m .0) (m .1) (m .2);
   }
     where
       last : (rs : List Rule) (new : Rule) → length rs ≡ older → (before later : List Rule) → Midway tab rules₁ lens₁ rs new k units left before later →
-          AllIs tab rules₁ lens₁ older (rs ++ (new ∷ [])) (record { verdict = 0; units = left }) (normalise-rights [] rs new units)
+          AllIs tab rules₁ lens₁ older (rs ++ (new ∷ [])) (record { verdict = goes-on; units = left }) (normalise-rights [] rs new units)
       last rs new number before [] m =
           let e : before ++ [] ≡ before = append-nil before in
           let q = m .total in

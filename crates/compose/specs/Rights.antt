@@ -5,8 +5,8 @@ use Prim.Native.Nat.{ℕ, _+_, _≤_}
 use lib.ListN.{length}
 use Rattle.terms.specs.Term.{Term}
 use Rattle.rewriting.specs.Overlap.{Rule, sides-of}
-use Rattle.rewriting.specs.Rewrite.{Paid, done, stop, normalise}
-use Rattle.normaliser.specs.Stored.{Layout, Stored, code}
+use Rattle.rewriting.specs.Rewrite.{Paid, done, stop, normalise, end-number, goes-on}
+use Rattle.normaliser.specs.Stored.{Layout, Stored}
 use Rattle.completion.specs.Turn.{normalise-rights}
 use Rattle.store.specs.Slots.{SameSlot, OnlySlot}
 use Rattle.compose.specs.declared.Composed.{Composed}
@@ -20,13 +20,12 @@ pub record Amid (tab rules lens : List ℕ) (k older : ℕ) (before : List Rule)
 -- `compose_one`: that rule's right side is normalised
 abbrev pub OneIs : List ℕ → List ℕ → List ℕ → List Rule → Rule → List Rule → Composed → Paid Term → Type 0
 OneIs tab rules lens before old after o (done y left) =
-    (o .verdict ≡ 0) × (o .units ≡ left) × Stored tab rules lens 0 (sides-of before ++ (record { left = old .sides .left; right = y } ∷ sides-of after))
-OneIs tab rules lens before old after o (stop e left) = (o .verdict ≡ code e) × (o .units ≡ left)
+    (o .verdict ≡ goes-on) × (o .units ≡ left) × Stored tab rules lens 0 (sides-of before ++ (record { left = old .sides .left; right = y } ∷ sides-of after))
+OneIs tab rules lens before old after o (stop e left) = (o .verdict ≡ end-number e) × (o .units ≡ left)
 
 pub record One (tab rules lens rules′ lens′ : List ℕ) (k older units : ℕ) (o : Composed) : Type 0 where
   pub only : OnlySlot rules lens k rules′ lens′
   pub layout : Layout tab rules′ lens′ (older + 1)
-  pub known : o .verdict ≤ 4
   pub left-over : o .units ≤ units
   pub answer : (before : List Rule) (old : Rule) (after : List Rule) → Amid tab rules lens k older before old after →
       OneIs tab rules′ lens′ before old after o (normalise (before ++ (old ∷ after)) (old .sides .right) units)
@@ -42,11 +41,10 @@ pub record Kept (tab rules lens rules′ lens′ : List ℕ) (older units left :
 -- `compose`: exactly as the definition says
 abbrev pub AllIs : List ℕ → List ℕ → List ℕ → ℕ → List Rule → Composed → Paid (List Rule) → Type 0
 AllIs tab rules lens older rs o (done rs′ left) =
-    (o .verdict ≡ 0) × (o .units ≡ left) × Stored tab rules lens 0 (sides-of rs′) × (length rs′ ≡ older + 1) × (map (λ r. r .number) rs′ ≡ map (λ r. r .number) rs)
-AllIs tab rules lens older rs o (stop e left) = (o .verdict ≡ code e) × (o .units ≡ left)
+    (o .verdict ≡ goes-on) × (o .units ≡ left) × Stored tab rules lens 0 (sides-of rs′) × (length rs′ ≡ older + 1) × (map (λ r. r .number) rs′ ≡ map (λ r. r .number) rs)
+AllIs tab rules lens older rs o (stop e left) = (o .verdict ≡ end-number e) × (o .units ≡ left)
 
 pub record All (tab rules lens rules′ lens′ : List ℕ) (older units : ℕ) (o : Composed) : Type 0 where
   pub kept : Kept tab rules lens rules′ lens′ older units (o .units)
-  pub known : o .verdict ≤ 4
   pub answer : (rs : List Rule) (new : Rule) → length rs ≡ older → Stored tab rules lens 0 (sides-of (rs ++ (new ∷ []))) →
       AllIs tab rules′ lens′ older (rs ++ (new ∷ [])) o (normalise-rights [] rs new units)

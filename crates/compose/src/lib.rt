@@ -3,7 +3,7 @@ ghost use Prim.Native.Nat.{_+_, _<_};
 ghost use Rattle.normaliser.specs.Stored.{Layout};
 ghost use Rattle.compose.specs.Rights.{One, All};
 
-// Verdict 0: done; 1: a unit due and none left; 2: too large; 4: no term. `units` are left.
+// Verdict GOES_ON: done; SPENT; TOO_LARGE; or another, where a slot held no term. `units` are left.
 pub struct Composed {
     pub verdict: u8,
     pub units: u32,
@@ -27,7 +27,7 @@ fn compose_one(
     let count = older + 1;
     let r = normaliser::normalise(&mut t, n, table, rules, lens, count, units);
     let left = units - r.paid;
-    if r.verdict != 0 {
+    if r.verdict != rewriting::GOES_ON {
         return Composed {
             verdict: r.verdict,
             units: left,
@@ -36,7 +36,7 @@ fn compose_one(
     let len = r.len;
     store::put_right(rules, lens, k, &t[0..len]);
     Composed {
-        verdict: 0,
+        verdict: rewriting::GOES_ON,
         units: left,
     }
 }
@@ -56,14 +56,14 @@ pub fn compose(
     let mut k = 0;
     while k < older {
         let r = compose_one(rules, lens, k, older, table, left);
-        if r.verdict != 0 {
+        if r.verdict != rewriting::GOES_ON {
             return r;
         }
         left = r.units;
         k += 1;
     }
     Composed {
-        verdict: 0,
+        verdict: rewriting::GOES_ON,
         units: left,
     }
 }
