@@ -1,8 +1,8 @@
 -- Two sides, renamed in a slot, are the renamed pair, with variables below 16; and steps 4 and 5 of a turn by each test's outcome. Assumes nothing.
 -- Read first: specs/Oriented (PutRenamed, Placed), naming/proofs/Pairs, store/proofs/Listing.
-use mathlib.Core.Path.{_≡_, refl, sym, ap, ap₂, _∙_}
+use mathlib.Core.Path.{_≡_, refl, sym, ap, ap₂, _∙_, subst}
 use mathlib.Core.Bool.{Bool, true, false}
-use mathlib.Core.Logic.{inl, inr, ⊎-elim}
+use mathlib.Core.Logic.{⊎-elim}
 use mathlib.Core.List.{List, [], _++_, append-assoc, append-nil, Memᴰ·append-left, Memᴰ·append-right, List·Memᴰ·append-cases}
 use Prim.Native.Nat.{ℕ, _+_, _-_, _<_, _≤_}
 use native.Mathlib.Omega.{arith}
@@ -23,7 +23,8 @@ use Rattle.naming.proofs.Few.{names-few}
 use Rattle.naming.proofs.Pairs.{wf-low, renamed-pair, renamed-left-wf, renamed-right-wf}
 use Rattle.order.specs.Order.{above}
 use Rattle.order.specs.Walk.{rank, IsAbove}
-use Rattle.rewriting.specs.Rewrite.{_>>=_, and-then, end-if, return, end-with, end-number}
+use Rattle.rewriting.specs.Rewrite.{_>>=_, and-then, end-if, return, end-with, end-number, goes-on}
+use Rattle.rewriting.proofs.Holds.{NormalEnd}
 use Rattle.problem.specs.Problem.{rank-of, Problem}
 use Rattle.completion.specs.Turn.{orient}
 use Rattle.store.specs.Slots.{patched, Holds, OnlySlot}
@@ -86,7 +87,7 @@ module _ (tab left right b l : List ℕ) (k r : ℕ) (c : Counted left right r) 
     answer = λ P q e s units.
         let n = c .counts tab e (s .left-wf) (s .right-wf) (s .left-bytes) (s .right-bytes) in
         let m : 16 < length (pair-variables e) = omega arith in
-        rw (lt-ltb 16 (length (pair-variables e)) m) (refl, refl, inl refl);
+        rw (lt-ltb 16 (length (pair-variables e)) m) (refl, refl, λ g z. absurd (subst NormalEnd z tt));
   }
 
   module _ (few : r ≤ 16) where
@@ -103,7 +104,7 @@ module _ (tab left right b l : List ℕ) (k r : ℕ) (c : Counted left right r) 
     below-is : (P : Problem) → rank-of (P .symbols) ≡ rank tab → (e : Pair) → Sides 32 tab left right e → (t : Bool) → IsAbove tab right left t → above (rank-of (P .symbols)) (e .right) (e .left) ≡ t
     below-is P q e s t h = ap (λ z. above z (e .right) (e .left)) q ∙ sym (h (e .right) (e .left) (starts tab right (e .right) (s .right-wf) (s .right-bytes)) (starts tab left (e .left) (s .left-wf) (s .left-bytes)))
 
-    pub place-left : (t : Bool) → t ≡ true → IsAbove tab left right t → (b′ l′ : List ℕ) → PutRenamed left right b l k b′ l′ → Placed tab left right b l k 0 b′ l′
+    pub place-left : (t : Bool) → t ≡ true → IsAbove tab left right t → (b′ l′ : List ℕ) → PutRenamed left right b l k b′ l′ → Placed tab left right b l k goes-on b′ l′
     unfolding orient if_then_else_ return
     place-left t z h b′ l′ p = record {
       only = p .only;
@@ -111,7 +112,7 @@ module _ (tab left right b l : List ℕ) (k r : ℕ) (c : Counted left right r) 
       answer = λ P q e s units. rw (start P e s units, above-is P q e s t h ∙ z) (refl, refl, p .rule tab e s (few-of e s));
     }
 
-    pub place-right : (t u : Bool) → t ≡ false → u ≡ true → IsAbove tab left right t → IsAbove tab right left u → (b′ l′ : List ℕ) → PutRenamed right left b l k b′ l′ → Placed tab left right b l k 0 b′ l′
+    pub place-right : (t u : Bool) → t ≡ false → u ≡ true → IsAbove tab left right t → IsAbove tab right left u → (b′ l′ : List ℕ) → PutRenamed right left b l k b′ l′ → Placed tab left right b l k goes-on b′ l′
     unfolding orient if_then_else_ return
     place-right t u y z g h b′ l′ p = record {
       only = p .only;
@@ -128,7 +129,7 @@ module _ (tab left right b l : List ℕ) (k r : ℕ) (c : Counted left right r) 
     place-neither t u y z g h = record {
       only = slot-kept b l k;
       short = λ z. absurd (omega arith);
-      answer = λ P q e s units. rw (start P e s units, above-is P q e s t g ∙ y, below-is P q e s u h ∙ z) (refl, refl, inr refl);
+      answer = λ P q e s units. rw (start P e s units, above-is P q e s t g ∙ y, below-is P q e s u h ∙ z) (refl, refl, λ g z. cc);
     }
 
 pub swap-in : (l k : List ℕ) (b : ℕ) → In b (l ++ k) → In b (k ++ l)

@@ -65,7 +65,7 @@ fn put_renamed(left: &[u8], right: &[u8], rules: &mut [u8], lens: &mut [u8], k: 
     put_parts(&out, n, e, rules, lens, k);
 }
 
-// The new rule of a taken pair into slot k: 0, or the number of the end.
+// The new rule of a taken pair into slot k: GOES_ON, or the number of the end.
 pub fn place(
     left: &[u8],
     right: &[u8],
@@ -79,15 +79,15 @@ pub fn place(
     ensures { λ r. ⌜ Placed (now (table .entry)) (now (left .entry)) (now (right .entry)) (now (rules .entry)) (now (lens .entry)) k r (now (rules .exit)) (now (lens .exit)) ⌝ }
 {
     if variable_count(left, right) > 16 {
-        return 22;
+        return rewriting::TOO_LARGE;
     }
     if order::above(left, right, table) {
         put_renamed(left, right, rules, lens, k);
-        return 0;
+        return rewriting::GOES_ON;
     }
     if order::above(right, left, table) {
         put_renamed(right, left, rules, lens, k);
-        return 0;
+        return rewriting::GOES_ON;
     }
-    20
+    rewriting::NEITHER_ABOVE
 }
