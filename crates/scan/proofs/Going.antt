@@ -6,7 +6,7 @@ use mathlib.Core.List.{List}
 use Prim.Native.Nat.{ℕ, _≤_}
 use native.Mathlib.Omega.{arith}
 use lib.ListN.{length}
-use Rattle.rewriting.specs.Rewrite.{Paying}
+use Rattle.rewriting.specs.Rewrite.{Paying, complete, end-number}
 use Rattle.completion.specs.Turn.{Candidate}
 use Rattle.scan.specs.declared.Walk.{Walk}
 use Rattle.scan.specs.Walk.{Part, Walked, found, short, large, on, Room, Bare, Walks}
@@ -32,13 +32,14 @@ walked-from q (large z f) = large z (λ next. q next ∙ f next)
 walked-from q (on z f) = on z (λ next. q next ∙ f next)
 
 -- a part that stops, and what would follow it
-walked-stop : {tab L R : List ℕ} {d₁ d₂ : Part} {u : ℕ} {w : Walk} → Walked tab L R d₁ u w → (w .verdict ≡ 3 → ⊥) → Walked tab L R (λ next. d₁ (d₂ next)) u w
+walked-stop : {tab L R : List ℕ} {d₁ d₂ : Part} {u : ℕ} {w : Walk} → Walked tab L R d₁ u w → (w .verdict ≡ end-number complete → ⊥) → Walked tab L R (λ next. d₁ (d₂ next)) u w
 walked-stop {d₂ = d₂} (found c z f s) n = found c z (λ next. f (d₂ next)) s
 walked-stop {d₂ = d₂} (short z f) n = short z (λ next. f (d₂ next))
 walked-stop {d₂ = d₂} (large z f) n = large z (λ next. f (d₂ next))
 walked-stop {d₂ = d₂} (on z f) n = absurd (n z)
 
-walked-on : {tab L R : List ℕ} {d : Part} {u : ℕ} {w : Walk} → Walked tab L R d u w → w .verdict ≡ 3 → (next : Paying Candidate) → d next u ≡ next (w .units)
+walked-on : {tab L R : List ℕ} {d : Part} {u : ℕ} {w : Walk} → Walked tab L R d u w → w .verdict ≡ end-number complete → (next : Paying Candidate) → d next u ≡ next (w .units)
+unfolding end-number
 walked-on (found c z f s) n next = absurd (omega arith)
 walked-on (short z f) n next = absurd (omega arith)
 walked-on (large z f) n next = absurd (omega arith)
@@ -61,7 +62,7 @@ module _ {W : Type 0} {H : W → Type 0} {d : W → Part} {tab L R L′ R′ : L
   pub going-then : {L″ R″ : List ℕ} {w : Walk} → Walks H e tab L′ R′ L″ R″ u w → Walks H d tab L R L″ R″ units w
   going-then k = record { room = room-from (g .left-kept) (g .right-kept) (g .within) (k .room); answer = λ x h. walked-from (g .reaches x h) (k .answer x h) }
 
-  pub going-on : {d₁ d₂ : W → Part} {L″ R″ : List ℕ} {w : Walk} → Unrolls H e d₁ d₂ → Walks H d₁ tab L′ R′ L″ R″ u w → w .verdict ≡ 3 → Going H d L R L″ R″ units d₂ (w .units)
+  pub going-on : {d₁ d₂ : W → Part} {L″ R″ : List ℕ} {w : Walk} → Unrolls H e d₁ d₂ → Walks H d₁ tab L′ R′ L″ R″ u w → w .verdict ≡ end-number complete → Going H d L R L″ R″ units d₂ (w .units)
   going-on {d₁} {d₂} r k z =
       record {
         left-kept = k .room .left-kept ∙ g .left-kept;
@@ -70,14 +71,14 @@ module _ {W : Type 0} {H : W → Type 0} {d : W → Part} {tab L R L′ R′ : L
         reaches = λ x h next. g .reaches x h next ∙ ap (λ (f : Paying Candidate). f u) (r .is x h next) ∙ walked-on (k .answer x h) z (d₂ x next);
       }
 
-  pub going-stop : {d₁ d₂ : W → Part} {L″ R″ : List ℕ} {w : Walk} → Unrolls H e d₁ d₂ → Walks H d₁ tab L′ R′ L″ R″ u w → (w .verdict ≡ 3 → ⊥) → Walks H d tab L R L″ R″ units w
+  pub going-stop : {d₁ d₂ : W → Part} {L″ R″ : List ℕ} {w : Walk} → Unrolls H e d₁ d₂ → Walks H d₁ tab L′ R′ L″ R″ u w → (w .verdict ≡ end-number complete → ⊥) → Walks H d tab L R L″ R″ units w
   going-stop {d₁} {d₂} r k n =
       record {
         room = room-from (g .left-kept) (g .right-kept) (g .within) (k .room);
         answer = λ x h. walked-from (λ next. g .reaches x h next ∙ ap (λ (f : Paying Candidate). f u) (r .is x h next)) (walked-stop {d₂ = d₂ x} (k .answer x h) n);
       }
 
-  pub going-end : {w : Walk} → Over H e → Bare 3 u w → Walks H d tab L R L′ R′ units w
+  pub going-end : {w : Walk} → Over H e → Bare (end-number complete) u w → Walks H d tab L R L′ R′ units w
   going-end {w} o b =
       record {
         room = bare-room b (g .left-kept) (g .right-kept) (g .within);

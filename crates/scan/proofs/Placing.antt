@@ -14,7 +14,7 @@ use Rattle.terms.specs.Term.{Pair, term-bytes, size, renamed}
 use Rattle.terms.proofs.Bytes.{length-bytes}
 use Rattle.terms.proofs.Shape.{zero≢one}
 use Rattle.rewriting.specs.Overlap.{Rule, Overlap, overlap, Place}
-use Rattle.rewriting.specs.Rewrite.{too-large, Paid, done, stop, Paying, return, end-with, and-then, _>>=_, end-if, hold, normalise-pair}
+use Rattle.rewriting.specs.Rewrite.{complete, too-large, end-number, Paid, done, stop, Paying, return, end-with, and-then, _>>=_, end-if, hold, normalise-pair}
 use Rattle.completion.specs.Turn.{Origin, overlapping, Candidate, scan-overlap, if-different, if-different-overlap}
 use Rattle.completion.specs.Calls.{origin-bytes}
 use Rattle.normaliser.specs.Stored.{Layout, RuleAt, Stored}
@@ -95,7 +95,7 @@ module _ (tab rules lens numbers : List ℕ) (count : ℕ) (at : Spot) (L R L′
   said rs h = M .answer _ _ (rule-stands h (at .inner) li) (rule-stands h (at .outer) lo)
 
   module _ (w : Walk) where
-    pub place-nothing : m ≡ Nothing → Bare 3 units w → Walks (Holds tab rules lens numbers count) (at-place at) tab L R L′ R′ units w
+    pub place-nothing : m ≡ Nothing → Bare (end-number complete) units w → Walks (Holds tab rules lens numbers count) (at-place at) tab L R L′ R′ units w
     unfolding at-place
     place-nothing e b = record { room = bare-room b (M .kept .left) (M .kept .right) (omega arith); answer = λ rs h. go rs (overlap (rule-at rs (at .inner) .sides) (rule-at rs (at .outer) .sides) (at .position)) refl (said rs h) }
       where
@@ -109,7 +109,7 @@ module _ (tab rules lens numbers : List ℕ) (count : ℕ) (at : Spot) (L R L′
         go rs none q s = on (b .verdict) (λ next. ap (λ (f : Paying Candidate). f units) (visit-none rs (place rs) next q) ∙ ap next (let z = b .units in omega arith))
         go rs (some v) q s = absurd (clash v (ltb 120 (size (v .peak))) (ltb 120 (size (v .sides .left))) (ltb 120 (size (v .sides .right))) s)
 
-    pub place-large : m ≡ TooLarge → Bare 2 units w → Walks (Holds tab rules lens numbers count) (at-place at) tab L R L′ R′ units w
+    pub place-large : m ≡ TooLarge → Bare (end-number too-large) units w → Walks (Holds tab rules lens numbers count) (at-place at) tab L R L′ R′ units w
     unfolding at-place
     place-large e b = record { room = bare-room b (M .kept .left) (M .kept .right) (omega arith); answer = λ rs h. go rs (overlap (rule-at rs (at .inner) .sides) (rule-at rs (at .outer) .sides) (at .position)) refl (said rs h) }
       where

@@ -6,6 +6,7 @@ use Prim.Native.Nat.{ℕ, _+_, _-_, _*_, _<_, _≤_}
 use native.Mathlib.Omega.{arith}
 use lib.ListN.{length}
 use Rattle.rewriting.specs.Overlap.{Rule}
+use Rattle.rewriting.specs.Rewrite.{complete, end-number}
 use Rattle.normaliser.specs.Stored.{Layout}
 use Rattle.scan.specs.declared.Walk.{Walk}
 use Rattle.scan.specs.declared.spots.Spot.{Spot}
@@ -33,7 +34,7 @@ module _ {tab rules lens numbers : List ℕ} {count : ℕ} {L R : List ℕ} {uni
   })
 
   module _ {L′ R′ : List ℕ} {u : ℕ} (g : Reaching tab rules lens numbers count L R L′ R′ units at u) where
-    pub reach-end : {w : Walk} → count ≤ at .outer → Bare 3 u w → Walks (Holds tab rules lens numbers count) (of-rules 0) tab L R L′ R′ units w
+    pub reach-end : {w : Walk} → count ≤ at .outer → Bare (end-number complete) u w → Walks (Holds tab rules lens numbers count) (of-rules 0) tab L R L′ R′ units w
     reach-end l b = going-end (g .going) (record { is = λ rs h next. let c = h .counted in come-out rs at next (omega arith) }) b
 
     module _ (lay : Layout tab rules lens count) (lo : at .outer < count) where
@@ -48,13 +49,13 @@ module _ {tab rules lens numbers : List ℕ} {count : ℕ} {L R : List ℕ} {uni
       falls r f = let a = bounded in let b = f .rises in omega arith
 
       module _ {L″ R″ : List ℕ} {w : Walk} (k : Walks (Holds tab rules lens numbers count) (at-place at) tab L′ R′ L″ R″ u w) where
-        pub reach-stop : (w .verdict ≡ 3 → ⊥) → Walks (Holds tab rules lens numbers count) (of-rules 0) tab L R L″ R″ units w
+        pub reach-stop : (w .verdict ≡ end-number complete → ⊥) → Walks (Holds tab rules lens numbers count) (of-rules 0) tab L R L″ R″ units w
         reach-stop n =
             let rest : List Rule → Part = λ rs next. at-positions (at .inner) (at .outer) (at .position + 1) rs (behind (at .inner) (at .outer) rs next) in
             let e : Unrolls (Holds tab rules lens numbers count) (to-come at) (at-place at) rest = record { is = λ rs h next. on rs (at .inner) (at .outer) (at .position) next (let c = h .counted in omega arith) } in
             going-stop (g .going) e k n
 
-        pub reach-next : {r : Spot} → w .verdict ≡ 3 → Follows lens at r → Reaching tab rules lens numbers count L R L″ R″ units r (w .units)
+        pub reach-next : {r : Spot} → w .verdict ≡ end-number complete → Follows lens at r → Reaching tab rules lens numbers count L R L″ R″ units r (w .units)
         reach-next {r} z f = record {
           going = going-on (g .going) (record { is = λ rs h next. let c = h .counted in f .leads rs (λ j l. left-size h lay j (omega arith)) (let i = g .within lo in omega arith) (omega arith) next }) k z;
           low = f .low;

@@ -7,7 +7,7 @@ use Rattle.terms.specs.Term.{var, Pair, term-bytes}
 use Rattle.terms.specs.Flat.{Wf}
 use Rattle.problem.specs.Problem.{Equation}
 use Rattle.rewriting.specs.Overlap.{Rule, sides-of, overlap, Place, all-places}
-use Rattle.rewriting.specs.Rewrite.{End, complete, neither-above, spent, too-large, rules-full, log-full, Paid, done, stop, Paying, _>>=_, normalise-pair}
+use Rattle.rewriting.specs.Rewrite.{complete, spent, too-large, end-number, goes-on, Paid, done, stop, Paying, _>>=_, normalise-pair}
 use Rattle.completion.specs.Turn.{Origin, scanned-input, Candidate, candidates, scan-overlap, if-different, if-different-overlap, scan}
 use Rattle.completion.specs.Calls.{origin-bytes}
 use Rattle.normaliser.specs.Stored.{Sides, RuleAt, Stored}
@@ -45,10 +45,10 @@ pub record Shows (tab L R : List ℕ) (w : Walk) (c : Candidate) : Type 0 where
 
 -- What a walk over the part d answers, that began with u units.
 pub data Walked (tab L R : List ℕ) (d : Part) (u : ℕ) (w : Walk) : Type 0 where
-  found : (c : Candidate) → w .verdict ≡ 0 → ((next : Paying Candidate) → d next u ≡ done c (w .units)) → Shows tab L R w c → Walked tab L R d u w
-  short : w .verdict ≡ 1 → ((next : Paying Candidate) → d next u ≡ stop spent (w .units)) → Walked tab L R d u w
-  large : w .verdict ≡ 2 → ((next : Paying Candidate) → d next u ≡ stop too-large (w .units)) → Walked tab L R d u w
-  on : w .verdict ≡ 3 → ((next : Paying Candidate) → d next u ≡ next (w .units)) → Walked tab L R d u w
+  found : (c : Candidate) → w .verdict ≡ goes-on → ((next : Paying Candidate) → d next u ≡ done c (w .units)) → Shows tab L R w c → Walked tab L R d u w
+  short : w .verdict ≡ end-number spent → ((next : Paying Candidate) → d next u ≡ stop spent (w .units)) → Walked tab L R d u w
+  large : w .verdict ≡ end-number too-large → ((next : Paying Candidate) → d next u ≡ stop too-large (w .units)) → Walked tab L R d u w
+  on : w .verdict ≡ end-number complete → ((next : Paying Candidate) → d next u ≡ next (w .units)) → Walked tab L R d u w
 
 -- what every answer has
 pub record Room (L R L′ R′ : List ℕ) (units : ℕ) (w : Walk) : Type 0 where
@@ -134,17 +134,9 @@ unfoldable pub of-all : World → Part
 of-all x next = of-rules 0 (x .rules) (of-inputs 0 x next)
 
 -- `scan`: exactly as the definition says
-abbrev pub stop-number : End → ℕ
-stop-number complete = 3
-stop-number (neither-above e) = 9
-stop-number spent = 1
-stop-number too-large = 2
-stop-number rules-full = 9
-stop-number log-full = 9
-
 abbrev pub Finds : List ℕ → List ℕ → List ℕ → Walk → Paid Candidate → Type 0
-Finds tab L R w (done c left) = (w .verdict ≡ 0) × (w .units ≡ left) × Shows tab L R w c
-Finds tab L R w (stop e left) = (w .verdict ≡ stop-number e) × (w .units ≡ left)
+Finds tab L R w (done c left) = (w .verdict ≡ goes-on) × (w .units ≡ left) × Shows tab L R w c
+Finds tab L R w (stop e left) = (w .verdict ≡ end-number e) × (w .units ≡ left)
 
 pub record Scanned (tab rules lens numbers : List ℕ) (count : ℕ) (bytes sizes : List ℕ) (number : ℕ) (L R L′ R′ : List ℕ) (units : ℕ) (w : Walk) : Type 0 where
   pub room : Room L R L′ R′ units w

@@ -9,8 +9,8 @@ ghost use Rattle.scan.specs.Walk.{Bare, PairWalk, Walks, Holds, at-place
 use overlaps::Met;
 use spots::Spot;
 
-// 0: a pair with two different normal forms, which stand in the buffers, m and n bytes long; 1: spent; 2: too large; 3: none so far; 4: bytes of
-// no term. `units` are left.
+// Verdict GOES_ON: a pair with two different normal forms, which stand in the buffers, m and n bytes long; COMPLETE: none so far; SPENT; TOO_LARGE;
+// or another, where the bytes are no term. `units` are left.
 pub struct Walk {
     pub verdict: u8,
     pub units: u32,
@@ -50,21 +50,21 @@ fn scan_pair(
 {
     let l = normaliser::normalise(left, m, table, rules, lens, count, units);
     let u = units - l.paid;
-    if l.verdict != 0 {
+    if l.verdict != rewriting::GOES_ON {
         return stopped(l.verdict, u);
     }
     let r = normaliser::normalise(right, n, table, rules, lens, count, u);
     let v = u - r.paid;
-    if r.verdict != 0 {
+    if r.verdict != rewriting::GOES_ON {
         return stopped(r.verdict, v);
     }
     let a = l.len;
     let b = r.len;
     if check::same(&left[0..a], &right[0..b]) {
-        return stopped(3, v);
+        return stopped(rewriting::COMPLETE, v);
     }
     Walk {
-        verdict: 0,
+        verdict: rewriting::GOES_ON,
         units: v,
         m: a,
         n: b,
@@ -93,8 +93,8 @@ fn scan_at(
     let outer = at.outer;
     let position = at.position;
     match overlaps::overlap(rules, lens, table, inner, outer, position, left, right) {
-        Met::Nothing => stopped(3, units),
-        Met::TooLarge => stopped(2, units),
+        Met::Nothing => stopped(rewriting::COMPLETE, units),
+        Met::TooLarge => stopped(rewriting::TOO_LARGE, units),
         Met::Found(m, n) => {
             let from = origins::origin(4, numbers[inner], numbers[outer], position);
             scan_pair(rules, lens, count, table, left, m, right, n, from, units)
@@ -121,13 +121,13 @@ fn scan_rules(
     let mut u = units;
     while at.outer < count {
         let w = scan_at(rules, lens, numbers, count, table, at, left, right, u);
-        if w.verdict != 3 {
+        if w.verdict != rewriting::COMPLETE {
             return w;
         }
         u = w.units;
         at = spots::next(lens, at);
     }
-    stopped(3, u)
+    stopped(rewriting::COMPLETE, u)
 }
 
 // The pair in slot k of a store, normalised and compared.
@@ -187,15 +187,15 @@ fn scan_inputs(
             right,
             u,
         );
-        if w.verdict != 3 {
+        if w.verdict != rewriting::COMPLETE {
             return w;
         }
         u = w.units;
     }
-    stopped(3, u)
+    stopped(rewriting::COMPLETE, u)
 }
 
-// All overlaps, then the input equations. Verdict 3: complete.
+// All overlaps, then the input equations.
 pub fn scan(
     rules: &[u8],
     lens: &[u8],
@@ -215,7 +215,7 @@ pub fn scan(
     ensures { λ r. ⌜ Scanned (now (table .entry)) (now (rules .entry)) (now (lens .entry)) (now (numbers .entry)) count (now (inputs .entry)) (now (sizes .entry)) number (now (left .entry)) (now (right .entry)) (now (left .exit)) (now (right .exit)) units r ⌝ }
 {
     let w = scan_rules(rules, lens, numbers, count, table, left, right, units);
-    if w.verdict != 3 {
+    if w.verdict != rewriting::COMPLETE {
         return w;
     }
     scan_inputs(

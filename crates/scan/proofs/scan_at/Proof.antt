@@ -1,6 +1,7 @@
 -- `scan_at`: no overlap there, one that is too large, or a pair to compare: `place-nothing`, `place-large`, `place-pair`. Assumes nothing.
 -- Read first: specs/Walk (Walks, at-place), proofs/Placing.
 use Rattle.normaliser.proofs.Choosing.{layout-below}
+use Rattle.rewriting.specs.Rewrite.{end-number}
 use Rattle.scan.proofs.Placing.{place-nothing, place-large, place-pair, found-fits}
 use borrow.Author.Needs.{needs}
 use Rattle.scan.proofs.scan_at.Statement.{statement}
@@ -22,9 +23,11 @@ scan-pair-requires : tie.Need-scan-pair-requires
 scan-pair-requires c κs = (c .before .before .before .before .before .before .before .before .before .before .before .before .before .before .before .before .before .before .before .before .before .pre .0 .0, found-fits (c .before .before .before .before .before .before .before .before .before .before .before .before .overlap .ensures) (c .before .before .before .before .before .before .m .given .1) (c .before .before .before .before .before .before .before .before .before .before .before .before .before .before .before .before .before .before .before .before .before .pre .1 .1 .0) (c .before .before .before .before .before .before .before .before .before .before .before .before .before .before .before .before .before .before .before .before .before .pre .1 .1 .1))
 
 returns : tie.Need-returns
+unfolding end-number
 returns c = place-nothing _ _ _ _ _ _ _ _ _ _ _ _ (c .before .before .before .before .before .before .before .overlap .ensures) (c .before .before .before .before .before .before .before .before .before .before .before .before .before .before .before .before .pre .1 .0 .0) (c .before .before .before .before .before .before .before .before .before .before .before .before .before .before .before .before .pre .1 .0 .1) _ (c .before .enum-told .given .1) (c .stopped .ensures)
 
 returns-2 : tie.Need-returns-2
+unfolding end-number
 returns-2 c = place-large _ _ _ _ _ _ _ _ _ _ _ _ (c .before .before .before .before .before .before .before .overlap .ensures) (c .before .before .before .before .before .before .before .before .before .before .before .before .before .before .before .before .pre .1 .0 .0) (c .before .before .before .before .before .before .before .before .before .before .before .before .before .before .before .before .pre .1 .0 .1) _ (c .before .enum-told2 .given .1) (c .stopped2 .ensures)
 
 returns-3 : tie.Need-returns-3

@@ -2,6 +2,7 @@
 -- Read first: specs/Walk (of-inputs), proofs/Going (Going), proofs/Inputs.
 use Prim.Native.Nat.{_-_}
 use Rattle.normaliser.proofs.Choosing.{layout-below}
+use Rattle.rewriting.specs.Rewrite.{end-number}
 use Rattle.scan.proofs.Inputs.{inputs-more, inputs-over, input-walk}
 use Rattle.scan.proofs.Going.{Going, going-start, going-on, going-stop, going-end, still-fits}
 use Rattle.scan.specs.Walk.{Given, of-inputs}
@@ -33,12 +34,15 @@ scan-slot-requires c κs =
     (c .before .before .before .before .before .before .before .before .before .before .before .before .pre .0 .0, (layout-below _ _ _ _ _ (c .before .before .before .before .before .before .before .before .before .before .before .before .pre .0 .1) (c .before .before .before .loop-test .taken), (still-fits (c .before .before .before .before .loop .inv .left-kept) (c .before .before .before .before .before .before .before .before .before .before .before .before .pre .1 .0), still-fits (c .before .before .before .before .loop .inv .right-kept) (c .before .before .before .before .before .before .before .before .before .before .before .before .pre .1 .1))))
 
 returns : tie.Need-returns Inv-loop μ-loop
+unfolding end-number
 returns c = going-stop (c .before .before .before .before .before .before .before .before .before .before .before .loop .inv) (inputs-more _ _ _ _ _ _ _ _ (c .before .before .before .before .before .before .before .before .before .before .loop-test .taken)) (input-walk _ _ _ _ _ _ _ _ (c .before .before .before .before .before .before .before .before .before .before .loop-test .taken) (c .before .before .before .before .before .before .before .before .before .origin .ensures) (c .before .before .before .before .before .before .scan-slot .ensures)) (c .if1 .taken)
 
 loop-again : tie.Need-loop-again Inv-loop μ-loop
+unfolding end-number
 loop-again c = going-on (c .before .before .before .before .before .before .before .before .before .before .before .loop .inv) (inputs-more _ _ _ _ _ _ _ _ (c .before .before .before .before .before .before .before .before .before .before .loop-test .taken)) (input-walk _ _ _ _ _ _ _ _ (c .before .before .before .before .before .before .before .before .before .before .loop-test .taken) (c .before .before .before .before .before .before .before .before .before .origin .ensures) (c .before .before .before .before .before .before .scan-slot .ensures)) (c .if1 .left)
 
 returns-2 : tie.Need-returns-2 Inv-loop μ-loop
+unfolding end-number
 returns-2 c = going-end (c .before .before .loop .inv) (inputs-over _ _ _ _ _ _ _ _ (c .before .loop-test .left)) (c .stopped .ensures)
 
 pub scan-inputs-spec : {M : Type 1} → statement M

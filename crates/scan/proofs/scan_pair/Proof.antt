@@ -1,6 +1,7 @@
 -- `scan_pair`: a lemma for each return: left or right comes to no normal form, the forms are equal bytes, the forms differ. Assumes nothing.
 -- Read first: specs/Walk (PairWalk), proofs/Pairs.
 use mathlib.Core.Path.{refl}
+use Rattle.rewriting.specs.Rewrite.{end-number}
 use Rattle.scan.proofs.Pairs.{pair-left, pair-right, pair-same, pair-found}
 use borrow.Author.Needs.{needs}
 use Rattle.scan.proofs.scan_pair.Statement.{statement}
@@ -32,6 +33,7 @@ part-same-end-2 c =
     search needs
 
 returns-3 : tie.Need-returns-3
+unfolding end-number
 returns-3 c = pair-same _ _ _ _ _ _ _ _ _ _ _ _ (c .before .before .before .before .before .before .before .before .before .before .before .before .before .before .before .before .before .before .before .normalise .ensures) _ _ _ (c .before .before .before .before .before .before .before .before .before .before .before .before .normalise2 .ensures) (c .before .before .before .before .before .before .before .before .before .before .before .before .before .before .if1 .left) (c .before .before .before .before .before .before .before .if2 .left) (c .before .before .same .ensures .0 (c .before .if3 .taken)) (c .stopped3 .ensures)
 
 returns-4 : tie.Need-returns-4

@@ -1,6 +1,7 @@
 -- `scan_rules`: the invariant is that what is to come from the place reached, with the units left, comes to what all places come to; `ahead` falls.
 -- Assumes nothing.
 -- Read first: specs/Order (to-come), proofs/Reaching (Reaching, ahead).
+use Rattle.rewriting.specs.Rewrite.{end-number}
 use Rattle.scan.proofs.Reaching.{Reaching, ahead, reach-first, reach-end, reach-stop, reach-next, next-asks, falls}
 use Rattle.scan.proofs.Going.{still-fits}
 use borrow.Author.Needs.{needs}
@@ -29,6 +30,7 @@ scan-at-requires c κs =
     (c .before .before .before .before .before .before .before .before .before .before .before .before .pre .0, ((c .before .before .before .before .loop .inv .within (c .before .before .if1 .taken), c .before .before .if1 .taken, c .before .before .before .before .loop .inv .low), (still-fits (c .before .before .before .before .loop .inv .going .left-kept) (c .before .before .before .before .before .before .before .before .before .before .before .before .pre .1 .0), still-fits (c .before .before .before .before .loop .inv .going .right-kept) (c .before .before .before .before .before .before .before .before .before .before .before .before .pre .1 .1))))
 
 returns : tie.Need-returns Inv-loop μ-loop
+unfolding end-number
 returns c = reach-stop (c .before .before .before .before .before .before .before .before .before .before .before .loop .inv) (c .before .before .before .before .before .before .before .before .before .before .before .before .before .before .before .before .before .before .before .pre .0 .0) (c .before .before .before .before .before .before .before .before .before .if1 .taken) (c .before .before .before .before .before .before .scan-at .ensures) (c .if2 .taken)
 
 next-requires : tie.Need-next-requires Inv-loop μ-loop
@@ -38,9 +40,11 @@ loop-less : tie.Need-loop-less Inv-loop μ-loop
 loop-less c = falls (c .before .before .before .before .before .before .before .before .before .before .before .before .loop .inv) (c .before .before .before .before .before .before .before .before .before .before .before .before .before .before .before .before .before .before .before .before .pre .0 .0) (c .before .before .before .before .before .before .before .before .before .before .if1 .taken) _ (c .next .ensures)
 
 loop-again : tie.Need-loop-again Inv-loop μ-loop
+unfolding end-number
 loop-again c = reach-next (c .before .before .before .before .before .before .before .before .before .before .before .before .loop .inv) (c .before .before .before .before .before .before .before .before .before .before .before .before .before .before .before .before .before .before .before .before .pre .0 .0) (c .before .before .before .before .before .before .before .before .before .before .if1 .taken) (c .before .before .before .before .before .before .before .scan-at .ensures) (c .before .if2 .left) (c .next .ensures)
 
 returns-2 : tie.Need-returns-2 Inv-loop μ-loop
+unfolding end-number
 returns-2 c = reach-end (c .before .before .before .loop .inv) (c .before .if1 .left) (c .stopped .ensures)
 
 pub scan-rules-spec : {M : Type 1} → statement M
