@@ -1,4 +1,3 @@
-pub mod Verdicts
 pub mod Keeping
 pub mod Copying
 pub mod Making

@@ -1,16 +1,17 @@
 -- Steps 4 to 7 of a turn on the state by value: by the outcome of each test, what the definition's `make-rule` comes to. Assumes nothing.
 -- Read first: specs/Made (FinishedIs, MadeIs), completion/specs/Turn (make-rule), engine/specs/State (Represents).
-use mathlib.Core.Path.{_≡_, sym, ap, _∙_, subst}
-use mathlib.Core.Logic.{_⊎_, inl, inr}
+use mathlib.Core.Path.{_≡_, refl, sym, ap, _∙_, subst}
 use mathlib.Core.List.{List, [], _∷_, _++_, map}
 use Prim.Native.Nat.{ℕ, suc, _+_, _<_, _≤_}
 use native.Mathlib.Omega.{arith}
 use lib.ListN.{length, length-append}
 use Rattle.terms.specs.Term.{Pair}
+use Rattle.terms.proofs.Shape.{zero≢one}
 use Rattle.problem.specs.Problem.{Problem}
 use Rattle.rewriting.specs.Overlap.{Rule, sides-of}
-use Rattle.rewriting.specs.Rewrite.{End, neither-above, too-large, rules-full, Paid, done, stop, end-number}
-use Rattle.normaliser.specs.Stored.{Layout, Stored, code}
+use Rattle.rewriting.specs.Rewrite.{End, rules-full, Paid, done, stop, end-number, goes-on}
+use Rattle.rewriting.proofs.Holds.{NormalEnd, goes-on≢end}
+use Rattle.normaliser.specs.Stored.{Layout, Stored}
 use Rattle.completion.specs.Turn.{Origin, State as RunState, Taken, kept, removed, normalise-rights, make-rule}
 use Rattle.completion.specs.Calls.{origin-bytes}
 use Rattle.completion.proofs.Turning.{new-rule, make-stops, make-rules-full, make-rights-stop, make-done}
@@ -19,9 +20,7 @@ use Rattle.compose.specs.declared.Composed.{Composed}
 use Rattle.engine.specs.State.{Whole, FineBut, Represents}
 use Rattle.engine.specs.Steps.{LoggedState}
 use Rattle.orient.specs.Oriented.{oriented, OrientedIs}
-use Rattle.normaliser.proofs.Parts.{zero≢code}
-use Rattle.making.proofs.Verdicts.{not-neither, codes}
-use Rattle.making.specs.Made.{Outcome, Stops, stop-code, Stays, FinishedIs, MadeIs}
+use Rattle.making.specs.Made.{Outcome, Stops, Stays, FinishedIs, MadeIs}
 
 -- the state with one entry more
 abbrev pub logged : RunState → Origin → ℕ → RunState
@@ -29,11 +28,9 @@ logged s o n = record { rules = s .rules; made = s .made; waiting = s .waiting; 
 
 -- `finish`: a right side stopped
 pub finish-stops : (tab b l : List ℕ) (older : ℕ) (rs : List Rule) (c : Composed) (p : Paid (List Rule)) (s : RunState) (from : Origin) (st : Whole) (m n : ℕ) (o : Outcome) →
-    AllIs tab b l older rs c p → (c .verdict ≡ 0 → ⊥) → c .verdict ≤ 4 → Stays st (c .verdict) (c .units) m n o → FinishedIs tab s from o p
+    AllIs tab b l older rs c p → (c .verdict ≡ goes-on → ⊥) → ((e : End) (left : ℕ) → p ≡ stop e left → NormalEnd e) → Stays st (c .verdict) (c .units) m n o → FinishedIs tab s from o p
 finish-stops tab b l older rs c (done rs′ left) s from st m n o a v k y = absurd (v (a .0))
-finish-stops tab b l older rs c (stop e left) s from st m n o a v k y =
-    let q : code e ≤ 4 = subst (λ x. x ≤ 4) (a .0) k in
-    (y .verdict-is ∙ a .0 ∙ codes e q, y .units-are ∙ a .1, not-neither e (omega (arith, codes e q)))
+finish-stops tab b l older rs c (stop e left) s from st m n o a v k y = (y .verdict-is ∙ a .0, y .units-are ∙ a .1, λ g z. subst NormalEnd z (k e left refl))
 
 -- the state with other rules in its slots
 abbrev pub with-slots : Whole → List ℕ → List ℕ → Whole
@@ -87,9 +84,9 @@ module _ (tab : List ℕ) (st : Whole) (s : RunState) (rs : List Rule) (R : Repr
 
 -- all right sides were done
 pub finish-done : (tab b l : List ℕ) (older : ℕ) (st : Whole) (c : Composed) (s : RunState) (rules : List Rule) (new : Rule) (p : Paid (List Rule)) (from : Origin) (origin : List ℕ)
-    (st′ : Whole) (o : Outcome) → AllIs tab b l older (rules ++ (new ∷ [])) c p → c .verdict ≡ 0 → s .rules ≡ rules ++ (new ∷ []) → st .count ≡ older + 1 → Represents tab st s →
-    LoggedState (with-slots st b l) origin (st .made) st′ → origin ≡ origin-bytes from → Stays st′ 0 (c .units) 0 0 o → FinishedIs tab s from o p
-finish-done tab b l older st c s rules new (stop e left) from origin st′ o a v q n R G g y = absurd (zero≢code e (sym v ∙ a .0))
+    (st′ : Whole) (o : Outcome) → AllIs tab b l older (rules ++ (new ∷ [])) c p → c .verdict ≡ goes-on → s .rules ≡ rules ++ (new ∷ []) → st .count ≡ older + 1 → Represents tab st s →
+    LoggedState (with-slots st b l) origin (st .made) st′ → origin ≡ origin-bytes from → Stays st′ goes-on (c .units) 0 0 o → FinishedIs tab s from o p
+finish-done tab b l older st c s rules new (stop e left) from origin st′ o a v q n R G g y = absurd (goes-on≢end e (sym v ∙ a .0))
 finish-done tab b l older st c s rules new (done rs left) from origin st′ o a v q n R G g y =
     let k : map (λ (r : Rule). r .number) rs ≡ map (λ (r : Rule). r .number) (s .rules) = a .4 ∙ ap (map (λ (r : Rule). r .number)) (sym q) in
     let h : Represents tab (with-slots st b l) (with-rules s rs) = slots-represent tab st s rs R b l (a .2) (n ∙ sym (a .3)) k in
@@ -97,12 +94,7 @@ finish-done tab b l older st c s rules new (done rs left) from origin st′ o a 
     let z : Represents tab st′ (logged (with-rules s rs) from (s .made)) = subst (λ x. Represents tab st′ (logged (with-rules s rs) from x)) (R .made) w in
     (y .verdict-is, y .units-are ∙ a .1, subst (λ x. Represents tab x (logged (with-rules s rs) from (s .made))) (sym (y .state)) z)
 
--- `make_rule`: the ends of steps 4 and 5
-end-numbers : (e : End) (f : Pair) → (e ≡ too-large) ⊎ (e ≡ neither-above f) → (end-number e ≡ 20 → e ≡ neither-above f) × ((end-number e ≡ 20 → ⊥) → e ≡ too-large)
-unfolding end-number
-end-numbers e f (inl q) = (λ h. absurd (let k : end-number too-large ≡ 20 = sym (ap end-number q) ∙ h in omega arith), λ _. q)
-end-numbers e f (inr q) = (λ _. q, λ n. absurd (n (ap end-number q)))
-
+-- `make_rule`
 module _ (tab : List ℕ) (P : Problem) (s : RunState) (t : Taken) (units : ℕ) (b l : List ℕ) (k r m n : ℕ) (o : Outcome) where
   abbrev sides : Pair
   sides = t .pair .sides
@@ -110,26 +102,12 @@ module _ (tab : List ℕ) (P : Problem) (s : RunState) (t : Taken) (units : ℕ)
   abbrev Is : Paid RunState → Type 0
   Is p = MadeIs tab sides m n o p
 
-  -- neither side is above the other
-  pub make-neither : (st : Whole) (p : Paid Pair) → oriented P sides units ≡ p → OrientedIs tab b l k r sides units p → r ≡ 20 → Stops st 6 units m n o → Is (make-rule P s t units)
-  unfolding oriented stop-code
-  make-neither st (done e left) q a v y = absurd (let z : 0 ≡ 20 = sym (a .0) ∙ v in omega arith)
-  make-neither st (stop f left) q a v y =
-      let is : f ≡ neither-above sides = end-numbers f sides (a .2) .0 (sym (a .0) ∙ v) in
-      subst Is (sym (make-stops P s t units f left q)) (
-        y .verdict-is ∙ ap stop-code (sym is),
-        y .units-are ∙ sym (a .1),
-        λ g e. (let z : neither-above g ≡ neither-above sides = sym e ∙ is in cc, y .m-is, y .n-is),
-      )
-
-  -- more than 16 variables
-  pub make-large : (st : Whole) (i j : ℕ) (p : Paid Pair) → oriented P sides units ≡ p → OrientedIs tab b l k r sides units p → (r ≡ 20 → ⊥) → (r ≡ 0 → ⊥) → Stops st 2 units i j o → Is (make-rule P s t units)
-  unfolding oriented stop-code
-  make-large st i j (done e left) q a v w y = absurd (w (a .0))
-  make-large st i j (stop f left) q a v w y =
-      let is : f ≡ too-large = end-numbers f sides (a .2) .1 (λ h. v (a .0 ∙ h)) in
-      subst Is (sym (make-stops P s t units f left q))
-      (y .verdict-is ∙ ap stop-code (sym is), y .units-are ∙ sym (a .1), λ g e. absurd (not-neither too-large (omega arith) g (sym is ∙ e)))
+  -- more than 16 variables, or neither side above the other
+  pub make-unplaced : (st : Whole) (p : Paid Pair) → oriented P sides units ≡ p → OrientedIs tab b l k r sides units p → (r ≡ goes-on → ⊥) → Stops st r units m n o → Is (make-rule P s t units)
+  unfolding oriented
+  make-unplaced st (done e left) q a v y = absurd (v (a .0))
+  make-unplaced st (stop f left) q a v y =
+      subst Is (sym (make-stops P s t units f left q)) (y .verdict-is ∙ a .0, y .units-are ∙ sym (a .1), λ g e. (a .2 g e, y .m-is, y .n-is))
 
 -- The pair was oriented, and the state has the new rule behind the older ones that are kept.
 module _ (tab : List ℕ) (P : Problem) (s : RunState) (t : Taken) (units : ℕ) (m n : ℕ) (o : Outcome) (sides : Pair) (left : ℕ)
@@ -150,11 +128,11 @@ module _ (tab : List ℕ) (P : Problem) (s : RunState) (t : Taken) (units : ℕ)
   length-new : length (kept new (s .rules) ++ (new ∷ [])) ≡ suc (length (kept new (s .rules)))
   length-new = omega (arith, length-append (kept new (s .rules)) (new ∷ []))
 
-  pub make-full : (st st₂ : Whole) (i j : ℕ) → Represents tab st₂ collapsed → 32 ≤ st₂ .count → Stops st 4 units i j o → IsMade (make-rule P s t units)
-  unfolding oriented stop-code
+  pub make-full : (st st₂ : Whole) (i j : ℕ) → Represents tab st₂ collapsed → 32 ≤ st₂ .count → Stops st (end-number rules-full) units i j o → IsMade (make-rule P s t units)
+  unfolding oriented
   make-full st st₂ i j R over y =
       let q : 32 < suc (length (kept new (s .rules))) = omega (arith, R .count) in
-      subst IsMade (sym (make-rules-full P s t units sides left h q)) (y .verdict-is, y .units-are ∙ sym same, λ g z. absurd (not-neither rules-full (omega arith) g z))
+      subst IsMade (sym (make-rules-full P s t units sides left h q)) (y .verdict-is, y .units-are ∙ sym same, λ g z. absurd (zero≢one (cc)))
 
   pub make-finished : (st₂ : Whole) → Represents tab st₂ with-new → st₂ .count ≤ 32 → (p : Paid (List Rule)) →
       normalise-rights [] (kept new (s .rules)) new units ≡ p → FinishedIs tab with-new (t .pair .origin) o p → IsMade (make-rule P s t units)

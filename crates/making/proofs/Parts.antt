@@ -1,7 +1,6 @@
 -- `finish`, `make_rule`, `with_rule`, `settled` and `make`: from what their callees promise to the whole of their own promises. Assumes nothing.
 -- Read first: specs/Made (Finishes, Makes, WithRule, SettledTurn, MakesTurn), proofs/Making, proofs/Turns.
 use mathlib.Core.Path.{_≡_, refl, sym, ap, _∙_, subst}
-use mathlib.Core.Logic.{_⊎_, inl, inr}
 use mathlib.Core.List.{List, [], _∷_, _++_}
 use Prim.Native.Nat.{ℕ, _+_, _<_, _≤_}
 use native.Mathlib.Omega.{arith}
@@ -10,11 +9,13 @@ use Rattle.terms.specs.Term.{Pair}
 use Rattle.order.specs.Walk.{rank}
 use Rattle.problem.specs.Problem.{rank-of, Problem}
 use Rattle.rewriting.specs.Overlap.{Rule, sides-of}
-use Rattle.rewriting.specs.Rewrite.{End, too-large, neither-above, Paid, done, stop, end-number}
+use Rattle.rewriting.specs.Rewrite.{rules-full, log-full, Paid, done, stop, end-number, goes-on}
+use Rattle.rewriting.proofs.Holds.{goes-on≢end}
 use Rattle.normaliser.specs.Stored.{Layout, Sides, Stored, RuleAt}
 use Rattle.store.specs.Slots.{ShortAt}
 use Rattle.store.proofs.Listing.{layout-of}
 use Rattle.completion.specs.Turn.{State as RunState, Taken, normalise-rights, make-rule}
+use Rattle.completion.proofs.Scanning.{rights-end}
 use Rattle.completion.proofs.Turning.{new-rule}
 use Rattle.compose.specs.Rights.{All}
 use Rattle.compose.specs.declared.Composed.{Composed}
@@ -23,12 +24,12 @@ use Rattle.engine.specs.Steps.{LoggedState, CollapsedState, OrientedState, Take
 use Rattle.orient.specs.Oriented.{oriented, OrientedIs, Placed}
 use Rattle.making.specs.Made.{Outcome, Stops, Stays, Safe, Finishes, without-taken, Makes, WithRule, SettledTurn, MakesTurn}
 use Rattle.making.proofs.Keeping.{said}
-use Rattle.making.proofs.Making.{finish-stops, finish-done, with-slots, slots-fine, make-neither, make-large, make-full, make-finished}
+use Rattle.making.proofs.Making.{finish-stops, finish-done, with-slots, slots-fine, make-unplaced, make-full, make-finished}
 use Rattle.normaliser.proofs.Choosing.{layout-front}
 use Rattle.making.proofs.Turns.{turn-full, turn-settled, turn-made, turn-not-made}
 
 -- a stop has no next state
-halt-safe : (st : Whole) (v u m n entries : ℕ) (o : Outcome) → (v ≡ 0 → ⊥) → Stays st v u m n o → m ≤ 120 → n ≤ 120 → Safe entries o
+halt-safe : (st : Whole) (v u m n entries : ℕ) (o : Outcome) → (v ≡ goes-on → ⊥) → Stays st v u m n o → m ≤ 120 → n ≤ 120 → Safe entries o
 halt-safe st v u m n entries o p y f g =
     record {
       fine = λ z. absurd (p (sym (y .verdict-is) ∙ z));
@@ -37,7 +38,7 @@ halt-safe st v u m n entries o p y f g =
       right-few = subst (λ x. x ≤ 120) (sym (y .n-is)) g;
     }
 
-pub stop-safe : (st : Whole) (v u m n entries : ℕ) (o : Outcome) → (v ≡ 0 → ⊥) → Stops st v u m n o → m ≤ 120 → n ≤ 120 → Safe entries o
+pub stop-safe : (st : Whole) (v u m n entries : ℕ) (o : Outcome) → (v ≡ goes-on → ⊥) → Stops st v u m n o → m ≤ 120 → n ≤ 120 → Safe entries o
 stop-safe st v u m n entries o p y f g = halt-safe (o .state) v u m n entries o p (said y) f g
 
 next-safe : (st : Whole) (v u entries : ℕ) (o : Outcome) → Fine st → st .entries ≡ entries + 1 → Stays st v u 0 0 o → Safe entries o
@@ -49,11 +50,6 @@ next-safe st v u entries o F e y =
       right-few = omega (arith, y .n-is);
     }
 
-ends-positive : (f : End) {e : Pair} → (f ≡ too-large) ⊎ (f ≡ neither-above e) → end-number f ≡ 0 → ⊥
-unfolding end-number
-ends-positive f (inl q) h = let z : _≡_ {A = ℕ} 22 0 = sym (ap end-number q) ∙ h in omega arith
-ends-positive f (inr q) h = let z : _≡_ {A = ℕ} 20 0 = sym (ap end-number q) ∙ h in omega arith
-
 -- `finish`
 module _ (st : Whole) (tab b l origin : List ℕ) (older units : ℕ) (c : Composed) (o : Outcome) (A : All tab (st .rules) (st .lens) b l older units c) (n : older + 1 ≡ st .count) where
   behind : (s : RunState) (rules : List Rule) (new : Rule) → s .rules ≡ rules ++ (new ∷ []) → Represents tab st s → length rules ≡ older
@@ -62,15 +58,15 @@ module _ (st : Whole) (tab b l origin : List ℕ) (older units : ℕ) (c : Compo
   slots-of : (s : RunState) (rules : List Rule) (new : Rule) → s .rules ≡ rules ++ (new ∷ []) → Represents tab st s → Stored tab (st .rules) (st .lens) 0 (sides-of (rules ++ (new ∷ [])))
   slots-of s rules new q R = subst (λ x. Stored tab (st .rules) (st .lens) 0 (sides-of x)) q (R .rules)
 
-  pub finishes-stop : (c .verdict ≡ 0 → ⊥) → (st′ : Whole) → Stays st′ (c .verdict) (c .units) 0 0 o → Finishes st tab origin units o
+  pub finishes-stop : (c .verdict ≡ goes-on → ⊥) → (st′ : Whole) → Stays st′ (c .verdict) (c .units) 0 0 o → Finishes st tab origin units o
   finishes-stop v st′ y =
       record {
         safe = halt-safe st′ _ _ 0 0 _ o v y (omega arith) (omega arith);
         answer = λ s rules new from q R g.
-            finish-stops tab b l older (rules ++ (new ∷ [])) c (normalise-rights [] rules new units) s from st′ 0 0 o (A .answer rules new (behind s rules new q R) (slots-of s rules new q R)) v (A .known) y;
+            finish-stops tab b l older (rules ++ (new ∷ [])) c (normalise-rights [] rules new units) s from st′ 0 0 o (A .answer rules new (behind s rules new q R) (slots-of s rules new q R)) v (λ e left. rights-end [] rules new units left e) y;
       }
 
-  pub finishes-done : c .verdict ≡ 0 → (st′ : Whole) → LoggedState (with-slots st b l) origin (st .made) st′ → Stays st′ 0 (c .units) 0 0 o → Finishes st tab origin units o
+  pub finishes-done : c .verdict ≡ goes-on → (st′ : Whole) → LoggedState (with-slots st b l) origin (st .made) st′ → Stays st′ goes-on (c .units) 0 0 o → Finishes st tab origin units o
   finishes-done v st′ G y =
       record {
         safe = next-safe st′ _ _ _ o (G .fine) (G .entries) y;
@@ -94,20 +90,12 @@ module _ (st : Whole) (tab left right origin b l b′ l′ : List ℕ) (units r 
   abbrev answered : (P : Problem) → rank-of (P .symbols) ≡ rank tab → (t : Taken) → Sides 32 tab left right (t .pair .sides) → OrientedIs tab b′ l′ 0 r (t .pair .sides) units (oriented P (t .pair .sides) units)
   answered P k t S = A .answer P k (t .pair .sides) S units
 
-  pub makes-neither : r ≡ 20 → length left ≤ 120 → length right ≤ 120 → Stops st 6 units (length left) (length right) o → Makes st tab left right origin units o
-  makes-neither v f g y =
+  pub makes-unplaced : (r ≡ goes-on → ⊥) → length left ≤ 120 → length right ≤ 120 → Stops st r units (length left) (length right) o → Makes st tab left right origin units o
+  makes-unplaced v f g y =
       record {
-        safe = stop-safe st 6 _ _ _ _ o (λ z. absurd (omega arith)) y f g;
+        safe = stop-safe st r _ _ _ _ o v y f g;
         kept = λ _. (y .kept .rules, y .kept .log);
-        answer = λ P k s t R S q. make-neither tab P s t units b′ l′ 0 r (length left) (length right) o st (oriented P (t .pair .sides) units) refl (answered P k t S) v y;
-      }
-
-  pub makes-large : (r ≡ 20 → ⊥) → (r ≡ 0 → ⊥) → Stops st 2 units 0 0 o → Makes st tab left right origin units o
-  makes-large v w y =
-      record {
-        safe = stop-safe st 2 _ _ _ _ o (λ z. absurd (omega arith)) y (omega arith) (omega arith);
-        kept = λ _. (y .kept .rules, y .kept .log);
-        answer = λ P k s t R S q. make-large tab P s t units b′ l′ 0 r (length left) (length right) o st 0 0 (oriented P (t .pair .sides) units) refl (answered P k t S) v w y;
+        answer = λ P k s t R S q. make-unplaced tab P s t units b′ l′ 0 r (length left) (length right) o st (oriented P (t .pair .sides) units) refl (answered P k t S) v y;
       }
 
   -- the definition's new rule
@@ -118,14 +106,14 @@ module _ (st : Whole) (tab left right origin b l b′ l′ : List ℕ) (units r 
     same-units : now ≡ units
     rule : RuleAt tab b′ l′ 0 sides
 
-  made : r ≡ 0 → (P : Problem) → rank-of (P .symbols) ≡ rank tab → (s : RunState) (t : Taken) → Sides 32 tab left right (t .pair .sides) → Made P s t
+  made : r ≡ goes-on → (P : Problem) → rank-of (P .symbols) ≡ rank tab → (s : RunState) (t : Taken) → Sides 32 tab left right (t .pair .sides) → Made P s t
   made v P k s t S = go (oriented P (t .pair .sides) units) refl (answered P k t S)
     where
       go : (p : Paid Pair) → oriented P (t .pair .sides) units ≡ p → OrientedIs tab b′ l′ 0 r (t .pair .sides) units p → Made P s t
       go (done e now) q a = record { sides = e; now = now; is = q; same-units = a .1; rule = a .2 }
-      go (stop f now) q a = absurd (ends-positive f (a .2) (sym (a .0) ∙ v))
+      go (stop f now) q a = absurd (goes-on≢end f (sym v ∙ a .0))
 
-  pub makes-with : r ≡ 0 → WithRule st tab b′ l′ origin units o → Makes st tab left right origin units o
+  pub makes-with : r ≡ goes-on → WithRule st tab b′ l′ origin units o → Makes st tab left right origin units o
   makes-with v W =
       record {
         safe = W .safe;
@@ -135,17 +123,17 @@ module _ (st : Whole) (tab left right origin b l b′ l′ : List ℕ) (units r 
 
 -- `with_rule`
 module _ (st : Whole) (tab new sizes origin : List ℕ) (units : ℕ) (o : Outcome) (st₁ : Whole) (C : CollapsedState tab new sizes st st₁) where
-  pub rule-full : 32 ≤ st₁ .count → Stops st 4 units 0 0 o → WithRule st tab new sizes origin units o
+  pub rule-full : 32 ≤ st₁ .count → Stops st (end-number rules-full) units 0 0 o → WithRule st tab new sizes origin units o
   rule-full full y =
       record {
-        safe = stop-safe st 4 _ _ _ _ o (λ z. absurd (omega arith)) y (omega arith) (omega arith);
+        safe = stop-safe st _ _ _ _ _ o (λ z. goes-on≢end rules-full (sym z)) y (omega arith) (omega arith);
         kept = λ _. (y .kept .rules, y .kept .log);
         answer = λ P s t sides now m n is same-units h R q.
             make-full tab P s t units m n o sides now is same-units st st₁ 0 0 (C .represents (without-taken s t) (new-rule s sides) h R) full y;
       }
 
   pub rule-finished : st₁ .count ≤ 31 → (st₂ : Whole) → OrientedState new sizes st₁ st₂ → Finishes st₂ tab origin units o →
-      ((o .verdict ≡ 0 → ⊥) → (o .state .rules ≡ st .rules) × (o .state .log ≡ st .log)) → WithRule st tab new sizes origin units o
+      ((o .verdict ≡ goes-on → ⊥) → (o .state .rules ≡ st .rules) × (o .state .log ≡ st .log)) → WithRule st tab new sizes origin units o
   rule-finished few st₂ N F K =
       record {
         safe = record {
@@ -164,15 +152,15 @@ module _ (st : Whole) (tab new sizes origin : List ℕ) (units : ℕ) (o : Outco
 
 -- `settled`
 module _ (st : Whole) (origin : List ℕ) (units : ℕ) (o : Outcome) where
-  pub settled-full : 512 ≤ st .entries → Stops st 5 units 0 0 o → SettledTurn st origin units o
+  pub settled-full : 512 ≤ st .entries → Stops st (end-number log-full) units 0 0 o → SettledTurn st origin units o
   settled-full full y =
       record {
-        safe = stop-safe st 5 _ _ _ _ o (λ z. absurd (omega arith)) y (omega arith) (omega arith);
+        safe = stop-safe st _ _ _ _ _ o (λ z. goes-on≢end log-full (sym z)) y (omega arith) (omega arith);
         stays = λ _. y .kept;
         answer = λ tab P s t u c R w q T e. turn-full tab P s t u units st R T o _ 0 0 full y;
       }
 
-  pub settled-done : st .entries < 512 → (st₁ st₂ : Whole) → TakenState st st₁ → LoggedState st₁ origin 0 st₂ → Stays st₂ 0 units 0 0 o → SettledTurn st origin units o
+  pub settled-done : st .entries < 512 → (st₁ st₂ : Whole) → TakenState st st₁ → LoggedState st₁ origin 0 st₂ → Stays st₂ goes-on units 0 0 o → SettledTurn st origin units o
   settled-done few st₁ st₂ K G y =
       record {
         safe = next-safe st₂ _ _ _ o (G .fine) (G .entries ∙ ap (λ x. x + 1) (K .entries)) y;
@@ -183,16 +171,16 @@ module _ (st : Whole) (origin : List ℕ) (units : ℕ) (o : Outcome) where
 
 -- `make`
 module _ (st rest : Whole) (tab left right origin : List ℕ) (units : ℕ) where
-  pub makes-turn-full : (o : Outcome) → 512 ≤ st .entries → Stops st 5 units 0 0 o → MakesTurn st rest tab left right origin units o
+  pub makes-turn-full : (o : Outcome) → 512 ≤ st .entries → Stops st (end-number log-full) units 0 0 o → MakesTurn st rest tab left right origin units o
   makes-turn-full o full y =
       record {
-        safe = stop-safe st 5 _ _ _ _ o (λ z. absurd (omega arith)) y (omega arith) (omega arith);
+        safe = stop-safe st _ _ _ _ _ o (λ z. goes-on≢end log-full (sym z)) y (omega arith) (omega arith);
         stays = λ _. y .kept;
         answer = λ P k s t u R R₁ S q T e. turn-full tab P s t u units st R T o _ 0 0 full y;
       }
 
   module _ (few : st .entries < 512) (t′ : Outcome) (M : Makes rest tab left right origin units t′) where
-    pub makes-turn-stop : (o : Outcome) → (t′ .verdict ≡ 0 → ⊥) → Stops st (t′ .verdict) (t′ .units) (t′ .m) (t′ .n) o → MakesTurn st rest tab left right origin units o
+    pub makes-turn-stop : (o : Outcome) → (t′ .verdict ≡ goes-on → ⊥) → Stops st (t′ .verdict) (t′ .units) (t′ .m) (t′ .n) o → MakesTurn st rest tab left right origin units o
     makes-turn-stop o v y =
         record {
           safe = stop-safe st _ _ _ _ _ o v y (M .safe .left-few) (M .safe .right-few);
@@ -201,7 +189,7 @@ module _ (st rest : Whole) (tab left right origin : List ℕ) (units : ℕ) wher
               turn-not-made tab P s t u units st R T o (length left) (length right) few e t′ v y (make-rule P s t units) refl (M .answer P k s t R₁ S q);
         }
 
-    pub makes-turn-done : t′ .verdict ≡ 0 → rest .entries ≡ st .entries → MakesTurn st rest tab left right origin units t′
+    pub makes-turn-done : t′ .verdict ≡ goes-on → rest .entries ≡ st .entries → MakesTurn st rest tab left right origin units t′
     makes-turn-done v n =
         record {
           safe = subst (λ x. Safe x t′) n (M .safe);

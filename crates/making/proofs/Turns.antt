@@ -6,27 +6,27 @@ use mathlib.Core.List.{List}
 use Prim.Native.Nat.{ℕ, suc, _<_, _≤_}
 use native.Mathlib.Omega.{arith}
 use Rattle.terms.specs.Term.{Pair, same}
+use Rattle.terms.proofs.Shape.{zero≢one}
 use Rattle.problem.specs.Problem.{Problem}
-use Rattle.rewriting.specs.Rewrite.{log-full, Paid, done, stop}
+use Rattle.rewriting.specs.Rewrite.{log-full, end-number, goes-on, Paid, done, stop}
+use Rattle.rewriting.proofs.Holds.{goes-on≢end}
 use Rattle.completion.specs.Turn.{State as RunState, Taken, settled, make-rule, turn}
 use Rattle.completion.proofs.Turning.{turn-log-full, turn-settles, turn-makes}
 use Rattle.engine.specs.State.{Whole, Represents}
 use Rattle.making.proofs.Keeping.{held-of}
-use Rattle.making.proofs.Verdicts.{stop-positive, not-neither}
 use Rattle.making.proofs.Making.{logged}
-use Rattle.making.specs.Made.{Outcome, Stops, stop-code, Stays, without-taken, MadeIs, TurnWith, MadeTurn, TakenBy}
+use Rattle.making.specs.Made.{Outcome, Stops, Stays, without-taken, MadeIs, TurnWith, MadeTurn, TakenBy}
 
 module _ (tab : List ℕ) (P : Problem) (s : RunState) (t : Taken) (u units : ℕ) (st : Whole) (R : Represents tab st s) (T : TakenBy P s u t units) (o : Outcome) where
   -- with 512 entries in the log
-  pub turn-full : (Q : Pair → Type 0) (i j : ℕ) → 512 ≤ st .entries → Stops st 5 units i j o → TurnWith Q tab s o (turn P s (suc u))
-  unfolding stop-code
+  pub turn-full : (Q : Pair → Type 0) (i j : ℕ) → 512 ≤ st .entries → Stops st (end-number log-full) units i j o → TurnWith Q tab s o (turn P s (suc u))
   turn-full Q i j full y =
       subst (TurnWith Q tab s o) (sym (turn-log-full P s u t units (T .is) (omega (arith, R .entries))))
-      (y .verdict-is, y .units-are, held-of R (y .kept), λ g z. absurd (not-neither log-full (omega arith) g z))
+      (y .verdict-is, y .units-are, held-of R (y .kept), λ g z. absurd (zero≢one (cc)))
 
   -- equal forms
   pub turn-settled : (Q : Pair → Type 0) (st′ : Whole) (i j : ℕ) → st .entries < 512 → same (t .pair .sides .left) (t .pair .sides .right) ≡ true →
-      Represents tab st′ (logged (without-taken s t) (t .pair .origin) 0) → Stays st′ 0 units i j o → TurnWith Q tab s o (turn P s (suc u))
+      Represents tab st′ (logged (without-taken s t) (t .pair .origin) 0) → Stays st′ goes-on units i j o → TurnWith Q tab s o (turn P s (suc u))
   unfolding settled
   turn-settled Q st′ i j few e W y =
       subst (TurnWith Q tab s o) (sym (turn-settles P s u t units (T .is) (omega (arith, R .entries)) e)) (y .verdict-is, y .units-are, subst (λ x. Represents tab x (settled s t)) (sym (y .state)) W)
@@ -36,13 +36,13 @@ module _ (tab : List ℕ) (P : Problem) (s : RunState) (t : Taken) (u units : �
     IsTurn p = MadeTurn tab s (t .pair .sides) m n o p
 
     -- a new rule
-    pub turn-made : st .entries < 512 → same (t .pair .sides .left) (t .pair .sides .right) ≡ false → o .verdict ≡ 0 → (p : Paid RunState) → make-rule P s t units ≡ p →
+    pub turn-made : st .entries < 512 → same (t .pair .sides .left) (t .pair .sides .right) ≡ false → o .verdict ≡ goes-on → (p : Paid RunState) → make-rule P s t units ≡ p →
         MadeIs tab (t .pair .sides) m n o p → IsTurn (turn P s (suc u))
     turn-made few e v (done s′ left) q a = subst IsTurn (sym (turn-makes P s u t units (T .is) (omega (arith, R .entries)) e ∙ q)) a
-    turn-made few e v (stop f left) q a = absurd (stop-positive f (sym (a .0) ∙ v))
+    turn-made few e v (stop f left) q a = absurd (goes-on≢end f (sym v ∙ a .0))
 
     -- a stop in making it
-    pub turn-not-made : st .entries < 512 → same (t .pair .sides .left) (t .pair .sides .right) ≡ false → (o′ : Outcome) → (o′ .verdict ≡ 0 → ⊥) →
+    pub turn-not-made : st .entries < 512 → same (t .pair .sides .left) (t .pair .sides .right) ≡ false → (o′ : Outcome) → (o′ .verdict ≡ goes-on → ⊥) →
         Stops st (o′ .verdict) (o′ .units) (o′ .m) (o′ .n) o → (p : Paid RunState) → make-rule P s t units ≡ p → MadeIs tab (t .pair .sides) m n o′ p → IsTurn (turn P s (suc u))
     turn-not-made few e o′ v y (done s′ left) q a = absurd (v (a .0))
     turn-not-made few e o′ v y (stop f left) q a =

@@ -8,7 +8,7 @@ use Rattle.terms.specs.Term.{Pair, same}
 use Rattle.order.specs.Walk.{rank}
 use Rattle.problem.specs.Problem.{rank-of, Problem}
 use Rattle.rewriting.specs.Overlap.{Rule}
-use Rattle.rewriting.specs.Rewrite.{End, complete, neither-above, spent, too-large, rules-full, log-full, Paid, done, stop}
+use Rattle.rewriting.specs.Rewrite.{neither-above, end-number, goes-on, Paid, done, stop}
 use Rattle.normaliser.specs.Stored.{Sides, RuleAt}
 use Rattle.completion.specs.Turn.{Origin, Candidate, State as RunState, Taken, take-pair, normalise-rights, make-rule, turn}
 use Rattle.completion.specs.Calls.{origin-bytes}
@@ -16,15 +16,6 @@ use Rattle.engine.specs.State.{Whole, whole, Fine, FineBut, Represents, Held}
 use Rattle.engine.specs.declared.State.{State}
 use Rattle.orient.specs.Oriented.{oriented}
 use Rattle.making.specs.declared.Turned.{Turned}
-
--- the verdict for an end
-unfoldable pub stop-code : End → ℕ
-stop-code spent = 1
-stop-code too-large = 2
-stop-code complete = 3
-stop-code rules-full = 4
-stop-code log-full = 5
-stop-code (neither-above e) = 6
 
 -- an answer, with the bytes that the lent buffers then hold
 pub record Outcome : Type 0 where
@@ -73,17 +64,17 @@ pub record Answers (st : State) (verdict units m n : ℕ) (o : Turned) : Type 0 
 
 -- what every answer has, of a turn that began with so many entries in the log
 pub record Safe (entries : ℕ) (o : Outcome) : Type 0 where
-  pub fine : o .verdict ≡ 0 → Fine (o .state)
-  pub grows : o .verdict ≡ 0 → o .state .entries ≡ entries + 1
+  pub fine : o .verdict ≡ goes-on → Fine (o .state)
+  pub grows : o .verdict ≡ goes-on → o .state .entries ≡ entries + 1
   pub left-few : o .m ≤ 120
   pub right-few : o .n ≤ 120
 
 -- step 7 and the log, from the state s, whose last rule is the new one
 abbrev pub FinishedIs : List ℕ → RunState → Origin → Outcome → Paid (List Rule) → Type 0
 FinishedIs tab s from o (done rules left) =
-    (o .verdict ≡ 0) × (o .units ≡ left)
+    (o .verdict ≡ goes-on) × (o .units ≡ left)
     × Represents tab (o .state) (record { rules = rules; made = s .made; waiting = s .waiting; log = s .log ++ (record { origin = from; made = s .made } ∷ []) })
-FinishedIs tab s from o (stop e left) = (o .verdict ≡ stop-code e) × (o .units ≡ left) × ((g : Pair) → e ≡ neither-above g → ⊥)
+FinishedIs tab s from o (stop e left) = (o .verdict ≡ end-number e) × (o .units ≡ left) × ((g : Pair) → e ≡ neither-above g → ⊥)
 
 pub record Finishes (st : Whole) (tab origin : List ℕ) (units : ℕ) (o : Outcome) : Type 0 where
   pub safe : Safe (st .entries) o
@@ -92,7 +83,7 @@ pub record Finishes (st : Whole) (tab origin : List ℕ) (units : ℕ) (o : Outc
 
 -- `finish`, with any waiting list: the rules of st are in the buffer `next`
 pub record FinishesIn (st : State) (next rules log tab origin : List ℕ) (units : ℕ) (rules′ log′ : List ℕ) (o : Turned) : Type 0 where
-  pub kept : (o .verdict ≡ 0 → ⊥) → (rules′ ≡ rules) × (log′ ≡ log)
+  pub kept : (o .verdict ≡ goes-on → ⊥) → (rules′ ≡ rules) × (log′ ≡ log)
   pub finishes : (waiting : List ℕ) → FineBut 1 (whole st next waiting log) → Finishes (whole st next waiting log) tab origin units (outcome o rules′ waiting log′)
 
 -- `make_rule`: the state of a turn's beginning, without the pair that was taken
@@ -100,26 +91,26 @@ abbrev pub without-taken : RunState → Taken → RunState
 without-taken s t = record { rules = s .rules; made = s .made; waiting = t .waiting; log = s .log }
 
 abbrev pub MadeIs : List ℕ → Pair → ℕ → ℕ → Outcome → Paid RunState → Type 0
-MadeIs tab e m n o (done s left) = (o .verdict ≡ 0) × (o .units ≡ left) × Represents tab (o .state) s
-MadeIs tab e m n o (stop f left) = (o .verdict ≡ stop-code f) × (o .units ≡ left) × ((g : Pair) → f ≡ neither-above g → (g ≡ e) × (o .m ≡ m) × (o .n ≡ n))
+MadeIs tab e m n o (done s left) = (o .verdict ≡ goes-on) × (o .units ≡ left) × Represents tab (o .state) s
+MadeIs tab e m n o (stop f left) = (o .verdict ≡ end-number f) × (o .units ≡ left) × ((g : Pair) → f ≡ neither-above g → (g ≡ e) × (o .m ≡ m) × (o .n ≡ n))
 
 pub record Makes (st : Whole) (tab left right origin : List ℕ) (units : ℕ) (o : Outcome) : Type 0 where
   pub safe : Safe (st .entries) o
-  pub kept : (o .verdict ≡ 0 → ⊥) → (o .state .rules ≡ st .rules) × (o .state .log ≡ st .log)
+  pub kept : (o .verdict ≡ goes-on → ⊥) → (o .state .rules ≡ st .rules) × (o .state .log ≡ st .log)
   pub answer : (P : Problem) → rank-of (P .symbols) ≡ rank tab → (s : RunState) (t : Taken) → Represents tab st (without-taken s t) →
       Sides 32 tab left right (t .pair .sides) → origin ≡ origin-bytes (t .pair .origin) → MadeIs tab (t .pair .sides) (length left) (length right) o (make-rule P s t units)
 
 -- `with_rule`: the taken pair is oriented, and its rule stands alone in a store
 pub record WithRule (st : Whole) (tab new sizes origin : List ℕ) (units : ℕ) (o : Outcome) : Type 0 where
   pub safe : Safe (st .entries) o
-  pub kept : (o .verdict ≡ 0 → ⊥) → (o .state .rules ≡ st .rules) × (o .state .log ≡ st .log)
+  pub kept : (o .verdict ≡ goes-on → ⊥) → (o .state .rules ≡ st .rules) × (o .state .log ≡ st .log)
   pub answer : (P : Problem) (s : RunState) (t : Taken) (sides : Pair) (left m n : ℕ) → oriented P (t .pair .sides) units ≡ done sides left → left ≡ units → RuleAt tab new sizes 0 sides →
       Represents tab st (without-taken s t) → origin ≡ origin-bytes (t .pair .origin) → MadeIs tab (t .pair .sides) m n o (make-rule P s t units)
 
 -- a turn: a stop leaves the rules and the log as at its beginning, and with 20 the forms have Q
 abbrev pub TurnWith : (Pair → Type 0) → List ℕ → RunState → Outcome → Paid RunState → Type 0
-TurnWith Q tab s o (done s′ left) = (o .verdict ≡ 0) × (o .units ≡ left) × Represents tab (o .state) s′
-TurnWith Q tab s o (stop f left) = (o .verdict ≡ stop-code f) × (o .units ≡ left) × Held tab (o .state) s × ((g : Pair) → f ≡ neither-above g → Q g)
+TurnWith Q tab s o (done s′ left) = (o .verdict ≡ goes-on) × (o .units ≡ left) × Represents tab (o .state) s′
+TurnWith Q tab s o (stop f left) = (o .verdict ≡ end-number f) × (o .units ≡ left) × Held tab (o .state) s × ((g : Pair) → f ≡ neither-above g → Q g)
 
 -- they are the taken pair, m and n bytes long
 abbrev pub MadeTurn : List ℕ → RunState → Pair → ℕ → ℕ → Outcome → Paid RunState → Type 0
@@ -132,7 +123,7 @@ pub record TakenBy (P : Problem) (s : RunState) (u : ℕ) (t : Taken) (units : �
 -- the taken pair has equal forms
 pub record SettledTurn (st : Whole) (origin : List ℕ) (units : ℕ) (o : Outcome) : Type 0 where
   pub safe : Safe (st .entries) o
-  pub stays : (o .verdict ≡ 0 → ⊥) → Kept st (o .state)
+  pub stays : (o .verdict ≡ goes-on → ⊥) → Kept st (o .state)
   pub answer : (tab : List ℕ) (P : Problem) (s : RunState) (t : Taken) (u : ℕ) (c : Candidate) → Represents tab st s → s .waiting ≡ c ∷ (t .waiting) → origin ≡ origin-bytes (t .pair .origin) →
       TakenBy P s u t units → same (t .pair .sides .left) (t .pair .sides .right) ≡ true → TurnWith (λ g. ⊥) tab s o (turn P s (suc u))
 
@@ -143,7 +134,7 @@ pub record Settles (st : State) (waiting log origin : List ℕ) (units : ℕ) (w
 -- it has different forms; `rest` is the state without it
 pub record MakesTurn (st rest : Whole) (tab left right origin : List ℕ) (units : ℕ) (o : Outcome) : Type 0 where
   pub safe : Safe (st .entries) o
-  pub stays : (o .verdict ≡ 0 → ⊥) → Kept st (o .state)
+  pub stays : (o .verdict ≡ goes-on → ⊥) → Kept st (o .state)
   pub answer : (P : Problem) → rank-of (P .symbols) ≡ rank tab → (s : RunState) (t : Taken) (u : ℕ) → Represents tab st s → Represents tab rest (without-taken s t) →
       Sides 32 tab left right (t .pair .sides) → origin ≡ origin-bytes (t .pair .origin) → TakenBy P s u t units → same (t .pair .sides .left) (t .pair .sides .right) ≡ false →
       MadeTurn tab s (t .pair .sides) (length left) (length right) o (turn P s (suc u))

@@ -8,9 +8,9 @@ ghost use Rattle.engine.specs.State.{whole, Fine};
 ghost use Rattle.making.specs.Made.{outcome, Answers, FinishesIn, WithRule, Makes, Settles, MakesIn};
 use engine::State;
 
-// Verdict 0: the next state; else why the turn stopped. 1: spent; 2: too large; 3: complete; 4: rules full; 5: log full; 6: neither side above.
-// `units` are left. The bytes of the rules, of the waiting equations and of the log stand in the lent buffers; a stop leaves those of the rules
-// and of the log as at the turn's beginning. With 6 the two forms stand in the lent buffers, m and n bytes long.
+// Verdict GOES_ON: the next state; else the number of the end at which the turn stopped. `units` are left. The bytes of the rules, of the waiting
+// equations and of the log stand in the lent buffers; a stop leaves those of the rules and of the log as at the turn's beginning. With NEITHER_ABOVE
+// the two forms stand in the lent buffers, m and n bytes long; else m and n say nothing.
 pub struct Turned {
     pub state: State,
     pub verdict: u8,
@@ -49,7 +49,7 @@ fn finish(
     let mut lens = st.lens;
     let older = st.count - 1;
     let c = compose::compose(next, &mut lens, older, table, units);
-    if c.verdict != 0 {
+    if c.verdict != rewriting::GOES_ON {
         return stopped(st, c.verdict, c.units, 0, 0);
     }
     let mut live = st;
@@ -58,7 +58,7 @@ fn finish(
     let e = 240 * live.count;
     store::paste(rules, 0, &next[0..e]);
     let logged = live.with_entry(log, origin, made as u16);
-    stopped(logged, 0, c.units, 0, 0)
+    stopped(logged, rewriting::GOES_ON, c.units, 0, 0)
 }
 
 // Steps 5 to 7 with the new rule, alone in its store. A stop leaves the rules and the log as they are.
@@ -82,7 +82,7 @@ fn with_rule(
     store::paste(&mut next, 0, &rules[0..e]);
     let kept = st.collapse(&mut next, waiting, new, sizes, table);
     if kept.count >= 32 {
-        return stopped(st, 4, units, 0, 0);
+        return stopped(st, rewriting::FULL, units, 0, 0);
     }
     let live = kept.orient(&mut next, new, sizes);
     finish(live, &mut next, rules, log, table, origin, units)
@@ -107,11 +107,8 @@ fn make_rule(
     let mut new = [0u8; 240];
     let mut lens = [0u8; 2];
     let end = orient::place(left, right, table, &mut new, &mut lens, 0);
-    if end == 20 {
-        return stopped(st, 6, units, left.len(), right.len());
-    }
-    if end != 0 {
-        return stopped(st, 2, units, 0, 0);
+    if end != rewriting::GOES_ON {
+        return stopped(st, end, units, left.len(), right.len());
     }
     with_rule(st, rules, waiting, log, table, &new, &lens, origin, units)
 }
@@ -122,11 +119,11 @@ pub fn settled(st: State, waiting: &mut [u8], log: &mut [u8], origin: [u8; 6], u
     ensures { λ r. ⌜ Settles st (now (waiting .entry)) (now (log .entry)) origin units (now (waiting .exit)) (now (log .exit)) r ⌝ }
 {
     if st.entries >= 512 {
-        return stopped(st, 5, units, 0, 0);
+        return stopped(st, rewriting::FULL, units, 0, 0);
     }
     let rest = st.take(waiting);
     let logged = rest.with_entry(log, origin, 0);
-    stopped(logged, 0, units, 0, 0)
+    stopped(logged, rewriting::GOES_ON, units, 0, 0)
 }
 
 // Steps 2 and 4 to 7: the taken pair has different forms; `rest` is the state without it.
@@ -147,10 +144,10 @@ pub fn make(
     ensures { λ r. ⌜ MakesIn st rest (now (rules .entry)) (now (waiting .entry)) (now (log .entry)) (now (table .entry)) (now (left .entry)) (now (right .entry)) origin units (now (rules .exit)) (now (waiting .exit)) (now (log .exit)) r ⌝ }
 {
     if st.entries >= 512 {
-        return stopped(st, 5, units, 0, 0);
+        return stopped(st, rewriting::FULL, units, 0, 0);
     }
     let t = make_rule(rest, rules, waiting, log, table, left, right, origin, units);
-    if t.verdict != 0 {
+    if t.verdict != rewriting::GOES_ON {
         return stopped(st, t.verdict, t.units, t.m, t.n);
     }
     t

@@ -2,6 +2,7 @@
 -- Read first: specs/Made (MakesTurn), proofs/Parts.
 use native.Mathlib.Omega.{arith}
 use mathlib.Core.Path.{refl}
+use Rattle.rewriting.specs.Rewrite.{end-number}
 use Rattle.making.proofs.Keeping.{stops}
 use Rattle.making.proofs.Parts.{makes-turn-full, makes-turn-stop, makes-turn-done}
 use borrow.Author.Needs.{needs}
@@ -13,6 +14,7 @@ use Rattle.making.proofs.make_rule.Reads as make-rule-reads
 use Rattle.making.proofs.stopped.Reads as stopped-reads
 
 returns : tie.Need-returns
+unfolding end-number
 returns c =
     record { makes = λ before. makes-turn-full _ _ _ _ _ _ _ _ (c .before .if1 .taken) (stops (c .stopped .ensures) _ _ _ _ _ _ refl refl) }
 

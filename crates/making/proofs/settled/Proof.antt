@@ -2,6 +2,7 @@
 -- Read first: specs/Made (SettledTurn), proofs/Parts.
 use native.Mathlib.Omega.{arith}
 use mathlib.Core.Path.{refl}
+use Rattle.rewriting.specs.Rewrite.{end-number}
 use Rattle.making.proofs.Keeping.{stays, stops}
 use Rattle.making.proofs.Parts.{settled-full, settled-done, one-behind}
 use borrow.Author.Needs.{needs}
@@ -14,6 +15,7 @@ use Rattle.engine.proofs.State.with_entry.Reads as with-entry-reads
 use Rattle.making.proofs.stopped.Reads as stopped-reads
 
 returns : tie.Need-returns
+unfolding end-number
 returns c =
     record { settles = λ rules fine. settled-full _ _ _ _ (c .before .if1 .taken) (stops (c .stopped .ensures) _ _ _ _ _ _ refl refl) }
 

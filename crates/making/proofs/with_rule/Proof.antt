@@ -3,6 +3,7 @@
 use lib.ListN.{length}
 use mathlib.Core.Path.{_≡_, refl}
 use native.Mathlib.Omega.{arith}
+use Rattle.rewriting.specs.Rewrite.{end-number}
 use Rattle.making.proofs.Keeping.{stops}
 use Rattle.making.proofs.Copying.{copied, copied-fine, collapsed-copy}
 use Rattle.making.proofs.Parts.{rule-full, rule-finished}
@@ -26,6 +27,7 @@ collapse-requires c κs =
     ((G .rules-fit, F .waiting-fit, c .before .before .before .before .before .before .before .before .before .before .before .before .before .before .pre .1), (F .live, F .together, room, F .waiting-room))
 
 returns : tie.Need-returns
+unfolding end-number
 returns c =
     let F = c .before .before .before .before .before .before .before .before .before .before .before .before .before .before .before .before .before .before .before .before .before .pre .0 .0 in
     let room : length (c .before .before .before .before .before .before .before .before .before .before .paste .last .0) ≡ 7920 = search needs in
