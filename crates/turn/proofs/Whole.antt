@@ -7,10 +7,12 @@ use native.Mathlib.Omega.{arith}
 use lib.ListN.{length, getD, take, List·getD-map}
 use lib.Seq.{length-take-le, take-at, take-take, getD-take}
 use Rattle.terms.proofs.Lists.{nothing}
+use Rattle.terms.proofs.Shape.{zero≢one}
 use Rattle.terms.specs.Term.{Pair}
 use Rattle.problem.specs.Problem.{Problem}
 use Rattle.rewriting.specs.Overlap.{Rule, all-places}
-use Rattle.rewriting.specs.Rewrite.{spent, Paid, done, stop}
+use Rattle.rewriting.specs.Rewrite.{complete, spent, end-number, goes-on, Paid, done, stop}
+use Rattle.rewriting.proofs.Holds.{goes-on≢end}
 use Rattle.normaliser.specs.Stored.{Sides, Stored}
 use Rattle.matching.proofs.Replacing.{take-less-zero}
 use Rattle.store.proofs.Listing.{stored-first}
@@ -25,9 +27,8 @@ use Rattle.engine.specs.Steps.{TakenState}
 use Rattle.scan.specs.Walk.{SlotWalk, Scanned}
 use Rattle.scan.specs.Walk as walk
 use Rattle.scan.specs.declared.Walk.{Walk}
-use Rattle.making.specs.Made.{Outcome, Stops, stop-code, without-taken, TurnWith, SettledTurn, MakesTurn}
+use Rattle.making.specs.Made.{Outcome, Stops, without-taken, TurnWith, SettledTurn, MakesTurn}
 use Rattle.turn.specs.Turns.{Shown, TurnedIs, Buffers, WaitingTurn, Given, ScanTurn, WholeTurn}
-use Rattle.making.proofs.Verdicts.{not-neither}
 use Rattle.making.proofs.Keeping.{held-of}
 use Rattle.making.proofs.Parts.{stop-safe}
 use Rattle.turn.proofs.Taking.{waiting-settles, waiting-differs, waiting-stops, scan-found, scan-stops}
@@ -108,7 +109,7 @@ module _ (st : Whole) (tab L R L′ R′ origin : List ℕ) (u : ℕ) (w : Walk)
       W .answer (s .rules) (Re .rules) (Re .count) (O .first .origin) (O .first .sides) (from ∙ oldest-origin tab st s (O .first) (O .later) Re (O .is))
       (stored-first tab (st .waiting) (st .lengths) 0 (O .first .sides) _ (subst (λ (x : List Candidate). Stored tab (st .waiting) (st .lengths) 0 (map (λ c. c .sides) x)) (O .is) (Re .waiting)))
 
-  pub waiting-settled : w .verdict ≡ 3 → (o : Outcome) → SettledTurn st origin (w .units) o → WaitingTurn st tab L R L′ R′ u o
+  pub waiting-settled : w .verdict ≡ end-number complete → (o : Outcome) → SettledTurn st origin (w .units) o → WaitingTurn st tab L R L′ R′ u o
   waiting-settled v o X =
       record {
         safe = X .safe;
@@ -122,7 +123,7 @@ module _ (st : Whole) (tab L R L′ R′ origin : List ℕ) (u : ℕ) (w : Walk)
             (from ∙ oldest-origin tab st s (O .first) (O .later) Re (O .is)) (S .taken) (S .equal));
       }
 
-  pub waiting-stopped : (w .verdict ≡ 3 → ⊥) → (w .verdict ≡ 0 → ⊥) → (o : Outcome) → Stops st (w .verdict) (w .units) 0 0 o → WaitingTurn st tab L R L′ R′ u o
+  pub waiting-stopped : (w .verdict ≡ end-number complete → ⊥) → (w .verdict ≡ goes-on → ⊥) → (o : Outcome) → Stops st (w .verdict) (w .units) 0 0 o → WaitingTurn st tab L R L′ R′ u o
   waiting-stopped a b o y =
       record {
         safe = stop-safe st _ _ _ _ _ o b y (omega arith) (omega arith);
@@ -133,7 +134,7 @@ module _ (st : Whole) (tab L R L′ R′ origin : List ℕ) (u : ℕ) (w : Walk)
             waiting-stops tab L′ R′ P s (O .first) (O .later) (O .is) u w (walked s Re O) b a st Re 0 0 o y;
       }
 
-  pub waiting-made : w .verdict ≡ 0 → (rest : Whole) → TakenState st rest → (left right : List ℕ) → left ≡ take (w .m - 0) L′ → right ≡ take (w .n - 0) R′ → 120 ≤ length L → 120 ≤ length R →
+  pub waiting-made : w .verdict ≡ goes-on → (rest : Whole) → TakenState st rest → (left right : List ℕ) → left ≡ take (w .m - 0) L′ → right ≡ take (w .n - 0) R′ → 120 ≤ length L → 120 ≤ length R →
       (o : Outcome) → MakesTurn st rest tab left right origin (w .units) o → WaitingTurn st tab L R L′ R′ u o
   waiting-made v rest K left right lm rn long-left long-right o X =
       record {
@@ -164,7 +165,7 @@ module _ (st : Whole) (tab inputs sizes : List ℕ) (number : ℕ) (L R L′ R�
       W .answer (s .rules) (record { stored = Re .rules; counted = Re .count; numbered = numbered-by (st .count) (st .numbers) (s .rules) (Re .numbers) }) (P .equations)
       (subst (Stored tab inputs sizes 0) (candidates-sides scanned-input 1 (P .equations)) (G .stored)) (G .counted)
 
-  pub scan-stopped : (w .verdict ≡ 0 → ⊥) → (o : Outcome) → Stops st (w .verdict) (w .units) 0 0 o → ScanTurn st tab inputs sizes number L R L′ R′ u o
+  pub scan-stopped : (w .verdict ≡ goes-on → ⊥) → (o : Outcome) → Stops st (w .verdict) (w .units) 0 0 o → ScanTurn st tab inputs sizes number L R L′ R′ u o
   scan-stopped v o y =
       record {
         safe = stop-safe st _ _ _ _ _ o v y (omega arith) (omega arith);
@@ -173,7 +174,7 @@ module _ (st : Whole) (tab inputs sizes : List ℕ) (number : ℕ) (L R L′ R�
         answer = λ P G s Re. scan-stops tab L′ R′ P s (idle s Re) u w _ refl (finds P G s Re) v st Re 0 0 o y;
       }
 
-  pub scan-made : w .verdict ≡ 0 → (left right : List ℕ) → left ≡ take (w .m - 0) L′ → right ≡ take (w .n - 0) R′ → 120 ≤ length L → 120 ≤ length R → (o : Outcome) →
+  pub scan-made : w .verdict ≡ goes-on → (left right : List ℕ) → left ≡ take (w .m - 0) L′ → right ≡ take (w .n - 0) R′ → 120 ≤ length L → 120 ≤ length R → (o : Outcome) →
       MakesTurn st st tab left right (w .origin) (w .units) o → ScanTurn st tab inputs sizes number L R L′ R′ u o
   scan-made v left right lm rn long-left long-right o X =
       record {
@@ -191,16 +192,15 @@ module _ (st : Whole) (tab inputs sizes : List ℕ) (number : ℕ) (L R L′ R�
       }
 
 -- `turn`
-pub whole-unpaid : (st : Whole) (tab inputs sizes : List ℕ) (number : ℕ) (L R : List ℕ) (o : Outcome) → st .units ≡ 0 → Stops st 1 0 0 0 o → WholeTurn st tab inputs sizes number L R L R o
-unfolding stop-code
+pub whole-unpaid : (st : Whole) (tab inputs sizes : List ℕ) (number : ℕ) (L R : List ℕ) (o : Outcome) → st .units ≡ 0 → Stops st (end-number spent) 0 0 0 o → WholeTurn st tab inputs sizes number L R L R o
 whole-unpaid st tab inputs sizes number L R o z y =
     record {
-      safe = stop-safe st 1 _ _ _ _ o (λ e. absurd (omega arith)) y (omega arith) (omega arith);
+      safe = stop-safe st _ _ _ _ _ o (λ e. goes-on≢end spent (sym e)) y (omega arith) (omega arith);
       stays = λ _. y .kept;
       buffers = record { left-kept = refl; right-kept = refl };
       answer = λ P G s Re.
           subst (TurnedIs tab s L R o) (sym (ap (turn P s) z ∙ turn-unpaid P s))
-          (y .verdict-is, y .units-are, held-of Re (y .kept), λ g q. absurd (not-neither spent (omega arith) g q));
+          (y .verdict-is, y .units-are, held-of Re (y .kept), λ g q. absurd (zero≢one (cc)));
     }
 
 module _ (st : Whole) (tab inputs sizes : List ℕ) (number : ℕ) (L R L′ R′ : List ℕ) (o : Outcome) (u : ℕ) (e : suc u ≡ st .units) where

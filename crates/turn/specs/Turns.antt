@@ -6,7 +6,7 @@ use lib.ListN.{length, take}
 use Rattle.terms.specs.Term.{Pair, renamed}
 use Rattle.order.specs.Walk.{rank}
 use Rattle.problem.specs.Problem.{rank-of, Problem}
-use Rattle.rewriting.specs.Rewrite.{Paid}
+use Rattle.rewriting.specs.Rewrite.{Paid, goes-on}
 use Rattle.normaliser.specs.Stored.{Sides, Stored}
 use Rattle.completion.specs.Turn.{State as RunState, turn}
 use Rattle.engine.specs.State.{Whole, Represents}
@@ -27,7 +27,7 @@ pub record Buffers (L R L′ R′ : List ℕ) : Type 0 where
 -- `turn_waiting`
 pub record WaitingTurn (st : Whole) (tab L R L′ R′ : List ℕ) (u : ℕ) (o : Outcome) : Type 0 where
   pub safe : Safe (st .entries) o
-  pub stays : (o .verdict ≡ 0 → ⊥) → Kept st (o .state)
+  pub stays : (o .verdict ≡ goes-on → ⊥) → Kept st (o .state)
   pub buffers : Buffers L R L′ R′
   pub answer : (P : Problem) → rank-of (P .symbols) ≡ rank tab → (s : RunState) → Represents tab st s → TurnedIs tab s L′ R′ o (turn P s (suc u))
 
@@ -40,12 +40,12 @@ pub record Given (tab inputs lens : List ℕ) (count : ℕ) (P : Problem) : Type
 -- `turn_scan`, where nothing waits, and `turn`
 pub record ScanTurn (st : Whole) (tab inputs lens : List ℕ) (count : ℕ) (L R L′ R′ : List ℕ) (u : ℕ) (o : Outcome) : Type 0 where
   pub safe : Safe (st .entries) o
-  pub stays : (o .verdict ≡ 0 → ⊥) → Kept st (o .state)
+  pub stays : (o .verdict ≡ goes-on → ⊥) → Kept st (o .state)
   pub buffers : Buffers L R L′ R′
   pub answer : (P : Problem) → Given tab inputs lens count P → (s : RunState) → Represents tab st s → TurnedIs tab s L′ R′ o (turn P s (suc u))
 
 pub record WholeTurn (st : Whole) (tab inputs lens : List ℕ) (count : ℕ) (L R L′ R′ : List ℕ) (o : Outcome) : Type 0 where
   pub safe : Safe (st .entries) o
-  pub stays : (o .verdict ≡ 0 → ⊥) → Kept st (o .state)
+  pub stays : (o .verdict ≡ goes-on → ⊥) → Kept st (o .state)
   pub buffers : Buffers L R L′ R′
   pub answer : (P : Problem) → Given tab inputs lens count P → (s : RunState) → Represents tab st s → TurnedIs tab s L′ R′ o (turn P s (st .units))

@@ -68,10 +68,10 @@ fn turn_waiting(
 {
     let origin = oldest(st);
     let w = walk_oldest(st, rules, waiting, table, origin, left, right, units);
-    if w.verdict == 3 {
+    if w.verdict == rewriting::COMPLETE {
         return making::settled(st, waiting, log, origin, w.units);
     }
-    if w.verdict != 0 {
+    if w.verdict != rewriting::GOES_ON {
         return making::stopped(st, w.verdict, w.units, 0, 0);
     }
     let m = w.m;
@@ -146,7 +146,7 @@ fn turn_scan(
     ensures { λ r. ⌜ ScanTurn (whole st (now (rules .entry)) (now (waiting .entry)) (now (log .entry))) (now (table .entry)) (now (inputs .entry)) (now (sizes .entry)) number (now (left .entry)) (now (right .entry)) (now (left .exit)) (now (right .exit)) units (outcome r (now (rules .exit)) (now (waiting .exit)) (now (log .exit))) ⌝ }
 {
     let w = walk_scan(st, rules, table, inputs, sizes, number, left, right, units);
-    if w.verdict != 0 {
+    if w.verdict != rewriting::GOES_ON {
         return making::stopped(st, w.verdict, w.units, 0, 0);
     }
     let m = w.m;
@@ -185,7 +185,7 @@ pub fn turn(
     ensures { λ r. ⌜ WholeTurn (whole st (now (rules .entry)) (now (waiting .entry)) (now (log .entry))) (now (table .entry)) (now (inputs .entry)) (now (sizes .entry)) number (now (left .entry)) (now (right .entry)) (now (left .exit)) (now (right .exit)) (outcome r (now (rules .exit)) (now (waiting .exit)) (now (log .exit))) ⌝ }
 {
     if st.units == 0 {
-        return making::stopped(st, 1, 0, 0, 0);
+        return making::stopped(st, rewriting::SPENT, 0, 0, 0);
     }
     let units = st.units - 1;
     if st.waits > 0 {

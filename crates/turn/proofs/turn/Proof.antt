@@ -2,6 +2,7 @@
 -- Read first: specs/Turns (WholeTurn), proofs/Whole.
 use native.Mathlib.Omega.{arith}
 use mathlib.Core.Path.{refl}
+use Rattle.rewriting.specs.Rewrite.{end-number}
 use Rattle.making.proofs.Keeping.{stops}
 use Rattle.turn.proofs.Whole.{whole-unpaid, whole-waiting, whole-scan}
 use borrow.Author.Needs.{needs}
@@ -14,6 +15,7 @@ use Rattle.turn.proofs.turn_scan.Reads as turn-scan-reads
 use Rattle.turn.proofs.turn_waiting.Reads as turn-waiting-reads
 
 returns : tie.Need-returns
+unfolding end-number
 returns c =
     whole-unpaid _ _ _ _ _ _ _ _ (c .before .if1 .taken) (stops (c .stopped .ensures) _ _ _ _ _ _ refl refl)
 

@@ -2,6 +2,7 @@
 -- Read first: specs/Turns (WaitingTurn), scan/specs/Walk (SlotWalk), proofs/Whole.
 use mathlib.Core.Path.{refl}
 use native.Mathlib.Omega.{arith}
+use Rattle.rewriting.specs.Rewrite.{end-number}
 use Rattle.making.proofs.Keeping.{stops}
 use Rattle.normaliser.proofs.Choosing.{layout-front}
 use Rattle.turn.proofs.Whole.{waiting-settled, waiting-stopped, waiting-made}
@@ -26,10 +27,12 @@ settled-requires c κs =
     (c .before .before .before .before .before .before .before .before .before .before .before .before .before .before .before .before .before .before .before .before .pre .0 .1, c .before .before .before .before .before .before .before .before .before .before .before .before .before .before .before .before .before .before .before .before .pre .0 .0 .waiting-room, c .before .before .before .before .before .before .before .before .before .before .before .before .before .before .before .before .before .before .before .before .pre .0 .0 .log-room)
 
 returns : tie.Need-returns
+unfolding end-number
 returns c =
     waiting-settled _ _ _ _ _ _ _ _ _ (c .before .before .before .before .before .before .before .before .before .before .before .before .before .before .before .before .before .before .before .before .before .before .before .before .before .pre .0 .1) (c .before .before .before .before .before .before .before .before .before .before .before .before .before .before .before .before .before .before .oldest .ensures) (c .before .before .before .before .before .before .before .before .before .before .before .before .before .walk-oldest .ensures) (c .before .before .before .before .before .before .before .if1 .taken) _ (c .before .before .before .before .settled .ensures .settles _ (c .before .before .before .before .before .before .before .before .before .before .before .before .before .before .before .before .before .before .before .before .before .before .before .before .before .pre .0 .0))
 
 returns-2 : tie.Need-returns-2
+unfolding end-number
 returns-2 c =
     waiting-stopped _ _ _ _ _ _ _ _ _ (c .before .before .before .before .before .before .before .before .before .before .before .before .before .before .before .before .before .before .before .before .before .pre .0 .1) (c .before .before .before .before .before .before .before .before .before .before .before .before .before .before .oldest .ensures) (c .before .before .before .before .before .before .before .before .before .walk-oldest .ensures) (c .before .before .before .if1 .left) (c .before .if2 .taken) _ (stops (c .stopped .ensures) _ _ _ _ _ _ refl refl)
 
