@@ -6,7 +6,8 @@ use Prim.Native.Nat.{ℕ, _+_, _-_, _≤_}
 use native.Mathlib.Omega.{arith}
 use Rattle.problem.specs.Problem.{Problem}
 use Rattle.normaliser.specs.Stored.{Layout}
-use Rattle.rewriting.specs.Rewrite.{Paid, done, stop}
+use Rattle.rewriting.specs.Rewrite.{Paid, done, stop, goes-on}
+use Rattle.rewriting.proofs.Holds.{goes-on≢end}
 use Rattle.completion.specs.Turn.{State as RunState, Finished, turn, run}
 use Rattle.completion.proofs.Turning.{Running, run-begins, run-goes-on, run-ends}
 use Rattle.completion.proofs.Reachable.{turn-less}
@@ -18,7 +19,6 @@ use Rattle.turn.specs.Turns.{Given, Shown, TurnedIs, WholeTurn}
 use Rattle.run.specs.Runs.{Ends, with-units, RanIs, Runs}
 use Rattle.making.specs.declared.Turned.{Turned}
 use Rattle.run.specs.declared.Ran.{Ran}
-use Rattle.making.proofs.Verdicts.{stop-positive}
 
 -- other units
 abbrev pub paying : Whole → ℕ → Whole
@@ -73,13 +73,13 @@ going-begins tab inputs lens count budget st B P G e =
     }
 
 module _ (tab L R : List ℕ) (P : Problem) (st : Whole) (W : OnTheWay tab P st) where
-  goes-on : (t : Outcome) (p : Paid RunState) → turn P (W .state) (st .units) ≡ p → TurnedIs tab (W .state) L R t p → t .verdict ≡ 0 → OnTheWay tab P (paying (t .state) (t .units))
-  goes-on t (done s′ left) e a v =
+  next-turn : (t : Outcome) (p : Paid RunState) → turn P (W .state) (st .units) ≡ p → TurnedIs tab (W .state) L R t p → t .verdict ≡ goes-on → OnTheWay tab P (paying (t .state) (t .units))
+  next-turn t (done s′ left) e a v =
       let r : Running P (run P) s′ left = run-goes-on P (run P) (W .state) (st .units) (W .running) s′ left e (turn-less P (W .state) s′ (st .units) left e) in
       record { state = s′; stands = units-represent tab (t .state) (t .units) s′ (a .2); running = subst (Running P (run P) s′) (sym (a .1)) r }
-  goes-on t (stop f left) e a v = absurd (stop-positive f (sym (a .0) ∙ v))
+  next-turn t (stop f left) e a v = absurd (goes-on≢end f (sym v ∙ a .0))
 
-  ends : (t : Turned) (rules waiting log : List ℕ) (p : Paid RunState) → turn P (W .state) (st .units) ≡ p → TurnedIs tab (W .state) L R (outcome t rules waiting log) p → (t .verdict ≡ 0 → ⊥) →
+  ends : (t : Turned) (rules waiting log : List ℕ) (p : Paid RunState) → turn P (W .state) (st .units) ≡ p → TurnedIs tab (W .state) L R (outcome t rules waiting log) p → (t .verdict ≡ goes-on → ⊥) →
       (o : Ran) → Ends t (P .budget) L R o → RanIs tab (run P) o (whole (t .state) rules waiting log)
   ends t rules waiting log (done s′ left) e a v o E = absurd (v (a .0))
   ends t rules waiting log (stop f left) e a v o E =
@@ -107,19 +107,19 @@ pub looping-next : (tab inputs lens : List ℕ) (count budget : ℕ) (r : State)
 looping-next tab inputs lens count budget r t rules waiting log e I = subst (λ x. Looping tab inputs lens count budget (whole x rules waiting log)) (sym e) I
 
 module _ (tab inputs lens : List ℕ) (count budget : ℕ) (st : Whole) (I : Looping tab inputs lens count budget st) (L R L′ R′ : List ℕ) (t : Outcome) (T : WholeTurn st tab inputs lens count L R L′ R′ t) where
-  pub loops-on : t .verdict ≡ 0 → Looping tab inputs lens count budget (paying (t .state) (t .units))
+  pub loops-on : t .verdict ≡ goes-on → Looping tab inputs lens count budget (paying (t .state) (t .units))
   loops-on v =
       record {
         fine = units-fine (t .state) (t .units) (T .safe .fine v);
-        going = λ P G b. let W = I .going P G b in goes-on tab L′ R′ P st W t (turn P (W .state) (st .units)) refl (T .answer P G (W .state) (W .stands)) v;
+        going = λ P G b. let W = I .going P G b in next-turn tab L′ R′ P st W t (turn P (W .state) (st .units)) refl (T .answer P G (W .state) (W .stands)) v;
       }
 
-  pub loop-grows : t .verdict ≡ 0 → (t .state .entries ≡ st .entries + 1) × (t .state .entries ≤ 512)
+  pub loop-grows : t .verdict ≡ goes-on → (t .state .entries ≡ st .entries + 1) × (t .state .entries ≤ 512)
   loop-grows v = (T .safe .grows v, T .safe .fine v .log-few)
 
 -- `run`
 pub run-ended : (tab inputs lens : List ℕ) (count budget : ℕ) (st : Whole) → Looping tab inputs lens count budget st → (L R L′ R′ : List ℕ) (t : Turned) (rules waiting log : List ℕ) →
-    WholeTurn st tab inputs lens count L R L′ R′ (outcome t rules waiting log) → (t .verdict ≡ 0 → ⊥) → (o : Ran) → Ends t budget L′ R′ o → Runs tab inputs lens count budget o (whole (o .state) rules waiting log)
+    WholeTurn st tab inputs lens count L R L′ R′ (outcome t rules waiting log) → (t .verdict ≡ goes-on → ⊥) → (o : Ran) → Ends t budget L′ R′ o → Runs tab inputs lens count budget o (whole (o .state) rules waiting log)
 run-ended tab inputs lens count budget st I L R L′ R′ t rules waiting log T v o E =
     let K = T .stays v in
     let fit : Layout [] rules (t .state .lens) (st .count) = subst₂ (λ b l. Layout [] b l (st .count)) (sym (K .rules)) (sym (K .lens)) (I .fine .rules-fit) in

@@ -4,12 +4,11 @@ use mathlib.Core.List.{List, []}
 use Prim.Native.Nat.{ℕ, _-_, _≤_}
 use Rattle.terms.specs.Term.{Pair}
 use Rattle.problem.specs.Problem.{Problem}
-use Rattle.rewriting.specs.Rewrite.{neither-above}
+use Rattle.rewriting.specs.Rewrite.{neither-above, end-number}
 use Rattle.normaliser.specs.Stored.{Layout}
 use Rattle.completion.specs.Turn.{Finished, run}
 use Rattle.engine.specs.State.{Whole, Held}
 use Rattle.engine.specs.declared.State.{State}
-use Rattle.making.specs.Made.{stop-code}
 use Rattle.making.specs.declared.Turned.{Turned}
 use Rattle.turn.specs.Turns.{Shown, Given}
 use Rattle.run.specs.declared.Ran.{Ran}
@@ -41,7 +40,7 @@ pub record Ends (t : Turned) (budget : ℕ) (left right : List ℕ) (o : Ran) : 
 -- `run`: the rules and the log of the last state, the end, the units paid, and with 20 the two forms
 pub record RanIs (tab : List ℕ) (f : Finished) (o : Ran) (last : Whole) : Type 0 where
   pub state : Held tab last (f .state)
-  pub end : o .verdict ≡ stop-code (f .end)
+  pub end : o .verdict ≡ end-number (f .end)
   pub paid : o .paid ≡ f .units
   pub forms : (g : Pair) → f .end ≡ neither-above g → Shown tab (o .left) (o .right) (o .m) (o .n) g
 

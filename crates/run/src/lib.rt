@@ -8,7 +8,7 @@ ghost use Rattle.run.specs.Runs.{with-units, Ends, Runs};
 use engine::State;
 use making::Turned;
 
-// Verdict as of `Turned`, never 0; the units paid; with 6 the two forms, m and n bytes long.
+// The verdict of the turn that stopped, never GOES_ON; the units paid; with NEITHER_ABOVE the two forms, m and n bytes long.
 pub struct Ran {
     pub state: State,
     pub verdict: u8,
@@ -85,7 +85,7 @@ pub fn run(
             &mut left,
             &mut right,
         );
-        if t.verdict != 0 {
+        if t.verdict != rewriting::GOES_ON {
             return ended(t, budget, left, right);
         }
         st = next(t);
