@@ -138,7 +138,7 @@ fn put_forms_if(out: &mut [u8], at: usize, end: u8, left: &[u8], right: &[u8]) -
     requires { ⌜ (at + 243 ≤ length (now out)) × (length (now left) ≤ 120) × (length (now right) ≤ 120) ⌝ }
     ensures { λ r. ⌜ PutsSome 243 (now (out .entry)) at 1 (forms-bytes end (now (left .entry)) (now (right .entry))) (now (out .exit)) r ⌝ }
 {
-    if end != 20 {
+    if end != rewriting::NEITHER_ABOVE {
         return at;
     }
     if !low(left) {
