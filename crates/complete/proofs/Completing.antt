@@ -1,4 +1,4 @@
--- The call complete from the promises of its parts: numbers of ends, the run's result, an accepted problem, and the three answers. Assumes nothing.
+-- The call complete from the promises of its parts: the run's result, an accepted problem, and the three answers. Assumes nothing.
 -- Read first: specs/Answer, completion/specs/Calls (complete-call, after-complete), run/specs/Runs (Runs, RanIs), proofs/Delivering.
 use mathlib.Core.Path.{_≡_, refl, sym, ap, _∙_}
 use mathlib.Core.List.{List}
@@ -6,11 +6,9 @@ use Prim.Native.Nat.{ℕ, _-_, _<_, _≤_}
 use native.Mathlib.Omega.{arith}
 use lib.ListN.{length, take, drop}
 use borrow.Author.Tests.{lt-ltb}
-use Rattle.terms.specs.Base.{if_then_else_}
 use Rattle.matching.proofs.Replacing.{take-less-zero}
 use Rattle.problem.specs.Problem.{Reading, ok, refused, _>>=_, refuse-if, rank-of, Problem, parse}
 use Rattle.problem.specs.Parser.{ParsedAt}
-use Rattle.rewriting.specs.Rewrite.{End, complete, neither-above, spent, too-large, rules-full, log-full, end-number}
 use Rattle.completion.specs.Turn.{run}
 use Rattle.completion.specs.Calls.{result-bytes, enough, complete-call, after-complete}
 use Rattle.report.specs.Fields.{Writes}
@@ -21,32 +19,21 @@ use Rattle.completion.proofs.Writing.{complete-is}
 use Rattle.inputs.specs.Inputs.{Filled}
 use Rattle.inputs.proofs.Fields.{parsed-few}
 use Rattle.engine.specs.State.{whole}
-use Rattle.making.specs.Made.{stop-code}
 use Rattle.turn.specs.Turns.{Given}
 use Rattle.run.specs.Runs.{Runs}
 use Rattle.run.specs.declared.Ran.{Ran}
-use Rattle.complete.specs.Answer.{told, counted, Delivery, end-of, WritesRun, WritesProblem}
+use Rattle.complete.specs.Answer.{told, counted, Delivery, WritesRun, WritesProblem}
 use Rattle.complete.specs.declared.Completed.{Completed}
 use Rattle.complete.specs.declared.Completed.the-variants.{Written, Refused}
 use Rattle.complete.proofs.Delivering.{delivery}
 
--- `end_number`
-end-law : (e : End) → end-of (stop-code e) ≡ end-number e
-unfolding stop-code end-number if_then_else_
-end-law complete = refl
-end-law (neither-above e) = refl
-end-law spent = refl
-end-law too-large = refl
-end-law rules-full = refl
-end-law log-full = refl
-
 -- `write`
-pub write-run : (o : Ran) (rules log : List ℕ) (end : ℕ) (left right before after : List ℕ) (r : ℕ) → end ≡ end-of (o .verdict) → left ≡ take (o .m - 0) (o .left) → right ≡ take (o .n - 0) (o .right) →
-    OfState (o .state) rules log end (o .paid) left right before after r → WritesRun o rules log before after r
-write-run o rules log end left right before after r E ql qr W tab waiting f I =
+pub write-run : (o : Ran) (rules log left right before after : List ℕ) (r : ℕ) → left ≡ take (o .m - 0) (o .left) → right ≡ take (o .n - 0) (o .right) →
+    OfState (o .state) rules log (o .verdict) (o .paid) left right before after r → WritesRun o rules log before after r
+write-run o rules log left right before after r ql qr W tab waiting f I =
     W tab waiting f (I .state)
     (record {
-      end-is = E ∙ ap end-of (I .end) ∙ end-law (f .end);
+      end-is = I .end;
       units-are = I .paid;
       forms = λ e q.
           let S = I .forms e q in

@@ -13,8 +13,7 @@ use Rattle.normaliser.specs.Stored.{Stored}
 use Rattle.completion.specs.Turn.{waiting-input, candidates, initial, scan-inputs, scan, take-pair, turn, run}
 use Rattle.completion.specs.Calls.{entry-field, result-bytes}
 use Rattle.completion.proofs.Turning.{turn-unpaid, turn-stops, run-begins, run-ends}
-use Rattle.making.specs.Made.{stop-code}
-use Rattle.making.proofs.Verdicts.{not-neither}
+use Rattle.terms.proofs.Shape.{zero≢one}
 use Rattle.terms.proofs.Lists.{nothing}
 use Rattle.report.specs.Fields.{Writes}
 use Rattle.report.specs.Report.{Reports}
@@ -53,16 +52,16 @@ module _ (P : Problem) (none : P .equations ≡ []) where
 
 module _ (before after : List ℕ) (r : ℕ) where
   pub empty-unpaid : (b : ℕ) → b ≡ 0 → WritesNothing 21 0 before after r → WritesEmpty b before after r
-  unfolding initial end-number stop-code
+  unfolding initial end-number
   empty-unpaid b z W P none q =
       subst (λ f. Writes before (result-bytes f) after r) (sym (unpaid P (q ∙ z)))
-      (W _ refl refl refl refl (λ e k. not-neither spent (omega arith) e k))
+      (W _ refl refl refl refl (λ e k. zero≢one (cc)))
 
   pub empty-completed : (b : ℕ) → (b ≡ 0 → ⊥) → WritesNothing 0 1 before after r → WritesEmpty b before after r
-  unfolding initial end-number stop-code
+  unfolding initial end-number
   empty-completed b z W P none q =
       subst (λ f. Writes before (result-bytes f) after r) (sym (completed P none (b - 1) (omega arith)))
-      (W _ refl refl refl refl (λ e k. not-neither complete (omega arith) e k))
+      (W _ refl refl refl refl (λ e k. zero≢one (cc)))
 
 -- `accepted`
 pub accepted-empty : (l : List ℕ) (e b n : ℕ) (before after : List ℕ) (r : ℕ) → n ≡ 0 → WritesEmpty b before after r → WritesProblem l e b n before after r

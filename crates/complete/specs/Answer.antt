@@ -2,9 +2,7 @@
 use mathlib.Core.Path.{_≡_}
 use mathlib.Core.List.{List, []}
 use Prim.Native.Nat.{ℕ}
-use lib.Dec.{eqb}
 use lib.ListN.{length, take}
-use Rattle.terms.specs.Base.{if_then_else_}
 use Rattle.terms.specs.Term.{Pair}
 use Rattle.problem.specs.Problem.{Reading, ok, refused, Problem}
 use Rattle.problem.specs.Parser.{ParsedAt}
@@ -32,10 +30,6 @@ counted (refused number place) = refused number place
 unfoldable pub Delivery : List ℕ → List ℕ → Completed → Type 0
 Delivery problem result (Written count) = Delivers problem (take count result)
 Delivery problem result (Refused number place) = Unit {0}
-
--- `end_number`: the end's number, for the verdict of a run
-abbrev pub end-of : ℕ → ℕ
-end-of verdict = if eqb verdict 3 then 0 else if eqb verdict 6 then 20 else if eqb verdict 1 then 21 else if eqb verdict 2 then 22 else 23
 
 -- `write`
 abbrev pub WritesRun : Ran → List ℕ → List ℕ → List ℕ → List ℕ → ℕ → Type 0

@@ -5,32 +5,13 @@ ghost use Prim.Native.Nat.{_≤_};
 ghost use lib.ListN.{length};
 ghost use Rattle.completion.specs.Calls.{complete-call, after-complete};
 ghost use Rattle.normaliser.specs.Stored.{Layout};
-ghost use Rattle.complete.specs.Answer.{told, counted, Delivery, end-of, WritesRun, WritesNothing, WritesEmpty, WritesProblem};
+ghost use Rattle.complete.specs.Answer.{told, counted, Delivery, WritesRun, WritesNothing, WritesEmpty, WritesProblem};
 
 pub enum Completed {
     // The count of result bytes.
     Written(usize),
     // Refused, with the number and the place.
     Refused { number: u8, place: usize },
-}
-
-// The end's number in the result, for the verdict of a run.
-fn end_number(verdict: u8) -> u8
-    ensures { λ r. ⌜ r ≡ end-of verdict ⌝ }
-{
-    if verdict == 3 {
-        return 0;
-    }
-    if verdict == 6 {
-        return 20;
-    }
-    if verdict == 1 {
-        return 21;
-    }
-    if verdict == 2 {
-        return 22;
-    }
-    23
 }
 
 // The result of a run, whose rules and log lie in the lent buffers, at the front of the lent bytes: the count of its bytes.
@@ -43,13 +24,12 @@ fn write(ran: run::Ran, rules: &[u8], log: &[u8], result: &mut [u8]) -> usize
     let right = ran.right;
     let m = ran.m;
     let n = ran.n;
-    let end = end_number(ran.verdict);
     let state = ran.state;
     report::of_state(
         state,
         rules,
         log,
-        end,
+        ran.verdict,
         ran.paid,
         &left[0..m],
         &right[0..n],
@@ -85,9 +65,9 @@ fn write_empty(budget: usize, result: &mut [u8]) -> usize
     ensures { λ r. ⌜ WritesEmpty budget (now (result .entry)) (now (result .exit)) r ⌝ }
 {
     if budget == 0 {
-        return write_nothing(21, 0, result);
+        return write_nothing(rewriting::SPENT, 0, result);
     }
-    write_nothing(0, 1, result)
+    write_nothing(rewriting::COMPLETE, 1, result)
 }
 
 // An accepted problem, whose table ends at `behind`: its run, and the result's bytes. The bytes of the rules, of the waiting equations and of

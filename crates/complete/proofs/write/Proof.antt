@@ -9,42 +9,40 @@ use Rattle.complete.proofs.write.Statement.{statement}
 use Rattle.complete.proofs.write.Tie as tie
 use Rattle.complete.proofs.write.Reads as reads
 use Rattle.complete.proofs.write.Lts as lts
-use Rattle.complete.proofs.end_number.Reads as end-number-reads
 use Rattle.report.proofs.of_state.Reads as of-state-reads
 
 -- each bound from those of both forms
 part-of-state-end : tie.Need-part-of-state-end
 part-of-state-end c =
-    let l : length (c .before .before .before .before .before .before .before .before .args .ran .left) ≡ 120 = search needs in
-    let r : length (c .before .before .before .before .before .before .before .before .args .ran .right) ≡ 120 = search needs in
-    let p = c .before .before .before .before .before .before .before .before .pre .1 .0 in
-    let q = c .before .before .before .before .before .before .before .before .pre .1 .1 in
+    let l : length (c .before .before .before .before .before .before .before .args .ran .left) ≡ 120 = search needs in
+    let r : length (c .before .before .before .before .before .before .before .args .ran .right) ≡ 120 = search needs in
+    let p = c .before .before .before .before .before .before .before .pre .1 .0 in
+    let q = c .before .before .before .before .before .before .before .pre .1 .1 in
     omega arith
 
 part-of-state-end-2 : tie.Need-part-of-state-end-2
 part-of-state-end-2 c =
-    let l : length (c .before .before .before .before .before .before .before .before .before .before .args .ran .left) ≡ 120 = search needs in
-    let r : length (c .before .before .before .before .before .before .before .before .before .before .args .ran .right) ≡ 120 = search needs in
-    let p = c .before .before .before .before .before .before .before .before .before .before .pre .1 .0 in
-    let q = c .before .before .before .before .before .before .before .before .before .before .pre .1 .1 in
+    let l : length (c .before .before .before .before .before .before .before .before .before .args .ran .left) ≡ 120 = search needs in
+    let r : length (c .before .before .before .before .before .before .before .before .before .args .ran .right) ≡ 120 = search needs in
+    let p = c .before .before .before .before .before .before .before .before .before .pre .1 .0 in
+    let q = c .before .before .before .before .before .before .before .before .before .pre .1 .1 in
     omega arith
 
 of-state-requires : tie.Need-of-state-requires
 of-state-requires c κs =
-    let P = c .before .before .before .before .before .before .before .before .before .before .before .before .pre in
+    let P = c .before .before .before .before .before .before .before .before .before .before .before .pre in
     let p = P .1 .0 in
     let q = P .1 .1 in
     (P .1 .2, (P .0, (search needs, search needs)))
 
 returns : tie.Need-returns
 returns c =
-    write-run _ _ _ _ _ _ _ _ _ (c .before .before .before .before .before .before .before .before .before .end-number .ensures) refl refl (c .before .before .of-state .ensures)
+    write-run _ _ _ _ _ _ _ _ refl refl (c .before .before .of-state .ensures)
 
 pub write-spec : {M : Type 1} → statement M
 write-spec =
     tie.close
     (tie.spec
-    (λ c κs. search needs)
     (λ c. search needs)
     (λ c. search needs)
     part-of-state-end
