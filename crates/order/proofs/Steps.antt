@@ -8,7 +8,7 @@ use native.Mathlib.Omega.{arith}
 use lib.ListN.{length, getD, List·getD-eq-default}
 use borrow.Author.Tests.{lt-ltb, le-ltb, eq-eqb, ne-eqb}
 use Rattle.terms.specs.Base.{if_then_else_}
-use Rattle.terms.specs.Term.{Term, node, Terms, nil, cons, same}
+use Rattle.terms.specs.Term.{Term, node, Terms, nil, cons, size, same}
 use Rattle.terms.specs.Scan.{count, owes}
 use Rattle.terms.specs.Flat.{Starts, StartAll, IsSame}
 use Rattle.terms.proofs.Starts.{from, head-var, head-node, first, none-left, starts-some, IsEnd, ended}
@@ -107,6 +107,21 @@ module _ (tab s t : List ℕ) (n : ℕ) (r : Bool) (h : getD s 0 0 < 16) where
         q ss y (rw p a) d ∙ ap (some-reaches (rank tab) ss) f
         ∙ sym (ap₂ (above (rank tab)) e f ∙ fast-less tab (getD s 0 0) ss (getD t 0 0) ts l u)
 
+-- no argument left
+all-nil : (tab : List ℕ) (x : Term) → all-above (rank tab) x nil ≡ true
+unfolding all-above
+all-nil tab x = refl
+
+reach-nil : (r : ℕ → ℕ) (y : Term) → some-reaches r nil y ≡ false
+unfolding some-reaches
+reach-nil r y = refl
+
+-- with one argument left, no other is behind it
+only : (tab l : List ℕ) (n : ℕ) (xs : Terms) → StartAll tab l n xs → n ≡ 1 → (x : Term) × (xs ≡ cons x nil) × Starts tab l x
+only tab l n xs b h =
+    let (x, ys, e, f, g) = first tab l n xs b (λ z. omega arith) in
+    (x, e ∙ ap (cons x) (none-left tab (from l (size x)) (n - 1) ys (g (size x) refl) (omega arith)), f)
+
 -- `above_walk` returns
 walked-nil : (tab : List ℕ) (x y : Term) (ys : Terms) → walked tab x y nil ys ≡ false
 unfolding walked
@@ -141,6 +156,13 @@ module _ (tab s t a b : List ℕ) (n : ℕ) where
           o x y us ws i j (g d (ended tab a d v dd f)) (g′ e (ended tab b e w ee f′))
           ∙ sym (ap₂ (walked tab x y) c c′ ∙ step true m x y v w us ws f f′)
 
+      pub walk-equal-last : q ≡ true → n ≡ 1 → IsWalk tab s t a b n false
+      unfolding if_then_else_
+      walk-equal-last m o x y xs ys i j k l =
+          let (v, c, f) = only tab a n xs k o in
+          let (w, c′, f′) = only tab b n ys l o in
+          sym (ap₂ (walked tab x y) c c′ ∙ step true m x y v w nil nil f f′ ∙ walked-nil tab x y nil)
+
       module _ (m : q ≡ false) (r : Bool) (z : IsAbove tab a b r) where
         differ : (c : Bool) → r ≡ c → (x y v w : Term) (us ws : Terms) → Starts tab a v → Starts tab b w →
             walked tab x y (cons v us) (cons w ws) ≡ (if c then all-above (rank tab) x ws else some-reaches (rank tab) us y)
@@ -155,6 +177,13 @@ module _ (tab s t a b : List ℕ) (n : ℕ) where
             let (w, ws, c′, f′, g′) = first tab b n ys l h in
             q x ws i (g′ e (ended tab b e w ee f′)) ∙ sym (ap₂ (walked tab x y) c c′ ∙ differ true o x y v w us ws f f′)
 
+        pub walk-above-last : r ≡ true → n ≡ 1 → IsWalk tab s t a b n true
+        unfolding if_then_else_
+        walk-above-last o p x y xs ys i j k l =
+            let (v, c, f) = only tab a n xs k p in
+            let (w, c′, f′) = only tab b n ys l p in
+            sym (ap₂ (walked tab x y) c c′ ∙ differ true o x y v w nil nil f f′ ∙ all-nil tab x)
+
         pub walk-not-above : r ≡ false → (d : ℕ) → IsEnd tab a d → (p : Bool) → IsSome tab (from a d) (n - 1) t p → IsWalk tab s t a b n p
         unfolding if_then_else_
         walk-not-above o d dd p q x y xs ys i j k l =
@@ -162,11 +191,14 @@ module _ (tab s t a b : List ℕ) (n : ℕ) where
             let (w, ws, c′, f′, g′) = first tab b n ys l h in
             q us y (g d (ended tab a d v dd f)) j ∙ sym (ap₂ (walked tab x y) c c′ ∙ differ false o x y v w us ws f f′)
 
--- `above_some` returns
-reach-nil : (r : ℕ → ℕ) (y : Term) → some-reaches r nil y ≡ false
-unfolding some-reaches
-reach-nil r y = refl
+        pub walk-not-above-last : r ≡ false → n ≡ 1 → IsWalk tab s t a b n false
+        unfolding if_then_else_
+        walk-not-above-last o p x y xs ys i j k l =
+            let (v, c, f) = only tab a n xs k p in
+            let (w, c′, f′) = only tab b n ys l p in
+            sym (ap₂ (walked tab x y) c c′ ∙ differ false o x y v w nil nil f f′ ∙ reach-nil (rank tab) y)
 
+-- `above_some` returns
 reach-cons : (r : ℕ → ℕ) (x : Term) (ys : Terms) (y : Term) → some-reaches r (cons x ys) y ≡ (same x y || above r x y || some-reaches r ys y)
 unfolding some-reaches
 reach-cons r x ys y = refl
@@ -198,16 +230,17 @@ module _ (tab s t : List ℕ) (n : ℕ) where
           let (x, ys, e, f, g) = first tab s n xs b h in
           sym (ap (λ (l : Terms). some-reaches (rank tab) l y) e ∙ reach-2 x ys y f d ∙ rw v refl)
 
+      pub some-last : r ≡ false → n ≡ 1 → IsSome tab s n t false
+      some-last v o xs y b d =
+          let (x, e, f) = only tab s n xs b o in
+          sym (ap (λ (l : Terms). some-reaches (rank tab) l y) e ∙ reach-2 x nil y f d ∙ rw v (reach-nil (rank tab) y))
+
       pub some-next : r ≡ false → (e : ℕ) → IsEnd tab s e → (p : Bool) → IsSome tab (from s e) (n - 1) t p → IsSome tab s n t p
       some-next v i j p o xs y b d =
           let (x, ys, e, f, g) = first tab s n xs b h in
           sym (ap (λ (l : Terms). some-reaches (rank tab) l y) e ∙ reach-2 x ys y f d ∙ rw v (sym (o ys y (g i (ended tab s i x j f)) d)))
 
 -- `above_all` returns
-all-nil : (tab : List ℕ) (x : Term) → all-above (rank tab) x nil ≡ true
-unfolding all-above
-all-nil tab x = refl
-
 all-cons : (tab : List ℕ) (x y : Term) (us : Terms) → all-above (rank tab) x (cons y us) ≡ (above (rank tab) x y && all-above (rank tab) x us)
 unfolding all-above
 all-cons tab x y us = refl
@@ -223,6 +256,11 @@ module _ (tab s t : List ℕ) (n : ℕ) where
     module _ (r : Bool) (a : IsAbove tab s t r) where
       every : (x y : Term) (us : Terms) → Starts tab s x → Starts tab t y → all-above (rank tab) x (cons y us) ≡ (r && all-above (rank tab) x us)
       every x y us b f = all-cons tab x y us ∙ ap (λ (w : Bool). w && all-above (rank tab) x us) (sym (a x y b f))
+
+      pub all-last : r ≡ true → n ≡ 1 → IsAll tab s t n true
+      all-last k o x ys b d =
+          let (y, e, f) = only tab t n ys d o in
+          sym (ap (all-above (rank tab) x) e ∙ every x y nil b f ∙ rw k (all-nil tab x))
 
       pub all-next : r ≡ true → (e : ℕ) → IsEnd tab t e → (p : Bool) → IsAll tab s (from t e) (n - 1) p → IsAll tab s t n p
       all-next k i j p o x ys b d =
