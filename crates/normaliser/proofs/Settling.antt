@@ -24,14 +24,14 @@ use Rattle.matching.specs.Cells.{cells, cells-all, root-byte, cells-below}
 use Rattle.matching.proofs.Celled.{length-cells, cells-root, root-low, cell-size}
 use Rattle.normaliser.specs.Inside.{pay-for, normalise-in, normalise-all}
 use Rattle.normaliser.specs.Marks.{Marked, MarkedAll, leaf, visit, leave, no-more, ArgumentsNormal, open-cells}
-use Rattle.normaliser.specs.Stored.{Stored, Holds, HoldsAll, rewritten, Tested, Wrote, Rewritten, out, Left, EndsWith, EndsAll, Limit, Settled, SettledAll}
+use Rattle.normaliser.specs.Stored.{Stored, Holds, HoldsAll, rewritten, no-term, Tested, Wrote, Rewritten, out, Left, EndsWith, EndsAll, Limit, Settled, SettledAll}
 use Rattle.normaliser.specs.declared.Out.{Out}
 use Rattle.normaliser.proofs.Sequence.{at-root, iterate-normal, normalise-normal, normalise-var, normalise-node, normalise-nil}
 use Rattle.normaliser.proofs.Marking.{marked-length}
 use Rattle.normaliser.proofs.Parts.{back, head-of, from-take, back-length, back-take, ltb-less}
 
 -- `leave`
-pub leave-long : (c len units e : ℕ) (o : Out) → o ≡ out 3 units len 0 → e ≡ c / 256 → len < e → Left c len units o
+pub leave-long : (c len units e : ℕ) (o : Out) → o ≡ out no-term units len 0 → e ≡ c / 256 → len < e → Left c len units o
 leave-long c len units e o d k h = subst (λ z. Left c len units z) (sym d) (record {
   whole = refl;
   left-over = refl;
@@ -98,7 +98,7 @@ module _ (tab rules lens : List ℕ) (number : ℕ) where
   }
 
   module _ (t₀ : List ℕ) (len most units : ℕ) (t : List ℕ) (l u : ℕ) (i : Turning tab rules lens number t₀ len most units t l u) where
-    pub turn-empty : l ≡ 0 → (o : Out) → o ≡ out 3 u 0 0 → Settled tab rules lens number t₀ t len most units o
+    pub turn-empty : l ≡ 0 → (o : Out) → o ≡ out no-term u 0 0 → Settled tab rules lens number t₀ t len most units o
     turn-empty e o d = subst (λ o. Settled tab rules lens number t₀ t len most units o) (sym d) (record {
       bounds = record { same = i .same; ends = omega arith; small = omega arith; cost = let c = i .cost in omega arith };
       first = λ z. absurd (omega arith);

@@ -63,18 +63,18 @@ module _ (tab rules lens : List ℕ) (number : ℕ) (S z t₁ t₂ : List ℕ) (
 
   -- `reducible`
   module _ (no : units ≡ 0) where
-    step-go : (rs : List Rule) (x : Term) (q : Option Term) → step rs x ≡ q → EndsWith tab t₂ [] o (normalise-in rs (ltb 120) x 0) → eqb (o .verdict) 21 ≡ is-some q
+    step-go : (rs : List Rule) (x : Term) (q : Option Term) → step rs x ≡ q → EndsWith tab t₂ [] o (normalise-in rs (ltb 120) x 0) → eqb (o .verdict) (end-number spent) ≡ is-some q
     unfolding is-some pay-for end-number
     step-go rs x none e h =
         let g : EndsWith tab t₂ [] o (done x 0) = subst (λ p. EndsWith tab t₂ [] o p) (normalise-normal rs (ltb 120) x 0 e) h in
-        ap (λ v. eqb v 21) (g .0)
+        ap (λ v. eqb v (end-number spent)) (g .0)
     step-go rs x (some u) e h =
         let d : normalise-in rs (ltb 120) x 0 ≡ stop spent 0 =
         iterate-step (step rs) (λ v. ltb 120 (size v)) x 0 ∙ ap (λ q. pay-for (λ v. ltb 120 (size v)) (λ v n. normalise-in rs (ltb 120) v n) x q 0) e in
         let g : EndsWith tab t₂ [] o (stop spent 0) = subst (λ p. EndsWith tab t₂ [] o p) d h in
-        ap (λ v. eqb v 21) (g .0)
+        ap (λ v. eqb v (end-number spent)) (g .0)
 
-    pub reduces : Reducible tab rules lens number S (eqb (o .verdict) 21)
+    pub reduces : Reducible tab rules lens number S (eqb (o .verdict) (end-number spent))
     reduces = record {
       answer = λ rs st m x w b. step-go rs x (step rs x) refl (subst (λ k. EndsWith tab t₂ [] o (normalise-in rs (ltb 120) x k)) no (settled-term rs st m x w b));
     }

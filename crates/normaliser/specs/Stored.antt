@@ -87,10 +87,14 @@ pub record HoldsAll (tab : List ℕ) (rs : List Rule) (t : List ℕ) (len : ℕ)
 abbrev pub out : ℕ → ℕ → ℕ → ℕ → Out
 out verdict units len end = record { verdict = verdict; units = units; len = len; end = end }
 
--- `rewrite`: the verdict where a step was made; no end has it
+-- verdicts that are no end: a step was made; no term stands there
 abbrev pub rewritten : ℕ
 rewritten = 2
 
+abbrev pub no-term : ℕ
+no-term = 3
+
+-- `rewrite`
 abbrev pub Tested : List ℕ → List Rule → List ℕ → List ℕ → ℕ → Out → Term → Bool → Type 0
 Tested tab rs t post n o u true = (o .verdict ≡ end-number too-large) × (o .units ≡ n)
 Tested tab rs t post n o u false = (o .verdict ≡ rewritten) × (o .units ≡ n) × Holds tab rs t (o .len) u post

@@ -1,9 +1,9 @@
 -- Step 1 of a turn: what a pair's walk says of what the definition takes, for the oldest waiting equation and for the scan. Assumes nothing.
 -- Read first: completion/specs/Turn (take-pair), scan/specs/Walk (Walked, Finds), making/specs/Made (TakenBy), completion/proofs/Scanning.
-use mathlib.Core.Path.{_≡_, refl, sym, ap, _∙_, subst}
+use mathlib.Core.Path.{_≡_, sym, ap, _∙_, subst}
 use mathlib.Core.Bool.{true, false}
 use mathlib.Core.List.{List, [], _∷_}
-use Prim.Native.Nat.{ℕ, suc, _≤_}
+use Prim.Native.Nat.{ℕ, suc}
 use native.Mathlib.Omega.{arith}
 use Rattle.terms.specs.Term.{Pair, same}
 use Rattle.problem.specs.Problem.{Problem}

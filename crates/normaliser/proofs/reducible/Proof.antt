@@ -1,6 +1,7 @@
 -- `reducible`: settling with no unit stops where a step is due, by `reduces`. Assumes nothing.
 -- Read first: specs/Stored (Reducible), proofs/Whole.
 use Rattle.normaliser.proofs.Whole.{reduces}
+use Rattle.rewriting.specs.Rewrite.{end-number}
 use mathlib.Core.Path.{refl}
 use borrow.Author.Needs.{needs}
 use Rattle.normaliser.proofs.reducible.Statement.{statement}
@@ -11,6 +12,7 @@ use Rattle.normaliser.proofs.load.Reads as load-reads
 use Rattle.normaliser.proofs.settle.Reads as settle-reads
 
 returns : tie.Need-returns
+unfolding end-number
 returns c = reduces _ _ _ _ _ _ _ _ _ _ _ refl (search needs) refl (c .before .before .before .before .before .load .ensures) (c .before .before .settle .ensures) refl
 
 pub reducible-spec : {M : Type 1} → statement M
