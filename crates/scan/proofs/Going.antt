@@ -1,6 +1,6 @@
 -- A walk on its way: the whole part from the start comes to the same as the part still to come with the units left. Assumes nothing. So loops and
 -- sequences of walks compose.
--- Read first: specs/Walk (Part, Walked, Walks).
+-- Read first: joining/specs/Joins (Part, Walked), specs/Walk (Walks), joining/proofs/Rooms.
 use mathlib.Core.Path.{_≡_, refl, _∙_, ap}
 use mathlib.Core.List.{List}
 use Prim.Native.Nat.{ℕ, _≤_}
@@ -8,8 +8,10 @@ use native.Mathlib.Omega.{arith}
 use lib.ListN.{length}
 use Rattle.rewriting.specs.Rewrite.{Paying, complete, end-number}
 use Rattle.completion.specs.Turn.{Candidate}
-use Rattle.scan.specs.declared.Walk.{Walk}
-use Rattle.scan.specs.Walk.{Part, Walked, found, short, large, on, Room, Bare, Walks}
+use Rattle.joining.specs.declared.Walk.{Walk}
+use Rattle.joining.specs.Joins.{Part, Walked, found, short, large, on, Bare}
+use Rattle.joining.proofs.Rooms.{bare-room, room-from}
+use Rattle.scan.specs.Walk.{Walks}
 
 pub record Going {W : Type 0} (H : W → Type 0) (d : W → Part) (L R L′ R′ : List ℕ) (units : ℕ) (d′ : W → Part) (u : ℕ) : Type 0 where
   pub left-kept : length L′ ≡ length L
@@ -44,16 +46,6 @@ walked-on (found c z f s) n next = absurd (omega arith)
 walked-on (short z f) n next = absurd (omega arith)
 walked-on (large z f) n next = absurd (omega arith)
 walked-on (on z f) n next = f next
-
--- an answer with no pair
-pub bare-room : {L R L′ R′ : List ℕ} {v u units : ℕ} {w : Walk} → Bare v u w → length L′ ≡ length L → length R′ ≡ length R → u ≤ units → Room L R L′ R′ units w
-bare-room b p q l =
-    record { left-kept = p; right-kept = q; left-few = let h = b .no-left in omega arith; right-few = let h = b .no-right in omega arith; left-over = let h = b .units in omega arith }
-
--- an answer from buffers of the same lengths, with no more units
-pub room-from : {L R L′ R′ L″ R″ : List ℕ} {units u : ℕ} {w : Walk} → length L′ ≡ length L → length R′ ≡ length R → u ≤ units → Room L′ R′ L″ R″ u w → Room L R L″ R″ units w
-room-from p q l r =
-    record { left-kept = r .left-kept ∙ p; right-kept = r .right-kept ∙ q; left-few = r .left-few; right-few = r .right-few; left-over = let h = r .left-over in omega arith }
 
 pub going-start : {W : Type 0} {H : W → Type 0} {d : W → Part} {L R : List ℕ} {units : ℕ} → Going H d L R L R units d units
 going-start = record { left-kept = refl; right-kept = refl; within = omega arith; reaches = λ x h next. refl }

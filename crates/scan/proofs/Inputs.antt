@@ -1,75 +1,25 @@
--- A pair in a slot is compared, the input equations unroll one by one, and overlaps then inputs are the definition's `scan`. Assumes nothing.
--- Read first: specs/Walk (SlotWalk, of-inputs, Scanned), completion/specs/Turn (scan), proofs/Going, proofs/Places.
+-- The input equations unroll one by one, and overlaps then inputs are the definition's `scan`. Assumes nothing.
+-- Read first: joining/specs/Joins (SlotWalk), specs/Walk (of-inputs, Scanned), completion/specs/Turn (scan), proofs/Going, proofs/Places.
 use mathlib.Core.Path.{_≡_, refl, sym, _∙_, ap, subst}
 use mathlib.Core.List.{List, [], _∷_, _++_}
-use Prim.Native.Nat.{ℕ, zero, suc, _+_, _*_, _<_, _≤_}
+use Prim.Native.Nat.{ℕ, zero, suc, _+_, _<_, _≤_}
 use native.Mathlib.Omega.{arith}
 use native.Mathlib.Numerals.{add-one}
-use lib.ListN.{length, getD, take, drop, length-drop, drop-of-length-le}
-use lib.Seq.{length-take-le, drop-cons}
+use lib.ListN.{length, getD, drop, drop-of-length-le}
+use lib.Seq.{drop-cons}
 use Rattle.terms.specs.Base.{number-bytes}
-use Rattle.terms.proofs.Flats.{widen}
 use Rattle.rewriting.specs.Overlap.{Rule, all-places}
 use Rattle.rewriting.specs.Rewrite.{complete, stop, Paying, end-with}
 use Rattle.problem.specs.Problem.{Equation}
 use Rattle.completion.specs.Turn.{scanned-input, Candidate, candidates, scan-inputs, scan}
 use Rattle.completion.specs.Calls.{origin-bytes}
 use Rattle.completion.proofs.Limits.{length-candidates}
-use Rattle.normaliser.specs.Stored.{Layout}
-use Rattle.store.specs.Slots.{patched}
-use Rattle.store.proofs.Patching.{length-patched, front-more}
-use Rattle.store.proofs.Listing.{short-at}
-use Rattle.scan.specs.declared.Walk.{Walk}
-use Rattle.scan.specs.Walk.{compared, visits, visit-inputs, Walked, found, short, large, on, Walks, Holds, of-rules, PairWalk, SlotWalk, World, inputs-of, Given, no-candidate, of-input, of-inputs, rules-part, of-all, Finds, Scanned}
-use Rattle.scan.proofs.Going.{Unrolls, Over, room-from}
+use Rattle.joining.specs.declared.Walk.{Walk}
+use Rattle.joining.specs.Joins.{compared, Walked, found, short, large, on, SlotWalk}
+use Rattle.scan.specs.Walk.{visits, visit-inputs, Walks, Holds, of-rules, World, inputs-of, Given, no-candidate, of-input, of-inputs, rules-part, of-all, Finds, Scanned}
+use Rattle.scan.proofs.Going.{Unrolls, Over}
 use Rattle.scan.proofs.Placing.{stored-here}
 use Rattle.scan.proofs.Places.{scan-visits}
-
--- a part of the bytes put in front of a buffer
-module _ (bytes : List ℕ) (a m : ℕ) (d d′ : List ℕ) (e : d′ ≡ patched 0 (take m (drop a bytes)) d) (fits : a + m ≤ length bytes) (room : m ≤ length d) where
-  part-length : length (take m (drop a bytes)) ≡ m
-  part-length = length-take-le m (drop a bytes) (omega (arith, length-drop a bytes))
-
-  front : take m d′ ≡ take m (drop a bytes)
-  front = ap (take m) e ∙ front-more 0 m (take m (drop a bytes)) d (omega (arith, part-length)) (omega (arith, part-length))
-
-  kept-length : length d′ ≡ length d
-  kept-length = ap length e ∙ length-patched 0 (take m (drop a bytes)) d (omega (arith, part-length))
-
-module _ (tab bytes sizes : List ℕ) (k : ℕ) (lay : Layout tab bytes sizes (k + 1)) (L R L₁ R₁ : List ℕ) (m n : ℕ) (rl : 120 ≤ length L) (rr : 120 ≤ length R)
-    (zm : m ≡ getD sizes (2 * k) 0) (zn : n ≡ getD sizes (2 * k + 1) 0)
-    (el : L₁ ≡ patched 0 (take m (drop (240 * k) bytes)) L) (er : R₁ ≡ patched 0 (take n (drop (240 * k + 120) bytes)) R) where
-  few-left : m ≤ 120
-  few-left = let s = short-at tab bytes sizes (k + 1) k lay (omega arith) in omega arith
-
-  few-right : n ≤ 120
-  few-right = let s = short-at tab bytes sizes (k + 1) k lay (omega arith) in omega arith
-
-  fits-left : 240 * k + m ≤ length bytes
-  fits-left = let s = lay .slots in let f = few-left in omega arith
-
-  fits-right : 240 * k + 120 + n ≤ length bytes
-  fits-right = let s = lay .slots in let f = few-right in omega arith
-
-  left-kept : length L₁ ≡ length L
-  left-kept = kept-length bytes (240 * k) m L L₁ el fits-left (let f = few-left in omega arith)
-
-  right-kept : length R₁ ≡ length R
-  right-kept = kept-length bytes (240 * k + 120) n R R₁ er fits-right (let f = few-right in omega arith)
-
-  -- what `scan_pair` asks
-  pub slot-fits : (m ≤ 120) × (120 ≤ length L₁) × (n ≤ 120) × (120 ≤ length R₁)
-  slot-fits = (few-left, (let q = left-kept in omega arith), few-right, (let q = right-kept in omega arith))
-
-  pub slot-walk : {rules lens : List ℕ} {count : ℕ} {L₂ R₂ from : List ℕ} {units : ℕ} {w : Walk} → PairWalk tab rules lens count L₁ m R₁ n L₂ R₂ from units w → SlotWalk tab rules lens count bytes sizes k L R L₂ R₂ from units w
-  slot-walk p =
-      record {
-        room = room-from left-kept right-kept (omega arith) (p .room);
-        answer = λ rs st ct o e fr at.
-            p .answer rs st ct o e fr (widen 16 32 tab (e .left) (omega arith) (at .left-wf)) (widen 16 32 tab (e .right) (omega arith) (at .right-wf))
-            (front bytes (240 * k) m L L₁ el fits-left (let f = few-left in omega arith) ∙ ap (λ j. take j (drop (240 * k) bytes)) zm ∙ at .left-bytes)
-            (front bytes (240 * k + 120) n R R₁ er fits-right (let f = few-right in omega arith) ∙ ap (λ j. take j (drop (240 * k + 120) bytes)) zn ∙ at .right-bytes);
-      }
 
 origin-at : (n : ℕ) (es : List Equation) (k : ℕ) → k < length es → getD (candidates scanned-input n es) k no-candidate .origin ≡ scanned-input (n + k)
 unfolding candidates

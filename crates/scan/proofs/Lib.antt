@@ -1,4 +1,3 @@
-pub mod Pairs
 pub mod WellFormed
 pub mod Going
 pub mod Placing

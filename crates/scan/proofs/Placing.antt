@@ -1,5 +1,5 @@
--- `scan_at` by what the overlap there is: none, too large (its peak or a side), or a pair that `scan_pair` compares. Assumes nothing.
--- Read first: specs/Walk (visit, at-place), overlaps/specs/Answer (Overlapped), proofs/WellFormed, proofs/Going.
+-- `scan_at` by what the overlap there is: none, too large (its peak or a side), or a pair that `join_pair` compares. Assumes nothing.
+-- Read first: joining/specs/Joins (compared, PairWalk), specs/Walk (visit, at-place), overlaps/specs/Answer (Overlapped), proofs/WellFormed, proofs/Going.
 use mathlib.Core.Path.{_≡_, refl, sym, _∙_, ap, subst}
 use mathlib.Core.Bool.{Bool, true, false}
 use mathlib.Core.List.{List, [], _∷_, _++_, map}
@@ -21,11 +21,13 @@ use Rattle.normaliser.specs.Stored.{Layout, RuleAt, Stored}
 use Rattle.overlaps.specs.declared.Met.{Met}
 use Rattle.overlaps.specs.declared.Met.the-variants.{Nothing, TooLarge, Found}
 use Rattle.overlaps.specs.Answer.{Answered, Says, Short, Overlapped}
-use Rattle.scan.specs.declared.Walk.{Walk}
+use Rattle.joining.specs.declared.Walk.{Walk}
+use Rattle.joining.specs.Joins.{compared, Walked, large, on, Bare, PairWalk}
+use Rattle.joining.proofs.Rooms.{bare-room, room-from}
 use Rattle.scan.specs.declared.spots.Spot.{Spot}
-use Rattle.scan.specs.Walk.{compared, visit, rule-at, no-rule, Holds, at-place, Walked, short, large, on, Bare, Walks, PairWalk}
+use Rattle.scan.specs.Walk.{visit, rule-at, no-rule, Holds, at-place, Walks}
 use Rattle.scan.proofs.WellFormed.{overlap-wf}
-use Rattle.scan.proofs.Going.{bare-room, room-from, walked-from}
+use Rattle.scan.proofs.Going.{walked-from}
 
 -- the definition at a place
 module _ (rs : List Rule) (at : Place) (next : Paying Candidate) where
@@ -165,7 +167,7 @@ module _ (tab rules lens numbers : List ℕ) (count : ℕ) (at : Spot) (L R L′
           go rs h none q s = absurd (zero≢one (cc))
           go rs h (some v) q s = sized rs h v q (ltb 120 (size (v .peak))) (ltb 120 (size (v .sides .left))) (ltb 120 (size (v .sides .right))) refl refl refl s
 
--- what `scan_pair` asks, of a pair that was found
+-- what `join_pair` asks, of a pair that was found
 pub found-fits : {tab rules lens : List ℕ} {inner outer p : ℕ} {L R L′ R′ : List ℕ} {m : Met} {a b : ℕ} → Overlapped tab rules lens inner outer p L R L′ R′ m → m ≡ Found a b →
     120 ≤ length L → 120 ≤ length R → (a ≤ 120) × (120 ≤ length L′) × (b ≤ 120) × (120 ≤ length R′)
 found-fits {a = a} {b = b} M e l r =

@@ -8,9 +8,10 @@ use lib.ListN.{length}
 use Rattle.rewriting.specs.Overlap.{Rule}
 use Rattle.rewriting.specs.Rewrite.{complete, end-number}
 use Rattle.normaliser.specs.Stored.{Layout}
-use Rattle.scan.specs.declared.Walk.{Walk}
+use Rattle.joining.specs.declared.Walk.{Walk}
+use Rattle.joining.specs.Joins.{Part, Bare}
 use Rattle.scan.specs.declared.spots.Spot.{Spot}
-use Rattle.scan.specs.Walk.{Part, Bare, Walks, Holds, at-place, of-rules}
+use Rattle.scan.specs.Walk.{Walks, Holds, at-place, of-rules}
 use Rattle.scan.specs.Order.{at-positions, behind, to-come, rank, Follows}
 use Rattle.scan.proofs.Going.{Going, Unrolls, going-on, going-stop, going-end}
 use Rattle.scan.proofs.Placing.{left-size}

@@ -9,8 +9,9 @@ use Rattle.terms.specs.Term.{size}
 use Rattle.rewriting.specs.Overlap.{Rule, places, places-with}
 use Rattle.rewriting.specs.Rewrite.{Paying}
 use Rattle.completion.specs.Turn.{Candidate}
+use Rattle.joining.specs.Joins.{Part}
 use Rattle.scan.specs.declared.spots.Spot.{Spot}
-use Rattle.scan.specs.Walk.{Part, visits, rule-at, at-place, of-rules}
+use Rattle.scan.specs.Walk.{visits, rule-at, at-place, of-rules}
 
 -- the positions from one on
 unfoldable pub at-positions : ℕ → ℕ → ℕ → List Rule → Part

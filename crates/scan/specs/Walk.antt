@@ -1,28 +1,17 @@
 -- What a walk over places or over input equations comes to, and what the functions of the scan answer. Assumes nothing.
 use mathlib.Core.Path.{_≡_}
 use mathlib.Core.List.{List, [], _∷_, map}
-use Prim.Native.Nat.{ℕ, _<_, _≤_}
+use Prim.Native.Nat.{ℕ, _<_}
 use lib.ListN.{length, getD, drop, take}
-use Rattle.terms.specs.Term.{var, Pair, term-bytes}
-use Rattle.terms.specs.Flat.{Wf}
+use Rattle.terms.specs.Term.{var}
 use Rattle.problem.specs.Problem.{Equation}
 use Rattle.rewriting.specs.Overlap.{Rule, sides-of, overlap, Place, all-places}
-use Rattle.rewriting.specs.Rewrite.{complete, spent, too-large, end-number, goes-on, Paid, done, stop, Paying, _>>=_, normalise-pair}
-use Rattle.completion.specs.Turn.{Origin, scanned-input, Candidate, candidates, scan-overlap, if-different, if-different-overlap, scan}
-use Rattle.completion.specs.Calls.{origin-bytes}
-use Rattle.normaliser.specs.Stored.{Sides, RuleAt, Stored}
-use Rattle.scan.specs.declared.Walk.{Walk}
+use Rattle.rewriting.specs.Rewrite.{end-number, goes-on, Paid, done, stop, _>>=_}
+use Rattle.completion.specs.Turn.{scanned-input, Candidate, candidates, scan-overlap, if-different-overlap, scan}
+use Rattle.normaliser.specs.Stored.{Stored}
+use Rattle.joining.specs.declared.Walk.{Walk}
+use Rattle.joining.specs.Joins.{Part, compared, Shows, Walked, Room}
 use Rattle.scan.specs.declared.spots.Spot.{Spot}
-
--- A part of the scan, before what follows it.
-abbrev pub Part : Type 0
-Part = Paying Candidate → Paying Candidate
-
--- a pair's two normal forms are compared
-unfoldable pub compared : List Rule → Origin → Pair → Part
-compared rules origin e next = do
-  forms ← normalise-pair rules e
-  if-different origin forms next
 
 -- one place, places, and inputs
 unfoldable pub visit : List Rule → Place → Part
@@ -37,33 +26,6 @@ visits rules (at ∷ ps) next = visit rules at (visits rules ps next)
 unfoldable pub visit-inputs : List Rule → List Candidate → Part
 visit-inputs rules [] next = next
 visit-inputs rules (c ∷ cs) next = compared rules (c .origin) (c .sides) (visit-inputs rules cs next)
-
--- The pair that was found: its forms in the buffers, and where it came from.
-pub record Shows (tab L R : List ℕ) (w : Walk) (c : Candidate) : Type 0 where
-  pub sides : Sides 32 tab (take (w .m) L) (take (w .n) R) (c .sides)
-  pub from : w .origin ≡ origin-bytes (c .origin)
-
--- What a walk over the part d answers, that began with u units.
-pub data Walked (tab L R : List ℕ) (d : Part) (u : ℕ) (w : Walk) : Type 0 where
-  found : (c : Candidate) → w .verdict ≡ goes-on → ((next : Paying Candidate) → d next u ≡ done c (w .units)) → Shows tab L R w c → Walked tab L R d u w
-  short : w .verdict ≡ end-number spent → ((next : Paying Candidate) → d next u ≡ stop spent (w .units)) → Walked tab L R d u w
-  large : w .verdict ≡ end-number too-large → ((next : Paying Candidate) → d next u ≡ stop too-large (w .units)) → Walked tab L R d u w
-  on : w .verdict ≡ end-number complete → ((next : Paying Candidate) → d next u ≡ next (w .units)) → Walked tab L R d u w
-
--- what every answer has
-pub record Room (L R L′ R′ : List ℕ) (units : ℕ) (w : Walk) : Type 0 where
-  pub left-kept : length L′ ≡ length L
-  pub right-kept : length R′ ≡ length R
-  pub left-few : w .m ≤ 120
-  pub right-few : w .n ≤ 120
-  pub left-over : w .units ≤ units
-
--- an answer with no pair
-pub record Bare (v u : ℕ) (w : Walk) : Type 0 where
-  pub verdict : w .verdict ≡ v
-  pub units : w .units ≡ u
-  pub no-left : w .m ≡ 0
-  pub no-right : w .n ≡ 0
 
 -- A function that walks over the part d, of whatever it is handed that is as H says.
 pub record Walks {W : Type 0} (H : W → Type 0) (d : W → Part) (tab L R L′ R′ : List ℕ) (units : ℕ) (w : Walk) : Type 0 where
@@ -89,19 +51,6 @@ at-place at rs = visit rs (record { inner = rule-at rs (at .inner); outer = rule
 
 unfoldable pub of-rules : ℕ → List Rule → Part
 of-rules b rs = visits rs (all-places (take b rs) (drop b rs))
-
--- `scan_pair`
-pub record PairWalk (tab rules lens : List ℕ) (count : ℕ) (L : List ℕ) (m : ℕ) (R : List ℕ) (n : ℕ) (L′ R′ from : List ℕ) (units : ℕ) (w : Walk) : Type 0 where
-  pub room : Room L R L′ R′ units w
-  pub answer : (rs : List Rule) → Stored tab rules lens 0 (sides-of rs) → count ≡ length rs →
-      (o : Origin) (e : Pair) → from ≡ origin-bytes o → Wf 32 tab (e .left) → Wf 32 tab (e .right) → take m L ≡ term-bytes (e .left) → take n R ≡ term-bytes (e .right) →
-      Walked tab L′ R′ (compared rs o e) units w
-
--- `scan_slot`
-pub record SlotWalk (tab rules lens : List ℕ) (count : ℕ) (bytes sizes : List ℕ) (k : ℕ) (L R L′ R′ from : List ℕ) (units : ℕ) (w : Walk) : Type 0 where
-  pub room : Room L R L′ R′ units w
-  pub answer : (rs : List Rule) → Stored tab rules lens 0 (sides-of rs) → count ≡ length rs →
-      (o : Origin) (e : Pair) → from ≡ origin-bytes o → RuleAt tab bytes sizes k e → Walked tab L′ R′ (compared rs o e) units w
 
 -- the rules and the input equations stand in slots
 pub record World : Type 0 where

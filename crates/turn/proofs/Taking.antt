@@ -1,5 +1,5 @@
 -- Step 1 of a turn: what a pair's walk says of what the definition takes, for the oldest waiting equation and for the scan. Assumes nothing.
--- Read first: completion/specs/Turn (take-pair), scan/specs/Walk (Walked, Finds), making/specs/Made (TakenBy), completion/proofs/Scanning.
+-- Read first: completion/specs/Turn (take-pair), joining/specs/Joins (Walked), scan/specs/Walk (Finds), making/specs/Made (TakenBy), completion/proofs/Scanning.
 use mathlib.Core.Path.{_≡_, sym, ap, _∙_, subst}
 use mathlib.Core.Bool.{true, false}
 use mathlib.Core.List.{List, [], _∷_}
@@ -15,8 +15,9 @@ use Rattle.completion.proofs.Scanning.{ScanEnd, scan-ends, scan-different}
 use Rattle.completion.proofs.Turning.{turn-stops, take-scan-stops, take-scan, take-waiting-stops, take-waiting}
 use Rattle.completion.proofs.Comparing.{found-forms, equal-forms, stop-forms}
 use Rattle.engine.specs.State.{Whole, Represents}
-use Rattle.scan.specs.Walk.{compared, Walked, found, short, large, on, Shows, Finds}
-use Rattle.scan.specs.declared.Walk.{Walk}
+use Rattle.joining.specs.declared.Walk.{Walk}
+use Rattle.joining.specs.Joins.{compared, Walked, found, short, large, on, Shows}
+use Rattle.scan.specs.Walk.{Finds}
 use Rattle.making.specs.Made.{Outcome, Stops, TakenBy}
 use Rattle.turn.specs.Turns.{Shown, TurnedIs}
 use Rattle.making.proofs.Keeping.{held-of}

@@ -24,9 +24,9 @@ use Rattle.completion.proofs.Result.{origin-bytes-length}
 use Rattle.collapse.specs.Sifting.{origins-bytes}
 use Rattle.engine.specs.State.{Whole, Represents}
 use Rattle.engine.specs.Steps.{TakenState}
-use Rattle.scan.specs.Walk.{SlotWalk, Scanned}
-use Rattle.scan.specs.Walk as walk
-use Rattle.scan.specs.declared.Walk.{Walk}
+use Rattle.joining.specs.declared.Walk.{Walk}
+use Rattle.joining.specs.Joins.{compared, Walked, Room, SlotWalk}
+use Rattle.scan.specs.Walk.{rule-at, no-rule, Finds, Scanned}
 use Rattle.making.specs.Made.{Outcome, Stops, without-taken, TurnWith, SettledTurn, MakesTurn}
 use Rattle.turn.specs.Turns.{Shown, TurnedIs, Buffers, WaitingTurn, Given, ScanTurn, WholeTurn}
 use Rattle.making.proofs.Keeping.{held-of}
@@ -73,7 +73,7 @@ oldest-origin tab st s c cs R e =
     (front-of (st .origins) (origin-bytes (c .origin)) (origins-bytes cs) (6 * (st .waits)) (omega (arith, origin-bytes-length (c .origin))) h)
 
 -- the buffers behind a walk, and the forms that stand in them, cut out
-module _ {L R L′ R′ : List ℕ} {u : ℕ} {w : Walk} (room : walk.Room L R L′ R′ u w) where
+module _ {L R L′ R′ : List ℕ} {u : ℕ} {w : Walk} (room : Room L R L′ R′ u w) where
   buffers-kept : Buffers L R L′ R′
   buffers-kept = record { left-kept = room .left-kept; right-kept = room .right-kept }
 
@@ -104,7 +104,7 @@ module _ (st : Whole) (tab L R L′ R′ origin : List ℕ) (u : ℕ) (w : Walk)
   oldest-is : (s : RunState) → Represents tab st s → Oldest s
   oldest-is s Re = oldest-of s (omega (arith, Re .waits))
 
-  walked : (s : RunState) (Re : Represents tab st s) (O : Oldest s) → walk.Walked tab L′ R′ (walk.compared (s .rules) (O .first .origin) (O .first .sides)) u w
+  walked : (s : RunState) (Re : Represents tab st s) (O : Oldest s) → Walked tab L′ R′ (compared (s .rules) (O .first .origin) (O .first .sides)) u w
   walked s Re O =
       W .answer (s .rules) (Re .rules) (Re .count) (O .first .origin) (O .first .sides) (from ∙ oldest-origin tab st s (O .first) (O .later) Re (O .is))
       (stored-first tab (st .waiting) (st .lengths) 0 (O .first .sides) _ (subst (λ (x : List Candidate). Stored tab (st .waiting) (st .lengths) 0 (map (λ c. c .sides) x)) (O .is) (Re .waiting)))
@@ -151,8 +151,8 @@ module _ (st : Whole) (tab L R L′ R′ origin : List ℕ) (u : ℕ) (w : Walk)
 
 -- `turn_scan`
 -- the rules' numbers, from the list of them
-numbered-by : (count : ℕ) (ns : List ℕ) (rs : List Rule) → take count ns ≡ map (λ (r : Rule). r .number) rs → (k : ℕ) → k < count → getD ns k 0 ≡ walk.rule-at rs k .number
-numbered-by count ns rs e k l = sym (getD-take count ns k 0 l) ∙ ap (λ z. getD z k 0) e ∙ List·getD-map (λ (r : Rule). r .number) rs k walk.no-rule
+numbered-by : (count : ℕ) (ns : List ℕ) (rs : List Rule) → take count ns ≡ map (λ (r : Rule). r .number) rs → (k : ℕ) → k < count → getD ns k 0 ≡ rule-at rs k .number
+numbered-by count ns rs e k l = sym (getD-take count ns k 0 l) ∙ ap (λ z. getD z k 0) e ∙ List·getD-map (λ (r : Rule). r .number) rs k no-rule
 
 module _ (st : Whole) (tab inputs sizes : List ℕ) (number : ℕ) (L R L′ R′ : List ℕ) (u : ℕ) (w : Walk) (none : st .waits ≡ 0)
     (W : Scanned tab (st .rules) (st .lens) (st .numbers) (st .count) inputs sizes number L R L′ R′ u w) where
@@ -160,7 +160,7 @@ module _ (st : Whole) (tab inputs sizes : List ℕ) (number : ℕ) (L R L′ R�
   idle s Re = nothing (s .waiting) (sym (Re .waits) ∙ none)
 
   finds : (P : Problem) → Given tab inputs sizes number P → (s : RunState) → Represents tab st s →
-      walk.Finds tab L′ R′ w (scan (s .rules) (candidates scanned-input 1 (P .equations)) (all-places [] (s .rules)) u)
+      Finds tab L′ R′ w (scan (s .rules) (candidates scanned-input 1 (P .equations)) (all-places [] (s .rules)) u)
   finds P G s Re =
       W .answer (s .rules) (record { stored = Re .rules; counted = Re .count; numbered = numbered-by (st .count) (st .numbers) (s .rules) (Re .numbers) }) (P .equations)
       (subst (Stored tab inputs sizes 0) (candidates-sides scanned-input 1 (P .equations)) (G .stored)) (G .counted)

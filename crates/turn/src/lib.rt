@@ -4,10 +4,12 @@ ghost use Prim.Native.Nat.{_<_, _≤_};
 ghost use lib.ListN.{length, take};
 ghost use Rattle.normaliser.specs.Stored.{Layout};
 ghost use Rattle.engine.specs.State.{whole, Fine};
-ghost use Rattle.scan.specs.Walk.{SlotWalk, Scanned};
+ghost use Rattle.joining.specs.Joins.{SlotWalk};
+ghost use Rattle.scan.specs.Walk.{Scanned};
 ghost use Rattle.making.specs.Made.{outcome};
 ghost use Rattle.turn.specs.Turns.{WaitingTurn, ScanTurn, WholeTurn};
 use engine::State;
+use joining::Walk;
 use making::Turned;
 
 // The origin of the oldest waiting equation.
@@ -28,7 +30,7 @@ fn walk_oldest(
     left: &mut [u8],
     right: &mut [u8],
     units: u32,
-) -> scan::Walk
+) -> Walk
     requires { ⌜ Layout (now table) (now rules) (st .lens) (st .count) × Layout (now table) (now waiting) (st .lengths) 1 ⌝ }
     requires { ⌜ (120 ≤ length (now left)) × (120 ≤ length (now right)) ⌝ }
     ensures { λ r. ⌜ SlotWalk (now (table .entry)) (now (rules .entry)) (st .lens) (st .count) (now (waiting .entry)) (st .lengths) 0 (now (left .entry)) (now (right .entry)) (now (left .exit)) (now (right .exit)) origin units r ⌝ }
@@ -36,7 +38,7 @@ fn walk_oldest(
     let lens = st.lens;
     let lengths = st.lengths;
     let count = st.count;
-    scan::scan_slot(
+    joining::join_slot(
         rules,
         &lens,
         count,
@@ -102,7 +104,7 @@ fn walk_scan(
     left: &mut [u8],
     right: &mut [u8],
     units: u32,
-) -> scan::Walk
+) -> Walk
     requires { ⌜ Layout (now table) (now rules) (st .lens) (st .count) × (st .count ≤ length (st .numbers)) ⌝ }
     requires { ⌜ Layout (now table) (now inputs) (now sizes) number ⌝ }
     requires { ⌜ (120 ≤ length (now left)) × (120 ≤ length (now right)) ⌝ }

@@ -10,8 +10,8 @@ use Rattle.scan.proofs.scan_at.Reads as reads
 use Rattle.scan.proofs.scan_at.Lts as lts
 use Rattle.overlaps.proofs.overlap.Reads as overlap-reads
 use Rattle.scan.proofs.origins.origin.Reads as origin-reads
-use Rattle.scan.proofs.scan_pair.Reads as scan-pair-reads
-use Rattle.scan.proofs.stopped.Reads as stopped-reads
+use Rattle.joining.proofs.join_pair.Reads as join-pair-reads
+use Rattle.joining.proofs.stopped.Reads as stopped-reads
 
 overlap-requires : tie.Need-overlap-requires
 overlap-requires c κs = ((layout-below _ _ _ _ _ (c .before .before .before .before .before .before .before .before .pre .0 .0) (c .before .before .before .before .before .before .before .before .pre .1 .0 .0), layout-below _ _ _ _ _ (c .before .before .before .before .before .before .before .before .pre .0 .0) (c .before .before .before .before .before .before .before .before .pre .1 .0 .1)), c .before .before .before .before .before .before .before .before .pre .1 .1)
@@ -19,8 +19,8 @@ overlap-requires c κs = ((layout-below _ _ _ _ _ (c .before .before .before .be
 origin-requires : tie.Need-origin-requires
 origin-requires c κs = c .before .before .before .before .before .before .before .before .before .before .before .before .before .before .before .before .before .before .pre .1 .0 .2
 
-scan-pair-requires : tie.Need-scan-pair-requires
-scan-pair-requires c κs = (c .before .before .before .before .before .before .before .before .before .before .before .before .before .before .before .before .before .before .before .before .before .pre .0 .0, found-fits (c .before .before .before .before .before .before .before .before .before .before .before .before .overlap .ensures) (c .before .before .before .before .before .before .m .given .1) (c .before .before .before .before .before .before .before .before .before .before .before .before .before .before .before .before .before .before .before .before .before .pre .1 .1 .0) (c .before .before .before .before .before .before .before .before .before .before .before .before .before .before .before .before .before .before .before .before .before .pre .1 .1 .1))
+join-pair-requires : tie.Need-join-pair-requires
+join-pair-requires c κs = (c .before .before .before .before .before .before .before .before .before .before .before .before .before .before .before .before .before .before .before .before .before .pre .0 .0, found-fits (c .before .before .before .before .before .before .before .before .before .before .before .before .overlap .ensures) (c .before .before .before .before .before .before .m .given .1) (c .before .before .before .before .before .before .before .before .before .before .before .before .before .before .before .before .before .before .before .before .before .pre .1 .1 .0) (c .before .before .before .before .before .before .before .before .before .before .before .before .before .before .before .before .before .before .before .before .before .pre .1 .1 .1))
 
 returns : tie.Need-returns
 unfolding end-number
@@ -31,7 +31,7 @@ unfolding end-number
 returns-2 c = place-large _ _ _ _ _ _ _ _ _ _ _ _ (c .before .before .before .before .before .before .before .overlap .ensures) (c .before .before .before .before .before .before .before .before .before .before .before .before .before .before .before .before .pre .1 .0 .0) (c .before .before .before .before .before .before .before .before .before .before .before .before .before .before .before .before .pre .1 .0 .1) _ (c .before .enum-told2 .given .1) (c .stopped2 .ensures)
 
 returns-3 : tie.Need-returns-3
-returns-3 c = place-pair _ _ _ _ _ _ _ _ _ _ _ _ (c .before .before .before .before .before .before .before .before .before .before .before .before .before .before .before .before .before .overlap .ensures) (c .before .before .before .before .before .before .before .before .before .before .before .before .before .before .before .before .before .before .before .before .before .before .before .before .before .before .pre .1 .0 .0) (c .before .before .before .before .before .before .before .before .before .before .before .before .before .before .before .before .before .before .before .before .before .before .before .before .before .before .pre .1 .0 .1) _ _ _ _ _ _ (c .before .before .before .before .before .before .before .before .before .before .before .m .given .1) (c .before .before .before .before .before .before .before .origin .ensures) (c .before .before .before .before .scan-pair .ensures)
+returns-3 c = place-pair _ _ _ _ _ _ _ _ _ _ _ _ (c .before .before .before .before .before .before .before .before .before .before .before .before .before .before .before .before .before .overlap .ensures) (c .before .before .before .before .before .before .before .before .before .before .before .before .before .before .before .before .before .before .before .before .before .before .before .before .before .before .pre .1 .0 .0) (c .before .before .before .before .before .before .before .before .before .before .before .before .before .before .before .before .before .before .before .before .before .before .before .before .before .before .pre .1 .0 .1) _ _ _ _ _ _ (c .before .before .before .before .before .before .before .before .before .before .before .m .given .1) (c .before .before .before .before .before .before .before .origin .ensures) (c .before .before .before .before .join-pair .ensures)
 
 pub scan-at-spec : {M : Type 1} → statement M
 scan-at-spec =
@@ -48,7 +48,7 @@ scan-at-spec =
     (λ c. search needs)
     (λ c. search needs)
     origin-requires
-    scan-pair-requires
+    join-pair-requires
     (λ c. search needs)
     (λ c. search needs)
     returns

@@ -12,8 +12,8 @@ use Rattle.scan.proofs.scan_inputs.Tie as tie
 use Rattle.scan.proofs.scan_inputs.Reads as reads
 use Rattle.scan.proofs.scan_inputs.Lts as lts
 use Rattle.scan.proofs.origins.origin.Reads as origin-reads
-use Rattle.scan.proofs.scan_slot.Reads as scan-slot-reads
-use Rattle.scan.proofs.stopped.Reads as stopped-reads
+use Rattle.joining.proofs.join_slot.Reads as join-slot-reads
+use Rattle.joining.proofs.stopped.Reads as stopped-reads
 
 abbrev Inv-loop : tie.InvT-loop
 Inv-loop rules lens count table inputs sizes number left₀ right₀ units u₀ k₀ left right u k =
@@ -29,17 +29,17 @@ loop-holds c = going-start
 cast-origin : tie.Need-cast-origin Inv-loop μ-loop
 cast-origin c = let f = c .before .before .before .before .before .before .before .before .before .pre .0 .1 .few in let t = c .loop-test .taken in search needs
 
-scan-slot-requires : tie.Need-scan-slot-requires Inv-loop μ-loop
-scan-slot-requires c κs =
+join-slot-requires : tie.Need-join-slot-requires Inv-loop μ-loop
+join-slot-requires c κs =
     (c .before .before .before .before .before .before .before .before .before .before .before .before .pre .0 .0, (layout-below _ _ _ _ _ (c .before .before .before .before .before .before .before .before .before .before .before .before .pre .0 .1) (c .before .before .before .loop-test .taken), (still-fits (c .before .before .before .before .loop .inv .left-kept) (c .before .before .before .before .before .before .before .before .before .before .before .before .pre .1 .0), still-fits (c .before .before .before .before .loop .inv .right-kept) (c .before .before .before .before .before .before .before .before .before .before .before .before .pre .1 .1))))
 
 returns : tie.Need-returns Inv-loop μ-loop
 unfolding end-number
-returns c = going-stop (c .before .before .before .before .before .before .before .before .before .before .before .loop .inv) (inputs-more _ _ _ _ _ _ _ _ (c .before .before .before .before .before .before .before .before .before .before .loop-test .taken)) (input-walk _ _ _ _ _ _ _ _ (c .before .before .before .before .before .before .before .before .before .before .loop-test .taken) (c .before .before .before .before .before .before .before .before .before .origin .ensures) (c .before .before .before .before .before .before .scan-slot .ensures)) (c .if1 .taken)
+returns c = going-stop (c .before .before .before .before .before .before .before .before .before .before .before .loop .inv) (inputs-more _ _ _ _ _ _ _ _ (c .before .before .before .before .before .before .before .before .before .before .loop-test .taken)) (input-walk _ _ _ _ _ _ _ _ (c .before .before .before .before .before .before .before .before .before .before .loop-test .taken) (c .before .before .before .before .before .before .before .before .before .origin .ensures) (c .before .before .before .before .before .before .join-slot .ensures)) (c .if1 .taken)
 
 loop-again : tie.Need-loop-again Inv-loop μ-loop
 unfolding end-number
-loop-again c = going-on (c .before .before .before .before .before .before .before .before .before .before .before .loop .inv) (inputs-more _ _ _ _ _ _ _ _ (c .before .before .before .before .before .before .before .before .before .before .loop-test .taken)) (input-walk _ _ _ _ _ _ _ _ (c .before .before .before .before .before .before .before .before .before .before .loop-test .taken) (c .before .before .before .before .before .before .before .before .before .origin .ensures) (c .before .before .before .before .before .before .scan-slot .ensures)) (c .if1 .left)
+loop-again c = going-on (c .before .before .before .before .before .before .before .before .before .before .before .loop .inv) (inputs-more _ _ _ _ _ _ _ _ (c .before .before .before .before .before .before .before .before .before .before .loop-test .taken)) (input-walk _ _ _ _ _ _ _ _ (c .before .before .before .before .before .before .before .before .before .before .loop-test .taken) (c .before .before .before .before .before .before .before .before .before .origin .ensures) (c .before .before .before .before .before .before .join-slot .ensures)) (c .if1 .left)
 
 returns-2 : tie.Need-returns-2 Inv-loop μ-loop
 unfolding end-number
@@ -55,7 +55,7 @@ scan-inputs-spec =
     (λ c. search needs)
     cast-origin
     (λ c κs. search needs)
-    scan-slot-requires
+    join-slot-requires
     (λ c. search needs)
     (λ c. search needs)
     returns

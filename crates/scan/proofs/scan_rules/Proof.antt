@@ -12,7 +12,7 @@ use Rattle.scan.proofs.scan_rules.Lts as lts
 use Rattle.scan.proofs.scan_at.Reads as scan-at-reads
 use Rattle.scan.proofs.spots.next.Reads as next-reads
 use Rattle.scan.proofs.spots.spot_at.Reads as spot-at-reads
-use Rattle.scan.proofs.stopped.Reads as stopped-reads
+use Rattle.joining.proofs.stopped.Reads as stopped-reads
 
 abbrev Inv-loop : tie.InvT-loop
 Inv-loop rules lens numbers count table left₀ right₀ units at₀ u₀ left right at u =

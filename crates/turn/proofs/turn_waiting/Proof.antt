@@ -1,5 +1,5 @@
 -- `turn_waiting`: the forms are equal, normalising stops, or a rule is made: `waiting-settled`, `waiting-stopped`, `waiting-made`. Assumes nothing.
--- Read first: specs/Turns (WaitingTurn), scan/specs/Walk (SlotWalk), proofs/Whole.
+-- Read first: specs/Turns (WaitingTurn), joining/specs/Joins (SlotWalk), proofs/Whole.
 use mathlib.Core.Path.{refl}
 use native.Mathlib.Omega.{arith}
 use Rattle.rewriting.specs.Rewrite.{end-number}

@@ -1,16 +1,16 @@
--- `scan_pair`: a lemma for each return: left or right comes to no normal form, the forms are equal bytes, the forms differ. Assumes nothing.
--- Read first: specs/Walk (PairWalk), proofs/Pairs.
+-- `join_pair`: a lemma for each return: left or right comes to no normal form, the forms are equal bytes, the forms differ. Assumes nothing.
+-- Read first: specs/Joins (PairWalk), proofs/Pairs.
 use mathlib.Core.Path.{refl}
 use Rattle.rewriting.specs.Rewrite.{end-number}
-use Rattle.scan.proofs.Pairs.{pair-left, pair-right, pair-same, pair-found}
+use Rattle.joining.proofs.Pairs.{pair-left, pair-right, pair-same, pair-found}
 use borrow.Author.Needs.{needs}
-use Rattle.scan.proofs.scan_pair.Statement.{statement}
-use Rattle.scan.proofs.scan_pair.Tie as tie
-use Rattle.scan.proofs.scan_pair.Reads as reads
-use Rattle.scan.proofs.scan_pair.Lts as lts
+use Rattle.joining.proofs.join_pair.Statement.{statement}
+use Rattle.joining.proofs.join_pair.Tie as tie
+use Rattle.joining.proofs.join_pair.Reads as reads
+use Rattle.joining.proofs.join_pair.Lts as lts
 use Rattle.check.proofs.same.Reads as same-reads
 use Rattle.normaliser.proofs.normalise.Reads as normalise-reads
-use Rattle.scan.proofs.stopped.Reads as stopped-reads
+use Rattle.joining.proofs.stopped.Reads as stopped-reads
 
 returns : tie.Need-returns
 returns c = pair-left _ _ _ _ _ _ _ _ _ _ _ _ (c .before .before .before .before .before .before .normalise .ensures) _ (c .before .if1 .taken) (c .stopped .ensures)
@@ -39,8 +39,8 @@ returns-3 c = pair-same _ _ _ _ _ _ _ _ _ _ _ _ (c .before .before .before .befo
 returns-4 : tie.Need-returns-4
 returns-4 c = pair-found _ _ _ _ _ _ _ _ _ _ _ _ (c .before .before .before .before .before .before .before .before .before .before .before .before .before .before .before .before .before .before .normalise .ensures) _ _ _ (c .before .before .before .before .before .before .before .before .before .before .before .normalise2 .ensures) (c .before .before .before .before .before .before .before .before .before .before .before .before .before .if1 .left) (c .before .before .before .before .before .before .if2 .left) _ (c .if3 .left) (c .before .same .ensures .1) refl refl refl refl refl
 
-pub scan-pair-spec : {M : Type 1} → statement M
-scan-pair-spec =
+pub join-pair-spec : {M : Type 1} → statement M
+join-pair-spec =
     tie.close
     (tie.spec
     (λ c κs. search needs)

@@ -1,5 +1,5 @@
--- `scan_pair` by its returns: a side that does not come to a normal form, equal forms, different forms. Assumes nothing.
--- Read first: specs/Walk (PairWalk, compared), normaliser/specs/Stored (Normalised), proofs/Going (bare-room).
+-- `join_pair` by its returns: a side that does not come to a normal form, equal forms, different forms. Assumes nothing.
+-- Read first: specs/Joins (PairWalk, compared), normaliser/specs/Stored (Normalised), proofs/Rooms (bare-room).
 use mathlib.Core.Path.{_≡_, refl, sym, _∙_, ap, subst}
 use mathlib.Core.Bool.{Bool, true, false}
 use mathlib.Core.List.{List, [], append-nil}
@@ -19,9 +19,9 @@ use Rattle.completion.specs.Calls.{origin-bytes}
 use Rattle.matching.proofs.Replacing.{take-less-zero}
 use Rattle.normaliser.specs.Stored.{Stored, NormalIs, Normalised}
 use Rattle.normaliser.specs.declared.Normal.{Normal}
-use Rattle.scan.specs.declared.Walk.{Walk}
-use Rattle.scan.specs.Walk.{Part, compared, Walked, found, short, large, on, Room, Bare, PairWalk}
-use Rattle.scan.proofs.Going.{bare-room}
+use Rattle.joining.specs.declared.Walk.{Walk}
+use Rattle.joining.specs.Joins.{Part, compared, Walked, found, short, large, on, Room, Bare, PairWalk}
+use Rattle.joining.proofs.Rooms.{bare-room}
 
 -- what the definition does with a pair, by what its sides come to
 module _ (rs : List Rule) (o : Origin) (e : Pair) (next : Paying Candidate) (u : ℕ) where
