@@ -9,8 +9,8 @@ use lib.ListN.{length, drop, take, set, length-drop}
 use lib.Seq.{drop-at, take-append-le, take-suc-set}
 use Rattle.terms.proofs.Lists.{take-drop}
 use Rattle.terms.specs.Base.{number-bytes}
-use Rattle.normaliser.specs.Stored.{Layout}
-use Rattle.normaliser.proofs.Choosing.{layout-front}
+use Rattle.redex.specs.Stored.{Layout}
+use Rattle.redex.proofs.Choosing.{layout-front}
 use Rattle.completion.specs.Turn.{removed-rule}
 use Rattle.completion.specs.Calls.{origin-bytes}
 

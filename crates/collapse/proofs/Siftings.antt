@@ -14,7 +14,8 @@ use Rattle.terms.specs.Base.{if_then_else_}
 use Rattle.terms.specs.Term.{Pair}
 use Rattle.terms.proofs.Flats.{widen}
 use Rattle.rewriting.specs.Overlap.{Rule, sides-of}
-use Rattle.normaliser.specs.Stored.{Layout, RuleAt, Stored, Reducible}
+use Rattle.redex.specs.Stored.{Layout, RuleAt, Stored}
+use Rattle.normaliser.specs.Settled.{Reducible}
 use Rattle.completion.specs.Turn.{removed-rule, Candidate, rewrites, kept, removed}
 use Rattle.completion.specs.Calls.{origin-bytes}
 use Rattle.completion.proofs.Result.{origin-bytes-length}

@@ -6,7 +6,7 @@ use Prim.Native.Nat.{ℕ, _+_, _-_, _*_, _≤_}
 use lib.ListN.{length, take, drop}
 use Rattle.terms.specs.Term.{Pair}
 use Rattle.rewriting.specs.Overlap.{Rule, sides-of}
-use Rattle.normaliser.specs.Stored.{Layout, RuleAt, Stored}
+use Rattle.redex.specs.Stored.{Layout, RuleAt, Stored}
 use Rattle.completion.specs.Turn.{Candidate, rewrites, kept, removed}
 use Rattle.completion.specs.Calls.{origin-bytes}
 

@@ -5,7 +5,7 @@ ghost use Prim.Native.Nat.{_+_, _*_, _<_, _≤_};
 ghost use lib.ListN.{length};
 ghost use Rattle.completion.specs.Turn.{removed-rule};
 ghost use Rattle.completion.specs.Calls.{origin-bytes};
-ghost use Rattle.normaliser.specs.Stored.{Layout};
+ghost use Rattle.redex.specs.Stored.{Layout};
 ghost use Rattle.store.specs.Slots.{patched};
 ghost use Rattle.collapse.specs.Sifting.{shelf, Safe, Removes, SiftedOne, Sifted};
 

@@ -9,7 +9,7 @@ use Rattle.terms.specs.Base.{field-bytes}
 use Rattle.problem.specs.Problem.{Problem}
 use Rattle.rewriting.specs.Overlap.{Rule, sides-of, all-places}
 use Rattle.rewriting.specs.Rewrite.{complete, spent, stop, and-then, _>>=_, end-with, end-number}
-use Rattle.normaliser.specs.Stored.{Stored}
+use Rattle.redex.specs.Stored.{Stored}
 use Rattle.completion.specs.Turn.{waiting-input, candidates, initial, scan-inputs, scan, take-pair, turn, run}
 use Rattle.completion.specs.Calls.{entry-field, result-bytes}
 use Rattle.completion.proofs.Turning.{turn-unpaid, turn-stops, run-begins, run-ends}

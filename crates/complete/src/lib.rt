@@ -4,7 +4,7 @@ ghost use mathlib.Core.List.{[]};
 ghost use Prim.Native.Nat.{_≤_};
 ghost use lib.ListN.{length};
 ghost use Rattle.completion.specs.Calls.{complete-call, after-complete};
-ghost use Rattle.normaliser.specs.Stored.{Layout};
+ghost use Rattle.redex.specs.Stored.{Layout};
 ghost use Rattle.complete.specs.Answer.{told, counted, Delivery, WritesRun, WritesNothing, WritesEmpty, WritesProblem};
 
 pub enum Completed {

@@ -1,5 +1,5 @@
 -- Rules and a term with variables below 16 normalise to a term with variables below 16. Assumes nothing.
--- Read first: rewriting/specs/Rewrite (normalise), rewriting/proofs/Holds, normaliser/specs/Stored (Stored).
+-- Read first: rewriting/specs/Rewrite (normalise), rewriting/proofs/Holds, redex/specs/Stored (Stored).
 use mathlib.Core.List.{List, [], _∷_}
 use Prim.Native.Nat.{ℕ, suc, _<_}
 use Rattle.terms.proofs.Flats.{wf-made}
@@ -11,7 +11,7 @@ use Rattle.rewriting.specs.Overlap.{Rule, sides-of}
 use Rattle.rewriting.specs.Rewrite.{normalise}
 use Rattle.rewriting.proofs.Limits.{step-made}
 use Rattle.rewriting.proofs.Holds.{Holds, Form, reached-keeps, pays-weaker, normalise-holds}
-use Rattle.normaliser.specs.Stored.{Stored}
+use Rattle.redex.specs.Stored.{Stored}
 
 abbrev pub Below : ℕ → Term → Type 0
 Below n t = Made (λ f. f < 16) (λ x. x < n) t

@@ -12,7 +12,8 @@ use Rattle.terms.proofs.Flats.{widen, made-wf}
 use Rattle.rewriting.specs.Overlap.{Rule, sides-of}
 use Rattle.rewriting.specs.Rewrite.{Paid, done, stop, normalise, goes-on}
 use Rattle.rewriting.proofs.Holds.{Holds, goes-on≢end}
-use Rattle.normaliser.specs.Stored.{Layout, RuleAt, Stored, NormalIs, Normalised}
+use Rattle.redex.specs.Stored.{Layout, RuleAt, Stored}
+use Rattle.normaliser.specs.Settled.{NormalIs, Normalised}
 use Rattle.normaliser.specs.declared.Normal.{Normal}
 use Rattle.store.specs.Slots.{patched, OnlySlot, RightIs}
 use Rattle.store.proofs.Patching.{patched-here}

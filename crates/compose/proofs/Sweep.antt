@@ -10,7 +10,7 @@ use Rattle.terms.specs.Term.{Term}
 use Rattle.rewriting.specs.Overlap.{Rule, sides-of}
 use Rattle.rewriting.specs.Rewrite.{Paid, done, stop, and-then, _>>=_, return, normalise, goes-on}
 use Rattle.rewriting.proofs.Holds.{goes-on≢end}
-use Rattle.normaliser.specs.Stored.{Layout, Stored}
+use Rattle.redex.specs.Stored.{Layout, Stored}
 use Rattle.completion.specs.Turn.{normalise-rights}
 use Rattle.completion.proofs.Ends.{with-right}
 use Rattle.completion.proofs.Limits.{numbers}

@@ -6,7 +6,7 @@ use lib.ListN.{length}
 use Rattle.terms.specs.Term.{Term}
 use Rattle.rewriting.specs.Overlap.{Rule, sides-of}
 use Rattle.rewriting.specs.Rewrite.{Paid, done, stop, normalise, end-number, goes-on}
-use Rattle.normaliser.specs.Stored.{Layout, Stored}
+use Rattle.redex.specs.Stored.{Layout, Stored}
 use Rattle.completion.specs.Turn.{normalise-rights}
 use Rattle.store.specs.Slots.{SameSlot, OnlySlot}
 use Rattle.compose.specs.declared.Composed.{Composed}

@@ -1,6 +1,6 @@
 // Step 7 of a turn: the older rules' right sides, ascending, each normalised by all live rules as they then read.
 ghost use Prim.Native.Nat.{_+_, _<_};
-ghost use Rattle.normaliser.specs.Stored.{Layout};
+ghost use Rattle.redex.specs.Stored.{Layout};
 ghost use Rattle.compose.specs.Rights.{One, All};
 
 // Verdict GOES_ON: done; SPENT; TOO_LARGE; or another, where a slot held no term. `units` are left.

@@ -10,7 +10,7 @@ use lib.ListN.{length, getD, drop, take, length-map, List·getD-append}
 use lib.Seq.{length-take-le, getD-take, take-append-le, drop-append-le}
 use Rattle.terms.specs.Base.{number-bytes}
 use Rattle.terms.specs.Term.{Pair, renamed}
-use Rattle.normaliser.specs.Stored.{Layout, Stored}
+use Rattle.redex.specs.Stored.{Layout, Stored}
 use Rattle.problem.specs.Problem.{Equation, Problem}
 use Rattle.completion.specs.Turn.{waiting-input, candidates, initial}
 use Rattle.completion.specs.Calls.{origin-bytes}

@@ -9,7 +9,7 @@ use Rattle.terms.proofs.Lists.{flatMap-append, flatMap-one}
 use Rattle.terms.specs.Base.{number-bytes, field-bytes}
 use Rattle.terms.specs.Term.{Pair}
 use Rattle.rewriting.specs.Overlap.{Rule, sides-of}
-use Rattle.normaliser.specs.Stored.{Layout, RuleAt, Stored}
+use Rattle.redex.specs.Stored.{Layout, RuleAt, Stored}
 use Rattle.completion.specs.Turn.{Origin, waiting-input, removed-rule, scanned-input, overlapping, Candidate, Entry, State as RunState, kept, removed}
 use Rattle.completion.specs.Calls.{origin-bytes, entry-field}
 use Rattle.completion.proofs.Result.{origin-bytes-length}
@@ -19,7 +19,7 @@ use Rattle.store.proofs.Listing.{rule-as, short-as, short-at, layout-dropped, l
 use Rattle.collapse.specs.Sifting.{pairs-of, origins-bytes, Shelf, shelf, Sift, Sifted}
 use Rattle.engine.specs.State.{Whole, FineBut, Fine, Represents}
 use Rattle.engine.specs.Steps.{entry-bytes, TakenState, CollapsedState, OrientedState, LoggedState}
-use Rattle.normaliser.proofs.Choosing.{layout-front}
+use Rattle.redex.proofs.Choosing.{layout-front}
 use Rattle.collapse.proofs.Lists.{front-less, any-table, number-more}
 
 -- an entry's bytes

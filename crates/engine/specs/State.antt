@@ -5,7 +5,7 @@ use Prim.Native.Nat.{ℕ, _+_, _*_, _≤_}
 use lib.ListN.{length, take}
 use Rattle.terms.specs.Base.{field-bytes}
 use Rattle.rewriting.specs.Overlap.{sides-of}
-use Rattle.normaliser.specs.Stored.{Layout, Stored}
+use Rattle.redex.specs.Stored.{Layout, Stored}
 use Rattle.completion.specs.Turn.{Entry, State as RunState}
 use Rattle.completion.specs.Calls.{entry-field}
 use Rattle.collapse.specs.Sifting.{pairs-of, origins-bytes}

@@ -6,7 +6,7 @@ use lib.ListN.{length}
 use Rattle.terms.specs.Base.{number-bytes}
 use Rattle.terms.specs.Term.{Pair, renamed}
 use Rattle.rewriting.specs.Overlap.{Rule}
-use Rattle.normaliser.specs.Stored.{RuleAt, Stored}
+use Rattle.redex.specs.Stored.{RuleAt, Stored}
 use Rattle.problem.specs.Problem.{Problem}
 use Rattle.completion.specs.Turn.{Origin, waiting-input, Candidate, State as RunState, initial, kept, removed}
 use Rattle.completion.specs.Calls.{origin-bytes}

@@ -5,7 +5,7 @@ ghost use Prim.Native.Nat.{_+_, _*_, _<_, _≤_};
 ghost use lib.ListN.{length, take};
 ghost use Rattle.completion.specs.Turn.{waiting-input};
 ghost use Rattle.completion.specs.Calls.{origin-bytes};
-ghost use Rattle.normaliser.specs.Stored.{Layout};
+ghost use Rattle.redex.specs.Stored.{Layout};
 ghost use Rattle.store.specs.Slots.{patched};
 ghost use Rattle.engine.specs.Steps.{numbered, entry-bytes, Begins, Takes, Collapses, Orients, Logs};
 

@@ -9,7 +9,7 @@ use lib.Seq.{drop-at, drop-drop}
 use Rattle.terms.specs.Term.{Term, size, term-bytes, Pair, renamed}
 use Rattle.terms.proofs.Every.{Every, of-none, of-cons}
 use Rattle.terms.proofs.Bytes.{length-bytes}
-use Rattle.normaliser.specs.Stored.{Layout, Stored}
+use Rattle.redex.specs.Stored.{Layout, Stored}
 use Rattle.problem.specs.Problem.{ok, due, Equation, Problem}
 use Rattle.problem.specs.Parser.{field-at, Table, ParsedAt}
 use Rattle.problem.proofs.Sides.{Both}

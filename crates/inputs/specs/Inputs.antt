@@ -6,7 +6,7 @@ use lib.ListN.{length, drop, take}
 use Rattle.terms.specs.Term.{Term, Pair, term-bytes, size, renamed}
 use Rattle.terms.specs.Flat.{Wf}
 use Rattle.terms.proofs.Every.{Every}
-use Rattle.normaliser.specs.Stored.{Layout, RuleAt, Stored}
+use Rattle.redex.specs.Stored.{Layout, RuleAt, Stored}
 use Rattle.problem.specs.Problem.{ok, due, Equation, Problem}
 use Rattle.problem.specs.Parser.{field-at, ParsedAt}
 use Rattle.store.specs.Slots.{OnlySlot, ShortAt}

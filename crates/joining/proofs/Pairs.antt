@@ -1,5 +1,5 @@
 -- `join_pair` by its returns: a side that does not come to a normal form, equal forms, different forms. Assumes nothing.
--- Read first: specs/Joins (PairWalk, compared), normaliser/specs/Stored (Normalised), proofs/Rooms (bare-room).
+-- Read first: specs/Joins (PairWalk, compared), normaliser/specs/Settled (Normalised), proofs/Rooms (bare-room).
 use mathlib.Core.Path.{_≡_, refl, sym, _∙_, ap, subst}
 use mathlib.Core.Bool.{Bool, true, false}
 use mathlib.Core.List.{List, [], append-nil}
@@ -17,7 +17,8 @@ use Rattle.rewriting.proofs.Holds.{Holds, NormalEnd, normalise-ends, goes-on≢
 use Rattle.completion.specs.Turn.{Origin, Candidate, if-different}
 use Rattle.completion.specs.Calls.{origin-bytes}
 use Rattle.matching.proofs.Replacing.{take-less-zero}
-use Rattle.normaliser.specs.Stored.{Stored, NormalIs, Normalised}
+use Rattle.redex.specs.Stored.{Stored}
+use Rattle.normaliser.specs.Settled.{NormalIs, Normalised}
 use Rattle.normaliser.specs.declared.Normal.{Normal}
 use Rattle.joining.specs.declared.Walk.{Walk}
 use Rattle.joining.specs.Joins.{Part, compared, Walked, found, short, large, on, Room, Bare, PairWalk}

@@ -7,7 +7,7 @@ use native.Mathlib.Omega.{arith}
 use lib.ListN.{length, getD, take, drop, length-drop}
 use lib.Seq.{length-take-le}
 use Rattle.terms.proofs.Flats.{widen}
-use Rattle.normaliser.specs.Stored.{Layout}
+use Rattle.redex.specs.Stored.{Layout}
 use Rattle.store.specs.Slots.{patched}
 use Rattle.store.proofs.Patching.{length-patched, front-more}
 use Rattle.store.proofs.Listing.{short-at}

@@ -9,7 +9,7 @@ use Rattle.rewriting.specs.Overlap.{Rule, sides-of}
 use Rattle.rewriting.specs.Rewrite.{complete, spent, too-large, end-number, goes-on, done, stop, Paying, _>>=_, normalise-pair}
 use Rattle.completion.specs.Turn.{Origin, Candidate, if-different}
 use Rattle.completion.specs.Calls.{origin-bytes}
-use Rattle.normaliser.specs.Stored.{Sides, RuleAt, Stored}
+use Rattle.redex.specs.Stored.{Sides, RuleAt, Stored}
 use Rattle.joining.specs.declared.Walk.{Walk}
 
 -- A part of the scan, before what follows it.

@@ -1,7 +1,7 @@
 // A pair's two normal forms, compared: of a pair in the buffers, and of a pair in a slot of a store.
 ghost use Prim.Native.Nat.{_+_, _≤_};
 ghost use lib.ListN.{length};
-ghost use Rattle.normaliser.specs.Stored.{Layout};
+ghost use Rattle.redex.specs.Stored.{Layout};
 ghost use Rattle.joining.specs.Joins.{Bare, PairWalk, SlotWalk};
 
 // Verdict GOES_ON: a pair with two different normal forms, which stand in the buffers, m and n bytes long; COMPLETE: none so far; SPENT; TOO_LARGE;

@@ -5,7 +5,7 @@ use mathlib.Core.List.{List}
 use Prim.Native.Nat.{ℕ, _*_}
 use lib.ListN.{take}
 use Rattle.rewriting.specs.Overlap.{sides-of}
-use Rattle.normaliser.specs.Stored.{Stored}
+use Rattle.redex.specs.Stored.{Stored}
 use Rattle.completion.specs.Turn.{State as RunState}
 use Rattle.engine.specs.State.{Whole, whole, Represents, Held}
 use Rattle.engine.specs.declared.State.{State}

@@ -11,7 +11,7 @@ use Rattle.problem.specs.Problem.{Problem}
 use Rattle.rewriting.specs.Overlap.{Rule, sides-of}
 use Rattle.rewriting.specs.Rewrite.{End, rules-full, Paid, done, stop, end-number, goes-on}
 use Rattle.rewriting.proofs.Holds.{NormalEnd, goes-on≢end}
-use Rattle.normaliser.specs.Stored.{Layout, Stored}
+use Rattle.redex.specs.Stored.{Layout, Stored}
 use Rattle.completion.specs.Turn.{Origin, State as RunState, Taken, kept, removed, normalise-rights, make-rule}
 use Rattle.completion.specs.Calls.{origin-bytes}
 use Rattle.completion.proofs.Turning.{new-rule, make-stops, make-rules-full, make-rights-stop, make-done}

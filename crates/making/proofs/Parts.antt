@@ -11,7 +11,7 @@ use Rattle.problem.specs.Problem.{rank-of, Problem}
 use Rattle.rewriting.specs.Overlap.{Rule, sides-of}
 use Rattle.rewriting.specs.Rewrite.{rules-full, log-full, Paid, done, stop, end-number, goes-on}
 use Rattle.rewriting.proofs.Holds.{goes-on≢end}
-use Rattle.normaliser.specs.Stored.{Layout, Sides, Stored, RuleAt}
+use Rattle.redex.specs.Stored.{Layout, Sides, Stored, RuleAt}
 use Rattle.store.specs.Slots.{ShortAt}
 use Rattle.store.proofs.Listing.{layout-of}
 use Rattle.completion.specs.Turn.{State as RunState, Taken, normalise-rights, make-rule}
@@ -25,7 +25,7 @@ use Rattle.orient.specs.Oriented.{oriented, OrientedIs, Placed}
 use Rattle.making.specs.Made.{Outcome, Stops, Stays, Safe, Finishes, without-taken, Makes, WithRule, SettledTurn, MakesTurn}
 use Rattle.making.proofs.Keeping.{said}
 use Rattle.making.proofs.Making.{finish-stops, finish-done, with-slots, slots-fine, make-unplaced, make-full, make-finished}
-use Rattle.normaliser.proofs.Choosing.{layout-front}
+use Rattle.redex.proofs.Choosing.{layout-front}
 use Rattle.making.proofs.Turns.{turn-full, turn-settled, turn-made, turn-not-made}
 
 -- a stop has no next state

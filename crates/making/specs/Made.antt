@@ -9,7 +9,7 @@ use Rattle.order.specs.Walk.{rank}
 use Rattle.problem.specs.Problem.{rank-of, Problem}
 use Rattle.rewriting.specs.Overlap.{Rule}
 use Rattle.rewriting.specs.Rewrite.{neither-above, end-number, goes-on, Paid, done, stop}
-use Rattle.normaliser.specs.Stored.{Sides, RuleAt}
+use Rattle.redex.specs.Stored.{Sides, RuleAt}
 use Rattle.completion.specs.Turn.{Origin, Candidate, State as RunState, Taken, take-pair, normalise-rights, make-rule, turn}
 use Rattle.completion.specs.Calls.{origin-bytes}
 use Rattle.engine.specs.State.{Whole, whole, Fine, FineBut, Represents, Held}

@@ -3,7 +3,7 @@ ghost use mathlib.Core.Path.{_≡_};
 ghost use mathlib.Core.List.{[]};
 ghost use Prim.Native.Nat.{_+_, _<_, _≤_};
 ghost use lib.ListN.{length};
-ghost use Rattle.normaliser.specs.Stored.{Layout};
+ghost use Rattle.redex.specs.Stored.{Layout};
 ghost use Rattle.engine.specs.State.{whole, Fine};
 ghost use Rattle.making.specs.Made.{outcome, Answers, FinishesIn, WithRule, Makes, Settles, MakesIn};
 use engine::State;

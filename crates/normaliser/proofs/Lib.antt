@@ -1,7 +1,4 @@
-pub mod Marking
 pub mod Sequence
-pub mod Choosing
-pub mod OneStep
 pub mod Parts
 pub mod Settling
 pub mod Together

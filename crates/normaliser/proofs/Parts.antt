@@ -1,25 +1,19 @@
--- Parts of a list, lent and given back, and what stands first in one; the limit less what stands before. Assumes nothing.
+-- Parts of a list, lent and given back; the limit less what stands before. Assumes nothing.
 -- Read first: terms/proofs/Starts (from).
 use mathlib.Core.Path.{_≡_, refl, sym, _∙_, ap, ap₂}
 use mathlib.Core.Bool.{Bool, true, false}
-use mathlib.Core.List.{List, _∷_, _++_, append-nil, nil≢cons}
-use Prim.Native.Nat.{ℕ, zero, suc, _+_, _-_, _<_, _≤_}
+use mathlib.Core.List.{List, _++_, append-nil}
+use Prim.Native.Nat.{ℕ, _+_, _-_, _<_, _≤_}
 use native.Mathlib.Omega.{arith}
 use lib.Dec.{ltb}
 use borrow.Author.Tests.{lt-ltb, le-ltb, ltb-true, ltb-false}
-use lib.ListN.{length, getD, drop, take, length-append, length-drop, drop-of-length-le}
-use lib.Seq.{take-append-add, length-take-le, getD-take, getD-drop}
+use lib.ListN.{length, drop, take, length-append, length-drop, drop-of-length-le}
+use lib.Seq.{take-append-add, length-take-le}
 use Rattle.terms.proofs.Lists.{take-drop}
 use Rattle.terms.proofs.Starts.{from, from-drop}
 
 abbrev pub back : ℕ → List ℕ → List ℕ → List ℕ
 back a t q = take a t ++ (q ++ drop (length t - a) (drop a t))
-
-pub head-of : (t : List ℕ) (n a b : ℕ) (l : List ℕ) → take n (drop a t) ≡ b ∷ l → getD t a 0 ≡ b
-head-of t zero a b l e = absurd (nil≢cons e)
-head-of t (suc n) a b l e =
-    let i : a + 0 ≡ a = omega arith in
-    sym (getD-take (suc n) (drop a t) 0 0 (omega arith) ∙ getD-drop a t 0 0 ∙ ap (λ z. getD t z 0) i) ∙ ap (λ z. getD z 0 0) e
 
 pub from-take : (a l : ℕ) (t : List ℕ) → a ≤ l → take (l - a) (from t a) ≡ drop a (take l t)
 from-take a l t h =

@@ -1,5 +1,5 @@
 -- The turns of `settle`: normalising the term at hand, with the units left, comes to what was asked; and a lemma for each return. Assumes nothing.
--- Read first: specs/Stored (Holds, Settled, Rewritten), specs/Marks, proofs/Sequence, proofs/Parts.
+-- Read first: specs/Settled (Settled), redex/specs/Step (Holds, Rewritten), redex/specs/Marks, proofs/Sequence, proofs/Parts.
 use mathlib.Core.Path.{_≡_, refl, sym, _∙_, ap, ap₂, subst}
 use mathlib.Core.Bool.{Bool, true, false}
 use mathlib.Core.List.{List, [], _∷_, _++_}
@@ -23,12 +23,15 @@ use Rattle.rewriting.proofs.Holds.{goes-on≢end}
 use Rattle.matching.specs.Cells.{cells, cells-all, root-byte, cells-below}
 use Rattle.matching.proofs.Celled.{length-cells, cells-root, root-low, cell-size}
 use Rattle.normaliser.specs.Inside.{pay-for, normalise-in, normalise-all}
-use Rattle.normaliser.specs.Marks.{Marked, MarkedAll, leaf, visit, leave, no-more, ArgumentsNormal, open-cells}
-use Rattle.normaliser.specs.Stored.{Stored, Holds, HoldsAll, rewritten, no-term, Tested, Wrote, Rewritten, out, Left, EndsWith, EndsAll, Limit, Settled, SettledAll}
-use Rattle.normaliser.specs.declared.Out.{Out}
+use Rattle.redex.specs.Marks.{Marked, MarkedAll, leaf, visit, leave, no-more, ArgumentsNormal, open-cells}
+use Rattle.redex.specs.Stored.{Stored}
+use Rattle.redex.specs.Step.{Holds, rewritten, Tested, Wrote, Rewritten, out}
+use Rattle.normaliser.specs.Settled.{HoldsAll, no-term, Left, EndsWith, EndsAll, Limit, Settled, SettledAll}
+use Rattle.redex.specs.declared.Out.{Out}
 use Rattle.normaliser.proofs.Sequence.{at-root, iterate-normal, normalise-normal, normalise-var, normalise-node, normalise-nil}
-use Rattle.normaliser.proofs.Marking.{marked-length}
-use Rattle.normaliser.proofs.Parts.{back, head-of, from-take, back-length, back-take, ltb-less}
+use Rattle.redex.proofs.Marking.{marked-length}
+use Rattle.redex.proofs.Choosing.{head-of}
+use Rattle.normaliser.proofs.Parts.{back, from-take, back-length, back-take, ltb-less}
 
 -- `leave`
 pub leave-long : (c len units e : ℕ) (o : Out) → o ≡ out no-term units len 0 → e ≡ c / 256 → len < e → Left c len units o

@@ -1,6 +1,6 @@
 -- The turns of `settle_all`: the terms still to be normalised, behind those that are, come to what all come to; and a lemma for each return. Assumes
 -- nothing.
--- Read first: specs/Stored (Settled, SettledAll), proofs/Sequence, proofs/Parts.
+-- Read first: specs/Settled (Settled, SettledAll), proofs/Sequence, proofs/Parts.
 use mathlib.Core.Path.{_≡_, refl, sym, _∙_, ap, ap₂, subst}
 use mathlib.Core.Bool.{Bool}
 use mathlib.Core.List.{List, _++_, append-assoc, append-nil}
@@ -19,11 +19,13 @@ use Rattle.rewriting.specs.Rewrite.{Paid, done, stop, and-then, goes-on}
 use Rattle.matching.specs.Cells.{cells, cells-all}
 use Rattle.matching.proofs.Celled.{length-cells}
 use Rattle.normaliser.specs.Inside.{normalise-in, normalise-all}
-use Rattle.normaliser.specs.Marks.{Marked, MarkedAll, no-more, more}
-use Rattle.normaliser.specs.Stored.{Stored, HoldsAll, out, EndsWith, EndsAll, Limit, Settled, SettledAll}
-use Rattle.normaliser.specs.declared.Out.{Out}
+use Rattle.redex.specs.Marks.{Marked, MarkedAll, no-more, more}
+use Rattle.redex.specs.Stored.{Stored}
+use Rattle.redex.specs.Step.{out}
+use Rattle.normaliser.specs.Settled.{HoldsAll, EndsWith, EndsAll, Limit, Settled, SettledAll}
+use Rattle.redex.specs.declared.Out.{Out}
 use Rattle.normaliser.proofs.Sequence.{normalise-nil, normalise-cons, then-others}
-use Rattle.normaliser.proofs.Marking.{marked-lengths}
+use Rattle.redex.proofs.Marking.{marked-lengths}
 use Rattle.normaliser.proofs.Parts.{back, from-take, back-length, back-take, ltb-less}
 
 -- Of n terms k are still to do, from the cell p on; `behind` puts those in front of them that are done, and all come to `goal`.

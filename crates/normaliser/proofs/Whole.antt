@@ -1,6 +1,6 @@
 -- `normalise` and `reducible`: `settle` with the limit 120 and nothing behind the term is the definition's; the units paid are those it takes; with
 -- none it stops exactly where there is a step. Assumes nothing.
--- Read first: specs/Stored (Settled, Normalised, Reducible), proofs/Sequence, proofs/Marking, proofs/Loading.
+-- Read first: specs/Settled (Settled, Normalised, Reducible), proofs/Sequence, proofs/Loading, redex/proofs/Marking (plain).
 use mathlib.Core.Path.{_≡_, refl, sym, _∙_, ap, subst}
 use mathlib.Core.List.{List, [], _++_, append-nil}
 use mathlib.Core.Option.{Option, none, some}
@@ -18,10 +18,11 @@ use Rattle.rewriting.specs.Rewrite.{Paid, done, stop, spent, step, normalise, e
 use Rattle.matching.specs.Cells.{cells, node-bytes}
 use Rattle.matching.proofs.Celled.{bytes-cells}
 use Rattle.normaliser.specs.Inside.{pay-for, normalise-in}
-use Rattle.normaliser.specs.Stored.{Stored, EndsWith, Limit, Settled, NormalIs, Normalised, Reducible}
-use Rattle.normaliser.specs.declared.Out.{Out}
+use Rattle.redex.specs.Stored.{Stored}
+use Rattle.normaliser.specs.Settled.{EndsWith, Limit, Settled, NormalIs, Normalised, Reducible}
+use Rattle.redex.specs.declared.Out.{Out}
 use Rattle.normaliser.proofs.Loading.{bytes-length}
-use Rattle.normaliser.proofs.Marking.{plain}
+use Rattle.redex.proofs.Marking.{plain}
 use Rattle.normaliser.proofs.Sequence.{iterate-step, normalise-normal, normalise-whole}
 
 -- The bytes S are loaded into 120 cells, t₁, and settled, t₂.

@@ -1,3 +1,2 @@
 pub mod Inside
-pub mod Marks
-pub mod Stored
+pub mod Settled

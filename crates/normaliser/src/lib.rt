@@ -1,121 +1,15 @@
-// Rules in slots, and normalising terms by them. Inside, a term stands in cells: a subterm that is known to be normal has its size in its cell.
+// Normalising terms by rules in slots. Inside, a term stands in cells: a subterm that is known to be normal has its size in its cell.
+use redex::Out;
 ghost use mathlib.Core.Path.{_≡_};
 ghost use mathlib.Core.List.{[], _++_};
-ghost use Prim.Native.Nat.{_+_, _<_, _≤_};
-ghost use lib.ListN.{length, drop, take};
+ghost use Prim.Native.Nat.{_≤_};
+ghost use lib.ListN.{length, drop};
 ghost use Rattle.matching.specs.Cells.{node-bytes};
-ghost use Rattle.matching.specs.Held.{Within};
-ghost use Rattle.matching.specs.Pieces.{Put, replaced};
-ghost use Rattle.normaliser.specs.Stored.{Layout, Fitted, Found, right-side, Rewritten, out, Left, Settled, SettledAll, Normalised, Reducible};
+ghost use Rattle.redex.specs.Stored.{Layout};
+ghost use Rattle.normaliser.specs.Settled.{Left, Settled, SettledAll, Normalised, Reducible};
 
-// Whether rule k matches at the start of t.
-fn fits(rules: &[u8], lens: &[u8], k: usize, t: &[u16], binds: &mut [u8]) -> bool
-    requires { ⌜ Layout [] (now rules) (now lens) (k + 1) ⌝ }
-    requires { ⌜ (0 < length (now t)) × (length (now t) ≤ 120) × (16 ≤ length (now binds)) ⌝ }
-    ensures { λ r. ⌜ Fitted (now (rules .entry)) (now (lens .entry)) (now (t .entry)) k (now (binds .entry)) r (now (binds .exit)) ⌝ }
-{
-    let a = 240 * k;
-    let b = rules[a];
-    if b < 128 {
-        if matching::byte_of(t[0]) != b {
-            return false;
-        }
-    }
-    let n = terms::wide(lens[2 * k]);
-    matching::matches(&rules[a..a + n], t, binds)
-}
-
-// The lowest rule that matches at the start of t, or count.
-fn find(rules: &[u8], lens: &[u8], count: usize, t: &[u16], binds: &mut [u8]) -> usize
-    requires { ⌜ Layout [] (now rules) (now lens) count ⌝ }
-    requires { ⌜ (0 < length (now t)) × (length (now t) ≤ 120) × (16 ≤ length (now binds)) ⌝ }
-    ensures { λ r. ⌜ Found (now (rules .entry)) (now (lens .entry)) (now (t .entry)) count r (now (binds .entry)) (now (binds .exit)) ⌝ }
-{
-    let mut k = 0;
-    while k < count {
-        if fits(rules, lens, k, t, binds) {
-            return k;
-        }
-        k += 1;
-    }
-    k
-}
-
-// Verdicts that are no end: a step was made at the root; no term stands there.
-const REWRITTEN: u8 = 2;
-
+// The verdict where no term stands; no end has it.
 const NO_TERM: u8 = 3;
-
-// Verdict GOES_ON: normal; SPENT; TOO_LARGE; REWRITTEN; NO_TERM.
-pub struct Out {
-    pub verdict: u8,
-    pub units: u32,
-    pub len: usize,
-    pub end: usize,
-}
-
-fn ended(verdict: u8, units: u32, len: usize, end: usize) -> Out
-    ensures { λ r. ⌜ r ≡ out verdict units len end ⌝ }
-{
-    Out {
-        verdict: verdict,
-        units: units,
-        len: len,
-        end: end,
-    }
-}
-
-// The redex at the start of t is replaced by the instance of rule k's right side: the length, or most + 1.
-fn contract(
-    t: &mut [u16],
-    len: usize,
-    end: usize,
-    most: usize,
-    rules: &[u8],
-    lens: &[u8],
-    k: usize,
-    binds: &[u8],
-) -> usize
-    requires { ⌜ Layout [] (now rules) (now lens) (k + 1) ⌝ }
-    requires { ⌜ (end ≤ len) × (len ≤ most) × (most ≤ length (now t)) × (most ≤ 120) ⌝ }
-    requires { ⌜ (16 ≤ length (now binds)) × Within (take len (now t)) (now binds) ⌝ }
-    ensures { λ r. ⌜ Put (now (t .entry)) (now (t .exit)) 0 most r (replaced (take len (now (t .entry))) (now (binds .entry)) (right-side (now (rules .entry)) (now (lens .entry)) k) end) ⌝ }
-{
-    let a = 240 * k + 120;
-    let m = terms::wide(lens[2 * k + 1]);
-    matching::replace(t, len, end, most, &rules[a..a + m], binds)
-}
-
-// The term at the start of t, whose arguments are normal, ends at `end`: its root's cell has its size, and one step is made there if a rule matches.
-fn rewrite(
-    t: &mut [u16],
-    len: usize,
-    end: usize,
-    most: usize,
-    rules: &[u8],
-    lens: &[u8],
-    count: usize,
-    units: u32,
-) -> Out
-    requires { ⌜ Layout [] (now rules) (now lens) count ⌝ }
-    requires { ⌜ (0 < end) × (end ≤ len) × (len ≤ most) × (most ≤ length (now t)) × (most ≤ 120) ⌝ }
-    ensures { λ r. ⌜ Rewritten (now (rules .entry)) (now (lens .entry)) count (now (t .entry)) (now (t .exit)) len end most units r ⌝ }
-{
-    t[0] = matching::sized(t[0], end);
-    let mut binds = [0u8; 16];
-    let k = find(rules, lens, count, &t[0..len], &mut binds);
-    if k == count {
-        return ended(rewriting::GOES_ON, units, len, end);
-    }
-    if units == 0 {
-        return ended(rewriting::SPENT, 0, len, end);
-    }
-    let w = contract(t, len, end, most, rules, lens, k, &binds);
-    if w > most {
-        return ended(rewriting::TOO_LARGE, units - 1, len, end);
-    }
-    ended(REWRITTEN, units - 1, w, 0)
-}
 
 // The term at the start, whose root has the cell c, is normal. It would be no term where it ends beyond len.
 fn leave(c: u16, len: usize, units: u32) -> Out
@@ -124,9 +18,9 @@ fn leave(c: u16, len: usize, units: u32) -> Out
 {
     let e = matching::size_of(c);
     if e > len {
-        return ended(NO_TERM, units, len, 0);
+        return redex::ended(NO_TERM, units, len, 0);
     }
-    ended(rewriting::GOES_ON, units, len, e)
+    redex::ended(rewriting::GOES_ON, units, len, e)
 }
 
 // Normalises the term at the start of t, of which `len` cells are in use and at most `most` may be.
@@ -148,7 +42,7 @@ fn settle(
     let mut u = units;
     loop {
         if l == 0 {
-            return ended(NO_TERM, u, 0, 0);
+            return redex::ended(NO_TERM, u, 0, 0);
         }
         let c = t[0];
         if c >= 256 {
@@ -160,8 +54,8 @@ fn settle(
         if r.verdict != rewriting::GOES_ON {
             return r;
         }
-        let s = rewrite(t, r.len + 1, r.end + 1, most, rules, lens, count, r.units);
-        if s.verdict != REWRITTEN {
+        let s = redex::rewrite(t, r.len + 1, r.end + 1, most, rules, lens, count, r.units);
+        if s.verdict != redex::REWRITTEN {
             return s;
         }
         l = s.len;
@@ -200,7 +94,7 @@ fn settle_all(
         u = r.units;
         k -= 1;
     }
-    ended(rewriting::GOES_ON, u, l, p)
+    redex::ended(rewriting::GOES_ON, u, l, p)
 }
 
 fn cell(b: u8) -> u16

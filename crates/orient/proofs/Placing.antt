@@ -30,7 +30,7 @@ use Rattle.completion.specs.Turn.{orient}
 use Rattle.store.specs.Slots.{patched, Holds, OnlySlot}
 use Rattle.store.proofs.Listing.{rule-put, short-put, slot-kept}
 use Rattle.orient.specs.Seen.{Counted}
-use Rattle.normaliser.specs.Stored.{Sides}
+use Rattle.redex.specs.Stored.{Sides}
 use Rattle.orient.specs.Oriented.{oriented, PutRenamed, Placed}
 
 -- The two sides in the buffer.

@@ -7,7 +7,7 @@ use lib.ListN.{length}
 use Rattle.terms.specs.Term.{Pair, pair-variables, renamed}
 use Rattle.order.specs.Walk.{rank}
 use Rattle.rewriting.specs.Rewrite.{Paid, done, stop, Paying, too-large, neither-above, _>>=_, end-if, end-number, goes-on}
-use Rattle.normaliser.specs.Stored.{Sides, RuleAt}
+use Rattle.redex.specs.Stored.{Sides, RuleAt}
 use Rattle.problem.specs.Problem.{rank-of, Problem}
 use Rattle.completion.specs.Turn.{orient}
 use Rattle.store.specs.Slots.{OnlySlot, ShortAt}

@@ -22,7 +22,7 @@ use Rattle.terms.proofs.Subst.{subst-subst}
 use Rattle.unify.specs.Unify.{Binding, mgu}
 use Rattle.unify.proofs.Correct.{mgu-right, unifier}
 use Rattle.rewriting.specs.Overlap.{Overlap, apart, overlap, overlap-at, overlap-by}
-use Rattle.normaliser.specs.Stored.{Sides, RuleAt}
+use Rattle.redex.specs.Stored.{Sides, RuleAt}
 use Rattle.overlaps.specs.declared.Met.{Met}
 use Rattle.overlaps.specs.declared.Met.the-variants.{Nothing}
 use Rattle.laying.specs.Layout.{LaysFour}

@@ -1,5 +1,5 @@
 -- The sides of stored rules: where they lie, and the terms that they spell. Assumes nothing.
--- Read first: normaliser/specs/Stored (Layout, RuleAt), specs/Answer (side-bytes).
+-- Read first: redex/specs/Stored (Layout, RuleAt), specs/Answer (side-bytes).
 use mathlib.Core.Path.{_≡_, ap, _∙_}
 use mathlib.Core.List.{List}
 use Prim.Native.Nat.{ℕ, _+_, _-_, _*_, _≤_, _<_}
@@ -8,7 +8,7 @@ use native.Mathlib.Nat.{add-sub-cancel-left}
 use lib.ListN.{length, getD, take, drop, length-drop}
 use lib.Seq.{length-take-le}
 use Rattle.terms.specs.Term.{Pair}
-use Rattle.normaliser.specs.Stored.{Layout, Sides, RuleAt}
+use Rattle.redex.specs.Stored.{Layout, Sides, RuleAt}
 use Rattle.overlaps.specs.Answer.{side-bytes}
 
 -- a side lies in its slot

@@ -11,7 +11,7 @@ use Rattle.terms.specs.Flat.{Wfs}
 use Rattle.unify.specs.Unify.{Binding, mgu, under}
 use Rattle.pairs.specs.Placed.{Kept}
 use Rattle.rewriting.specs.Overlap.{Overlap, overlap}
-use Rattle.normaliser.specs.Stored.{Sides, RuleAt}
+use Rattle.redex.specs.Stored.{Sides, RuleAt}
 use Rattle.overlaps.specs.declared.Met.{Met}
 use Rattle.overlaps.specs.declared.Met.the-variants.{Nothing, TooLarge, Found}
 

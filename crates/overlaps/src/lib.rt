@@ -2,7 +2,7 @@
 ghost use mathlib.Core.Path.{_≡_};
 ghost use Prim.Native.Nat.{_+_, _*_, _<_, _≤_};
 ghost use lib.ListN.{length, getD};
-ghost use Rattle.normaliser.specs.Stored.{Layout};
+ghost use Rattle.redex.specs.Stored.{Layout};
 ghost use Rattle.overlaps.specs.Answer.{side-bytes, Solves, Meets, Overlapped};
 
 pub enum Met {

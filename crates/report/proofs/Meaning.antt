@@ -11,7 +11,7 @@ use Rattle.terms.specs.Base.{if_then_else_, number-bytes, Tagged, field-bytes}
 use Rattle.terms.specs.Term.{Pair, renamed}
 use Rattle.rewriting.specs.Overlap.{Rule, sides-of}
 use Rattle.rewriting.specs.Rewrite.{End, complete, neither-above, spent, too-large, rules-full, log-full, end-number}
-use Rattle.normaliser.specs.Stored.{Sides, RuleAt, Stored}
+use Rattle.redex.specs.Stored.{Sides, RuleAt, Stored}
 use Rattle.naming.specs.Names.{renamed-bytes}
 use Rattle.naming.proofs.Renaming.{Low}
 use Rattle.naming.proofs.Pairs.{wf-low, renamed-pair}

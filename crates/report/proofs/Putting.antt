@@ -7,7 +7,7 @@ use native.Mathlib.Omega.{arith}
 use lib.ListN.{length, getD, take, drop, set, length-append, length-drop}
 use lib.Seq.{length-take-le}
 use Rattle.terms.specs.Base.{number-bytes, field-bytes}
-use Rattle.normaliser.specs.Stored.{Layout}
+use Rattle.redex.specs.Stored.{Layout}
 use Rattle.store.specs.Slots.{patched, ShortAt}
 use Rattle.store.proofs.Listing.{short-at}
 use Rattle.store.proofs.Patching.{length-patched}

@@ -5,7 +5,7 @@ use mathlib.Core.List.{List, []}
 use Prim.Native.Nat.{ℕ, _≤_}
 use native.Mathlib.Omega.{arith}
 use lib.ListN.{length}
-use Rattle.normaliser.specs.Stored.{Layout}
+use Rattle.redex.specs.Stored.{Layout}
 use Rattle.completion.specs.Turn.{State as RunState}
 use Rattle.engine.specs.declared.State.{State}
 use Rattle.engine.specs.State.{whole, Held}

@@ -6,7 +6,7 @@ use Prim.Native.Nat.{ℕ, zero, suc, _+_, _*_, _≤_}
 use lib.Dec.{eqb, ltb}
 use lib.ListN.{length, getD, take, drop}
 use Rattle.terms.specs.Base.{if_then_else_, number-bytes, Tagged, field-bytes}
-use Rattle.normaliser.specs.Stored.{Layout}
+use Rattle.redex.specs.Stored.{Layout}
 use Rattle.naming.specs.Names.{renamed-bytes}
 use Rattle.completion.specs.Calls.{written}
 use Rattle.store.specs.Slots.{patched}

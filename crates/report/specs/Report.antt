@@ -7,7 +7,7 @@ use Rattle.terms.specs.Base.{field-bytes}
 use Rattle.terms.specs.Term.{Pair}
 use Rattle.rewriting.specs.Overlap.{Rule, sides-of}
 use Rattle.rewriting.specs.Rewrite.{neither-above, end-number}
-use Rattle.normaliser.specs.Stored.{Sides, Stored}
+use Rattle.redex.specs.Stored.{Sides, Stored}
 use Rattle.completion.specs.Turn.{State as RunState, Finished}
 use Rattle.completion.specs.Calls.{entry-field, result-bytes}
 use Rattle.engine.specs.declared.State.{State}

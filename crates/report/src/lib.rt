@@ -4,7 +4,7 @@ ghost use mathlib.Core.List.{[], _∷_, _++_, flatMap};
 ghost use Prim.Native.Nat.{_+_, _*_, _<_, _≤_};
 ghost use lib.ListN.{length, take, drop};
 ghost use Rattle.terms.specs.Base.{number-bytes, field-bytes};
-ghost use Rattle.normaliser.specs.Stored.{Layout};
+ghost use Rattle.redex.specs.Stored.{Layout};
 ghost use Rattle.naming.specs.Names.{collect, renamed-bytes};
 ghost use Rattle.report.specs.Fields.{Puts, PutsSome, Lent, tagged, slot-field, slot-fields, low, forms-bytes};
 ghost use Rattle.report.specs.Report.{Reports, OfState};

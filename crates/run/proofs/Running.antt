@@ -5,7 +5,7 @@ use mathlib.Core.List.{List, []}
 use Prim.Native.Nat.{ℕ, _+_, _-_, _≤_}
 use native.Mathlib.Omega.{arith}
 use Rattle.problem.specs.Problem.{Problem}
-use Rattle.normaliser.specs.Stored.{Layout}
+use Rattle.redex.specs.Stored.{Layout}
 use Rattle.rewriting.specs.Rewrite.{Paid, done, stop, goes-on}
 use Rattle.rewriting.proofs.Holds.{goes-on≢end}
 use Rattle.completion.specs.Turn.{State as RunState, Finished, turn, run}

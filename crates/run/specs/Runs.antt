@@ -5,7 +5,7 @@ use Prim.Native.Nat.{ℕ, _-_, _≤_}
 use Rattle.terms.specs.Term.{Pair}
 use Rattle.problem.specs.Problem.{Problem}
 use Rattle.rewriting.specs.Rewrite.{neither-above, end-number}
-use Rattle.normaliser.specs.Stored.{Layout}
+use Rattle.redex.specs.Stored.{Layout}
 use Rattle.completion.specs.Turn.{Finished, run}
 use Rattle.engine.specs.State.{Whole, Held}
 use Rattle.engine.specs.declared.State.{State}

@@ -2,7 +2,7 @@
 ghost use mathlib.Core.Path.{_≡_};
 ghost use Prim.Native.Nat.{_-_, _≤_};
 ghost use lib.ListN.{length};
-ghost use Rattle.normaliser.specs.Stored.{Layout};
+ghost use Rattle.redex.specs.Stored.{Layout};
 ghost use Rattle.engine.specs.State.{whole};
 ghost use Rattle.run.specs.Runs.{with-units, Ends, Runs};
 use engine::State;

@@ -17,7 +17,7 @@ use Rattle.rewriting.specs.Overlap.{Rule, Overlap, overlap, Place}
 use Rattle.rewriting.specs.Rewrite.{complete, too-large, end-number, Paid, done, stop, Paying, return, end-with, and-then, _>>=_, end-if, hold, normalise-pair}
 use Rattle.completion.specs.Turn.{Origin, overlapping, Candidate, scan-overlap, if-different, if-different-overlap}
 use Rattle.completion.specs.Calls.{origin-bytes}
-use Rattle.normaliser.specs.Stored.{Layout, RuleAt, Stored}
+use Rattle.redex.specs.Stored.{Layout, RuleAt, Stored}
 use Rattle.overlaps.specs.declared.Met.{Met}
 use Rattle.overlaps.specs.declared.Met.the-variants.{Nothing, TooLarge, Found}
 use Rattle.overlaps.specs.Answer.{Answered, Says, Short, Overlapped}

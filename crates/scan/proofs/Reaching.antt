@@ -7,7 +7,7 @@ use native.Mathlib.Omega.{arith}
 use lib.ListN.{length}
 use Rattle.rewriting.specs.Overlap.{Rule}
 use Rattle.rewriting.specs.Rewrite.{complete, end-number}
-use Rattle.normaliser.specs.Stored.{Layout}
+use Rattle.redex.specs.Stored.{Layout}
 use Rattle.joining.specs.declared.Walk.{Walk}
 use Rattle.joining.specs.Joins.{Part, Bare}
 use Rattle.scan.specs.declared.spots.Spot.{Spot}

@@ -8,7 +8,7 @@ use Rattle.problem.specs.Problem.{Equation}
 use Rattle.rewriting.specs.Overlap.{Rule, sides-of, overlap, Place, all-places}
 use Rattle.rewriting.specs.Rewrite.{end-number, goes-on, Paid, done, stop, _>>=_}
 use Rattle.completion.specs.Turn.{scanned-input, Candidate, candidates, scan-overlap, if-different-overlap, scan}
-use Rattle.normaliser.specs.Stored.{Stored}
+use Rattle.redex.specs.Stored.{Stored}
 use Rattle.joining.specs.declared.Walk.{Walk}
 use Rattle.joining.specs.Joins.{Part, compared, Shows, Walked, Room}
 use Rattle.scan.specs.declared.spots.Spot.{Spot}

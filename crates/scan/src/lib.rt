@@ -4,7 +4,7 @@ mod spots;
 
 ghost use Prim.Native.Nat.{_<_, _≤_};
 ghost use lib.ListN.{length};
-ghost use Rattle.normaliser.specs.Stored.{Layout};
+ghost use Rattle.redex.specs.Stored.{Layout};
 ghost use Rattle.scan.specs.Walk.{Walks, Holds, at-place, of-rules, Given, of-inputs, Scanned};
 use joining::Walk;
 use overlaps::Met;

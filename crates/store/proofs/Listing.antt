@@ -1,5 +1,5 @@
 -- Pairs in slots: a pair depends on its slot alone, so putting, replacing, dropping or moving a slot does the same to the list. Assumes nothing.
--- Read first: specs/Slots, normaliser/specs/Stored (Layout, RuleAt, Stored).
+-- Read first: specs/Slots, redex/specs/Stored (Layout, RuleAt, Stored).
 use mathlib.Core.Path.{_≡_, refl, sym, ap, _∙_, subst}
 use mathlib.Core.Logic.{_⊎_, inl, inr, ⊎-elim}
 use mathlib.Core.List.{List, [], _∷_, _++_}
@@ -10,7 +10,7 @@ use lib.ListN.{length, getD, drop, take}
 use lib.Seq.{take-take, drop-drop}
 use Rattle.terms.specs.Term.{Term, Pair, term-bytes}
 use Rattle.terms.specs.Flat.{Wf}
-use Rattle.normaliser.specs.Stored.{Layout, RuleAt, Stored}
+use Rattle.redex.specs.Stored.{Layout, RuleAt, Stored}
 use Rattle.store.specs.Slots.{ShortAt, SlotAs, SameSlot, Holds, OnlySlot, RightIs, Dropped, Room}
 
 -- a part of a front

@@ -13,7 +13,7 @@ use Rattle.problem.specs.Problem.{Problem}
 use Rattle.rewriting.specs.Overlap.{Rule, all-places}
 use Rattle.rewriting.specs.Rewrite.{complete, spent, end-number, goes-on, Paid, done, stop}
 use Rattle.rewriting.proofs.Holds.{goes-on≢end}
-use Rattle.normaliser.specs.Stored.{Sides, Stored}
+use Rattle.redex.specs.Stored.{Sides, Stored}
 use Rattle.matching.proofs.Replacing.{take-less-zero}
 use Rattle.store.proofs.Listing.{stored-first}
 use Rattle.completion.specs.Turn.{scanned-input, Candidate, State as RunState, candidates, scan, turn}

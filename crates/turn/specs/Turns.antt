@@ -7,7 +7,7 @@ use Rattle.terms.specs.Term.{Pair, renamed}
 use Rattle.order.specs.Walk.{rank}
 use Rattle.problem.specs.Problem.{rank-of, Problem}
 use Rattle.rewriting.specs.Rewrite.{Paid, goes-on}
-use Rattle.normaliser.specs.Stored.{Sides, Stored}
+use Rattle.redex.specs.Stored.{Sides, Stored}
 use Rattle.completion.specs.Turn.{State as RunState, turn}
 use Rattle.engine.specs.State.{Whole, Represents}
 use Rattle.making.specs.Made.{Outcome, Kept, Safe, TurnWith}

@@ -2,7 +2,7 @@
 ghost use mathlib.Core.Path.{_≡_};
 ghost use Prim.Native.Nat.{_<_, _≤_};
 ghost use lib.ListN.{length, take};
-ghost use Rattle.normaliser.specs.Stored.{Layout};
+ghost use Rattle.redex.specs.Stored.{Layout};
 ghost use Rattle.engine.specs.State.{whole, Fine};
 ghost use Rattle.joining.specs.Joins.{SlotWalk};
 ghost use Rattle.scan.specs.Walk.{Scanned};

@@ -2,7 +2,7 @@
 -- nothing.
 -- Read first: specs/Sifting (SiftedOne), proofs/Siftings.
 use Rattle.collapse.proofs.Siftings.{sift-removed, sift-kept}
-use Rattle.normaliser.proofs.Choosing.{layout-below}
+use Rattle.redex.proofs.Choosing.{layout-below}
 use mathlib.Core.List.{[]}
 use borrow.Author.Needs.{needs}
 use Rattle.collapse.proofs.sift.Statement.{statement}

@@ -1,6 +1,6 @@
 -- `compose_one`: the right side is read, normalised, and written back if it came to a normal form: `stopped`, `composed`. Assumes nothing.
 -- Read first: specs/Rights (One), proofs/Single.
-use Rattle.normaliser.proofs.Choosing.{layout-front}
+use Rattle.redex.proofs.Choosing.{layout-front}
 use Rattle.compose.proofs.Single.{stopped, composed}
 use Rattle.store.proofs.Listing.{room-at, short-at}
 use borrow.Author.Needs.{needs}

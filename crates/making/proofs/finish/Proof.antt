@@ -4,7 +4,7 @@ use native.Mathlib.Omega.{arith}
 use mathlib.Core.Path.{refl, _∙_}
 use Rattle.making.proofs.Keeping.{stays}
 use Rattle.making.proofs.Copying.{copied, pasted-room, logged-copy}
-use Rattle.normaliser.proofs.Choosing.{layout-front}
+use Rattle.redex.proofs.Choosing.{layout-front}
 use Rattle.making.proofs.Parts.{finishes-stop, finishes-done, composed-fine}
 use borrow.Author.Needs.{needs}
 use Rattle.making.proofs.finish.Statement.{statement}

@@ -1,6 +1,6 @@
 -- `settle` and `settle_all` call each other; 1000 times the units and twice the cells in use (and 1 for `settle_all`) fall. Assumes nothing. The loop
 -- of `settle`: the term at hand comes to what was asked; the units fall. That of `settle_all`: the terms still to do; their number falls.
--- Read first: specs/Stored (Settled), proofs/Settling, proofs/Together.
+-- Read first: specs/Settled (Settled), proofs/Settling, proofs/Together.
 use borrow.Author.Needs.{needs}
 use Prim.Native.Nat.{ℕ, _<_}
 use borrow.Fn.Kinds.{In}
@@ -12,9 +12,9 @@ use Rattle.normaliser.proofs.settle_all.Reads as settle-all
 use Rattle.normaliser.proofs.settle_all.Kinds as settle-all-kinds
 use Rattle.normaliser.proofs.+settle+settle_all.Lts-settle_all as settle-all-lts
 use Rattle.matching.proofs.byte_of.Reads as byte-of-reads
-use Rattle.normaliser.proofs.ended.Reads as ended-reads
+use Rattle.redex.proofs.ended.Reads as ended-reads
 use Rattle.normaliser.proofs.leave.Reads as leave-reads
-use Rattle.normaliser.proofs.rewrite.Reads as rewrite-reads
+use Rattle.redex.proofs.rewrite.Reads as rewrite-reads
 use Rattle.terms.proofs.owed_by.Reads as owed-by-reads
 use Rattle.normaliser.proofs.+settle+settle_all.{statement}
 use Rattle.normaliser.proofs.+settle+settle_all.Tie.{close}

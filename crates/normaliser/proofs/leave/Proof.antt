@@ -1,5 +1,5 @@
 -- `leave`: beyond `len` (`leave-long`), or the end that the cell says (`leave-done`). Assumes nothing.
--- Read first: specs/Stored (Left), proofs/Settling.
+-- Read first: specs/Settled (Left), proofs/Settling.
 use Rattle.normaliser.proofs.Settling.{leave-long, leave-done}
 use borrow.Author.Needs.{needs}
 use Rattle.normaliser.proofs.leave.Statement.{statement}
@@ -7,7 +7,7 @@ use Rattle.normaliser.proofs.leave.Tie as tie
 use Rattle.normaliser.proofs.leave.Reads as reads
 use Rattle.normaliser.proofs.leave.Lts as lts
 use Rattle.matching.proofs.size_of.Reads as size-of-reads
-use Rattle.normaliser.proofs.ended.Reads as ended-reads
+use Rattle.redex.proofs.ended.Reads as ended-reads
 
 returns : tie.Need-returns
 returns c = leave-long _ _ _ _ _ (c .ended .ensures) (c .before .before .size-of .ensures .0) (c .before .if1 .taken)

@@ -1,5 +1,5 @@
 -- `normalise`: the bytes are loaded, settled with at most 120 cells, and unloaded; and the units that it took, by `whole`. Assumes nothing.
--- Read first: specs/Stored (Normalised), proofs/Whole.
+-- Read first: specs/Settled (Normalised), proofs/Whole.
 use Rattle.normaliser.proofs.Whole.{whole}
 use Rattle.matching.proofs.Replacing.{take-less-zero}
 use lib.Seq.{length-take-le}

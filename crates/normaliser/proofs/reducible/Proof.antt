@@ -1,5 +1,5 @@
 -- `reducible`: settling with no unit stops where a step is due, by `reduces`. Assumes nothing.
--- Read first: specs/Stored (Reducible), proofs/Whole.
+-- Read first: specs/Settled (Reducible), proofs/Whole.
 use Rattle.normaliser.proofs.Whole.{reduces}
 use Rattle.rewriting.specs.Rewrite.{end-number}
 use mathlib.Core.Path.{refl}

@@ -6,7 +6,7 @@ use mathlib.Core.Path.{_≡_, refl, sym, ap, _∙_}
 use native.Mathlib.Omega.{arith}
 use Rattle.engine.specs.State.{whole}
 use Rattle.engine.specs.declared.State.{State}
-use Rattle.normaliser.proofs.Choosing.{layout-front}
+use Rattle.redex.proofs.Choosing.{layout-front}
 use Rattle.run.proofs.Running.{Looping, looping-begins, looping-next, loops-on, loop-grows, run-ended}
 use borrow.Author.Needs.{needs}
 use Rattle.run.proofs.run.Statement.{statement}

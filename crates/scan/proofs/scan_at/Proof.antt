@@ -1,6 +1,6 @@
 -- `scan_at`: no overlap there, one that is too large, or a pair to compare: `place-nothing`, `place-large`, `place-pair`. Assumes nothing.
 -- Read first: specs/Walk (Walks, at-place), proofs/Placing.
-use Rattle.normaliser.proofs.Choosing.{layout-below}
+use Rattle.redex.proofs.Choosing.{layout-below}
 use Rattle.rewriting.specs.Rewrite.{end-number}
 use Rattle.scan.proofs.Placing.{place-nothing, place-large, place-pair, found-fits}
 use borrow.Author.Needs.{needs}

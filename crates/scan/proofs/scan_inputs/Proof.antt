@@ -1,7 +1,7 @@
 -- `scan_inputs`: the invariant is that the inputs from k on, with the units left, come to what all come to; number - k falls. Assumes nothing.
 -- Read first: specs/Walk (of-inputs), proofs/Going (Going), proofs/Inputs.
 use Prim.Native.Nat.{_-_}
-use Rattle.normaliser.proofs.Choosing.{layout-below}
+use Rattle.redex.proofs.Choosing.{layout-below}
 use Rattle.rewriting.specs.Rewrite.{end-number}
 use Rattle.scan.proofs.Inputs.{inputs-more, inputs-over, input-walk}
 use Rattle.scan.proofs.Going.{Going, going-start, going-on, going-stop, going-end, still-fits}

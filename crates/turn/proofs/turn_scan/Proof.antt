@@ -4,7 +4,7 @@ use lib.ListN.{length}
 use mathlib.Core.Path.{_≡_, refl}
 use native.Mathlib.Omega.{arith}
 use Rattle.making.proofs.Keeping.{stops}
-use Rattle.normaliser.proofs.Choosing.{layout-front}
+use Rattle.redex.proofs.Choosing.{layout-front}
 use Rattle.turn.proofs.Whole.{scan-stopped, scan-made}
 use borrow.Author.Needs.{needs}
 use Rattle.turn.proofs.turn_scan.Statement.{statement}

@@ -4,7 +4,7 @@ use mathlib.Core.Path.{refl}
 use native.Mathlib.Omega.{arith}
 use Rattle.rewriting.specs.Rewrite.{end-number}
 use Rattle.making.proofs.Keeping.{stops}
-use Rattle.normaliser.proofs.Choosing.{layout-front}
+use Rattle.redex.proofs.Choosing.{layout-front}
 use Rattle.turn.proofs.Whole.{waiting-settled, waiting-stopped, waiting-made}
 use borrow.Author.Needs.{needs}
 use Rattle.turn.proofs.turn_waiting.Statement.{statement}

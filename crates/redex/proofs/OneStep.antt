@@ -1,5 +1,5 @@
 -- `rewrite` by its returns: no rule, no unit left, too large, or the instance with what follows; the instance is well-formed. Assumes nothing.
--- Read first: specs/Stored (Found, Rewritten), matching/specs/Pieces (Put), proofs/Marking.
+-- Read first: specs/Step (Found, Rewritten), matching/specs/Pieces (Put), proofs/Marking.
 use mathlib.Core.Path.{_≡_, refl, sym, _∙_, ap, ap₂, subst}
 use mathlib.Core.List.{List, _∷_, _++_}
 use mathlib.Core.Option.{Option, none, some}
@@ -20,11 +20,12 @@ use Rattle.matching.specs.Cells.{cells, root-byte, cells-below, Stands}
 use Rattle.matching.specs.Held.{Slot, Rep, Within}
 use Rattle.matching.specs.Pieces.{Put, pieces, replaced}
 use Rattle.matching.proofs.Celled.{length-cells, cells-root, root-low}
-use Rattle.normaliser.specs.Marks.{Marked, ArgumentsNormal, open-cells}
-use Rattle.normaliser.specs.Stored.{Stored, right-side, Choice, Found, out, rewritten, Tested, Wrote, Rewritten}
-use Rattle.normaliser.specs.declared.Out.{Out}
-use Rattle.normaliser.proofs.Marking.{instance-marked, marked-length}
-use Rattle.normaliser.proofs.Parts.{head-of}
+use Rattle.redex.specs.Marks.{Marked, ArgumentsNormal, open-cells}
+use Rattle.redex.specs.Stored.{Stored, right-side}
+use Rattle.redex.specs.Step.{Choice, Found, out, rewritten, Tested, Wrote, Rewritten}
+use Rattle.redex.specs.declared.Out.{Out}
+use Rattle.redex.proofs.Marking.{instance-marked, marked-length}
+use Rattle.redex.proofs.Choosing.{head-of}
 
 -- an instance is well-formed
 slot-wf : (tab T : List ℕ) (n x : ℕ) → x < 16 → (k : ℕ) (o : Option Term) → Slot tab T n k o → Wf 32 tab (bound-or-variable x o)

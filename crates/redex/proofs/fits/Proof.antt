@@ -1,14 +1,14 @@
 -- `fits`: another root symbol rules a match out (`fits-not`), else `matches` decides (`fits-by`). Assumes nothing.
--- Read first: specs/Stored (Fitted), proofs/Choosing.
-use Rattle.normaliser.proofs.Choosing.{fits-by, fits-not, fits-take}
+-- Read first: specs/Step (Fitted), proofs/Choosing.
+use Rattle.redex.proofs.Choosing.{fits-by, fits-not, fits-take}
 use native.Mathlib.Omega.{arith}
 use mathlib.Core.Path.{_∙_}
 use Prim.Native.Nat.{_*_}
 use borrow.Author.Needs.{needs}
-use Rattle.normaliser.proofs.fits.Statement.{statement}
-use Rattle.normaliser.proofs.fits.Tie as tie
-use Rattle.normaliser.proofs.fits.Reads as reads
-use Rattle.normaliser.proofs.fits.Lts as lts
+use Rattle.redex.proofs.fits.Statement.{statement}
+use Rattle.redex.proofs.fits.Tie as tie
+use Rattle.redex.proofs.fits.Reads as reads
+use Rattle.redex.proofs.fits.Lts as lts
 use Rattle.matching.proofs.byte_of.Reads as byte-of-reads
 use Rattle.matching.proofs.matches.Reads as matches-reads
 use Rattle.terms.proofs.wide.Reads as wide-reads

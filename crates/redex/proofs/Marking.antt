@@ -25,7 +25,7 @@ use Rattle.matching.specs.Held.{Slot, Rep}
 use Rattle.matching.specs.Pieces.{slot-of, first-cell, piece-at, piece, pieces}
 use Rattle.matching.proofs.Celled.{length-cells, cells-root, length-below, cells-unique, stands-cell, stands-byte, stands-size, stands-below}
 use Rattle.matching.proofs.Filling.{slot-variable, slot-symbol, piece-byte}
-use Rattle.normaliser.specs.Marks.{Marked, MarkedAll, leaf, visit, leave, no-more, more, ArgumentsNormal, open-cells}
+use Rattle.redex.specs.Marks.{Marked, MarkedAll, leaf, visit, leave, no-more, more, ArgumentsNormal, open-cells}
 
 -- what is put for a term, at the root of the cells and below it
 module _ (tab T : List ℕ) (n k : ℕ) (u : Term) (s : Stands tab T n k u) where

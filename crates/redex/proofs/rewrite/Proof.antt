@@ -1,22 +1,22 @@
 -- `rewrite`: a lemma for each return: no rule (`step-none`), no unit (`step-spent`), too large (`step-large`), rewritten (`step-done`). Assumes
 -- nothing.
--- Read first: specs/Stored (Rewritten), proofs/OneStep.
-use Rattle.normaliser.proofs.OneStep.{rewritten-as, found-within, step-none, step-spent, step-large, step-done}
-use Rattle.normaliser.proofs.Choosing.{layout-below}
+-- Read first: specs/Step (Rewritten), proofs/OneStep.
+use Rattle.redex.proofs.OneStep.{rewritten-as, found-within, step-none, step-spent, step-large, step-done}
+use Rattle.redex.proofs.Choosing.{layout-below}
 use Rattle.rewriting.specs.Rewrite.{end-number}
 use Rattle.matching.proofs.Replacing.{take-less-zero}
 use lib.ListN.{set, length-set}
 use native.Mathlib.Omega.{arith}
 use mathlib.Core.Path.{_∙_}
 use borrow.Author.Needs.{needs}
-use Rattle.normaliser.proofs.rewrite.Statement.{statement}
-use Rattle.normaliser.proofs.rewrite.Tie as tie
-use Rattle.normaliser.proofs.rewrite.Reads as reads
-use Rattle.normaliser.proofs.rewrite.Lts as lts
+use Rattle.redex.proofs.rewrite.Statement.{statement}
+use Rattle.redex.proofs.rewrite.Tie as tie
+use Rattle.redex.proofs.rewrite.Reads as reads
+use Rattle.redex.proofs.rewrite.Lts as lts
 use Rattle.matching.proofs.sized.Reads as sized-reads
-use Rattle.normaliser.proofs.contract.Reads as contract-reads
-use Rattle.normaliser.proofs.ended.Reads as ended-reads
-use Rattle.normaliser.proofs.find.Reads as find-reads
+use Rattle.redex.proofs.contract.Reads as contract-reads
+use Rattle.redex.proofs.ended.Reads as ended-reads
+use Rattle.redex.proofs.find.Reads as find-reads
 
 part-find-end : tie.Need-part-find-end
 part-find-end c = let l = length-set (c .before .before .before .before .before .before .args .t .now) 0 (c .before .sized .result) in search needs

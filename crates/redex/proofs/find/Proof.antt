@@ -1,14 +1,14 @@
 -- `find`: the invariant is that the rules from k on decide the step as all do; the rules to come fall. Assumes nothing.
--- Read first: specs/Stored (Found), proofs/Choosing (Searching).
-use Rattle.normaliser.proofs.Choosing.{Searching, search-start, search-end, search-on, search-hit, layout-front}
+-- Read first: specs/Step (Found), proofs/Choosing (Searching).
+use Rattle.redex.proofs.Choosing.{Searching, search-start, search-end, search-on, search-hit, layout-front}
 use native.Mathlib.Omega.{arith}
 use Prim.Native.Nat.{_-_}
 use borrow.Author.Needs.{needs}
-use Rattle.normaliser.proofs.find.Statement.{statement}
-use Rattle.normaliser.proofs.find.Tie as tie
-use Rattle.normaliser.proofs.find.Reads as reads
-use Rattle.normaliser.proofs.find.Lts as lts
-use Rattle.normaliser.proofs.fits.Reads as fits-reads
+use Rattle.redex.proofs.find.Statement.{statement}
+use Rattle.redex.proofs.find.Tie as tie
+use Rattle.redex.proofs.find.Reads as reads
+use Rattle.redex.proofs.find.Lts as lts
+use Rattle.redex.proofs.fits.Reads as fits-reads
 
 abbrev Inv-loop : tie.InvT-loop
 Inv-loop rules lens count t binds₀ k₀ binds k = Searching rules lens t count k binds₀ binds

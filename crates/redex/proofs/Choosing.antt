@@ -1,14 +1,15 @@
 -- The lowest rule that matches at the root, found in the slots: the rules from k on decide the step as all do. Assumes nothing.
--- Read first: specs/Stored (Fitted, Found), matching/specs/Held (Matched), rewriting/specs/Rewrite (root-step).
+-- Read first: specs/Stored, specs/Step (Fitted, Found), matching/specs/Held (Matched), rewriting/specs/Rewrite (root-step).
 use mathlib.Core.Path.{_≡_, refl, sym, _∙_, ap, subst}
 use mathlib.Core.Bool.{Bool, true, false, true≢false, false≢true}
-use mathlib.Core.List.{List, [], _∷_}
+use mathlib.Core.List.{List, [], _∷_, nil≢cons}
 use mathlib.Core.Option.{Option, none, some}
-use Prim.Native.Nat.{ℕ, _+_, _-_, _*_, _%_, _<_, _≤_}
+use Prim.Native.Nat.{ℕ, zero, suc, _+_, _-_, _*_, _%_, _<_, _≤_}
 use native.Mathlib.Omega.{arith}
 use native.Mathlib.Numerals.{add-one}
 use lib.Dec.{eqb}
 use lib.ListN.{length, getD, drop, take}
+use lib.Seq.{getD-take, getD-drop}
 use Rattle.terms.specs.Base.{if_then_else_, mapped, or-else}
 use Rattle.terms.specs.Term.{Term, var, node, term-bytes, terms-bytes, size}
 use Rattle.terms.proofs.Shape.{Says, eqb-says}
@@ -18,8 +19,15 @@ use Rattle.rewriting.specs.Rewrite.{matching, matching-all, root-step}
 use Rattle.matching.specs.Cells.{root-byte, Stands}
 use Rattle.matching.specs.Held.{Answers, Matched}
 use Rattle.matching.proofs.Celled.{stands-byte}
-use Rattle.normaliser.specs.Stored.{Layout, Stored, Fitted, Choice, Found}
-use Rattle.normaliser.proofs.Parts.{head-of}
+use Rattle.redex.specs.Stored.{Layout, Stored}
+use Rattle.redex.specs.Step.{Fitted, Choice, Found}
+
+-- what stands first in a part of a list
+pub head-of : (t : List ℕ) (n a b : ℕ) (l : List ℕ) → take n (drop a t) ≡ b ∷ l → getD t a 0 ≡ b
+head-of t zero a b l e = absurd (nil≢cons e)
+head-of t (suc n) a b l e =
+    let i : a + 0 ≡ a = omega arith in
+    sym (getD-take (suc n) (drop a t) 0 0 (omega arith) ∙ getD-drop a t 0 0 ∙ ap (λ z. getD t z 0) i) ∙ ap (λ z. getD z 0 0) e
 
 module _ (rules lens T : List ℕ) (k : ℕ) (B : List ℕ) where
   pub fits-by : (left : List ℕ) (r : Bool) (B′ : List ℕ) → take (getD lens (2 * k) 0) (drop (240 * k) rules) ≡ left → Matched left T B r B′ → Fitted rules lens T k B r B′

@@ -1,13 +1,13 @@
 -- `contract`: the part of slot k that is handed to `matching::replace` is its right side, by `contracted-by`. Assumes nothing.
 -- Read first: specs/Stored (right-side), proofs/OneStep.
-use Rattle.normaliser.proofs.OneStep.{contracted-by}
+use Rattle.redex.proofs.OneStep.{contracted-by}
 use native.Mathlib.Omega.{arith}
 use Prim.Native.Nat.{_*_, _+_}
 use borrow.Author.Needs.{needs}
-use Rattle.normaliser.proofs.contract.Statement.{statement}
-use Rattle.normaliser.proofs.contract.Tie as tie
-use Rattle.normaliser.proofs.contract.Reads as reads
-use Rattle.normaliser.proofs.contract.Lts as lts
+use Rattle.redex.proofs.contract.Statement.{statement}
+use Rattle.redex.proofs.contract.Tie as tie
+use Rattle.redex.proofs.contract.Reads as reads
+use Rattle.redex.proofs.contract.Lts as lts
 use Rattle.matching.proofs.replace.Reads as replace-reads
 use Rattle.terms.proofs.wide.Reads as wide-reads
 
