@@ -44,7 +44,7 @@ fn find(rules: &[u8], lens: &[u8], count: usize, t: &[u16], binds: &mut [u8]) ->
 // The verdict where a step was made at the root; no end has it.
 pub const REWRITTEN: u8 = 2;
 
-// Verdict GOES_ON: normal; SPENT; TOO_LARGE; REWRITTEN; or another number of the normaliser's.
+// Verdict GOES_ON: normal; SPENT; TOO_LARGE; REWRITTEN; the normaliser has one more, where no term stands.
 pub struct Out {
     pub verdict: u8,
     pub units: u32,

@@ -1,4 +1,4 @@
-// Rewriting: definitions, theory, and the verdicts' numbers. The code that rewrites stands in `normaliser`.
+// Rewriting: definitions, theory, and the verdicts' numbers. The code that rewrites stands in `redex` and `normaliser`.
 // A verdict is GOES_ON, or document 01's number of the end at which the work stopped (`end-number` of specs/Rewrite).
 
 // No end: the work goes on. No end has this number.
