@@ -20,7 +20,7 @@ use Rattle.completion.specs.Calls.{Single, Unified as Common, instance, no-inst
 use Rattle.completion.proofs.Accepts.{single-fits}
 use Rattle.single.specs.Places.{table, left-side, right-side, SidesAt}
 use Rattle.single.proofs.Singles.{left-starts, right-starts}
-use Rattle.instances.specs.Common.{found-of, Sides, TwoSides, SidesUnify}
+use Rattle.instances.specs.Common.{found-of, SidesOf, TwoSides, SidesUnify}
 use Rattle.instances.specs.declared.Found.{Found}
 use Rattle.calls.specs.Answers.{unified-told, found-told, unify-returns, Unifies}
 use Rattle.calls.specs.declared.Unified.{Unified}
@@ -61,7 +61,7 @@ module _ (l d : List ℕ) where
           ap (take (c - a)) (s .bytes ∙ ap (λ (x : List ℕ). term-bytes (left-side S) ++ x) r ∙ sym (append-assoc (term-bytes (left-side S)) (term-bytes (right-side S)) (t .rest)))
           ∙ take-at (term-bytes (left-side S) ++ term-bytes (right-side S)) (t .rest) (c - a) n
 
-      unify-sides : Sides (take (c - a) (drop a l)) (table l e) (left-side S) (right-side S)
+      unify-sides : SidesOf (take (c - a) (drop a l)) (table l e) (left-side S) (right-side S)
       unify-sides =
           let k = single-fits l S (A .single .is) in
           record {

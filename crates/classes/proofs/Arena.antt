@@ -1,4 +1,4 @@
--- Closed classes whose nodes all spell terms give a most general unifier, and its instances are those terms. Assumes nothing. Two symbols in one
+-- AllClosed classes whose nodes all spell terms give a most general unifier, and its instances are those terms. Assumes nothing. Two symbols in one
 -- class (clash), or classes that go round in a circle (occurs check), leave no unifier.
 -- Read first: specs/Arena.
 use mathlib.Core.Path.{_≡_, refl, sym, ap, ap₂, subst, _∙_}
@@ -9,7 +9,7 @@ use native.Mathlib.Decide.{ℕ-discrete}
 use Rattle.terms.specs.Term.{Term, var, node, Terms, cons, size, sizes, subst-term, subst-terms}
 use Rattle.terms.proofs.Shape.{node-symbol}
 use Rattle.terms.proofs.Subst.{Subst}
-use Rattle.classes.specs.Arena.{Arena, Spells, free, made, SpellsAll, none, more, same, Whole, Joins, Classes, Agree, Closed, Never, Among, Descends}
+use Rattle.classes.specs.Arena.{Arena, Spells, free, made, SpellsAll, none, more, same, NodesSpell, Joins, Classes, Agree, AllClosed, Never, Among, Descends}
 use Rattle.classes.proofs.Ranges.{below-more}
 use Rattle.unify.proofs.Correct.{Unifies, Mgu}
 
@@ -49,7 +49,7 @@ module _ (A : Arena) where
   spells-move {c} j (free h e) q b = free b (ap (A .byte) (sym q) ∙ e)
   spells-move {c} j (made {f = f} {ts = ts} h e l r) q b = made b (ap (A .byte) (sym q) ∙ e) l (subst (λ z. SpellsAll A c (suc z) (A .arity f) ts) q r)
 
-  module _ (n₁ n₂ : ℕ) (c : ℕ → ℕ) (w : Whole A) (g : Classes A n₁ n₂ c) where
+  module _ (n₁ n₂ : ℕ) (c : ℕ → ℕ) (w : NodesSpell A) (g : Classes A n₁ n₂ c) where
     -- a unifier makes what a node stands for and the term in the arena one
     module _ (τ : Subst) (j : Joins A τ n₁ n₂) where
       mutual
@@ -110,7 +110,7 @@ module _ (A : Arena) where
     never-circle U d i h u τ j = let v = w i h in descend τ j U d (suc (size (subst-term τ (v .0)))) i (v .0) (v .1) u (omega arith)
 
     -- every class stands for a term
-    module _ (o : Closed A c) (k : (i : ℕ) → i < A .nodes → (u : Term) × Spells A c i u) where
+    module _ (o : AllClosed A c) (k : (i : ℕ) → i < A .nodes → (u : Term) × Spells A c i u) where
       Seen : ℕ → ℕ → Type 0
       Seen x n = ((i : ℕ) × (i < n) × (A .byte i ≡ 128 + x)) ⊎ ((i : ℕ) → i < n → A .byte i ≡ 128 + x → ⊥)
 

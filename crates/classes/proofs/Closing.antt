@@ -1,13 +1,13 @@
 -- Passes over the nodes that join classes until one pass joins nothing: invariant `Closing`, and `left-over`, which every step lowers. Assumes
 -- nothing.
--- Read first: specs/Steps (StepAt, ClosedTo, weight), proofs/Walks, proofs/Joining.
+-- Read first: specs/Steps (StepIs, ClosedTo, weight), proofs/Walks, proofs/Joining.
 use mathlib.Core.Path.{_≡_, refl, subst, _∙_}
 use mathlib.Core.Bool.{true, false}
 use mathlib.Core.List.{List}
 use Prim.Native.Nat.{ℕ, _+_, _*_, _-_, _≤_, _<_}
 use native.Mathlib.Omega.{arith}
 use lib.ListN.{length}
-use Rattle.classes.specs.Steps.{at, arena, Ready, Linked, StepAt, joined, Grown, ClosedTo, weight}
+use Rattle.classes.specs.Steps.{at, arena, Ready, Linked, StepIs, joined, Grown, ClosedTo, weight}
 use Rattle.classes.specs.declared.Step.{Step}
 use Rattle.classes.specs.declared.Step.the-variants.{Done, Clash, Join}
 use Rattle.classes.proofs.Arena.{never-clash}
@@ -45,7 +45,7 @@ module _ (l tab ends cs ds : List ℕ) (i again : ℕ) (k : Closing l tab ends c
   pub closing-rounds : (again ≡ 0 → ⊥) → left-over l ds 0 0 < left-over l ds i again
   closing-rounds n = let q : 0 < again = omega (arith, n) in omega arith
 
-  module _ (h : i < length l) (s : Step) (g : StepAt (arena l tab ends) (at ds) i s) where
+  module _ (h : i < length l) (s : Step) (g : StepIs (arena l tab ends) (at ds) i s) where
     pub closing-next : s ≡ Done → Closing l tab ends cs ds (i + 1) again
     closing-next e = record {
       ready = k .ready;
@@ -62,13 +62,13 @@ module _ (l tab ends cs ds : List ℕ) (i again : ℕ) (k : Closing l tab ends c
     pub closing-clash : s ≡ Clash → Ready l tab ends ds × ClosedTo (arena l tab ends) (at cs) (at ds) false
     closing-clash e = (
       k .ready,
-      λ n₁ n₂ c. let (j, q, b, n) = subst (λ z. StepAt (arena l tab ends) (at ds) i z) e g in
+      λ n₁ n₂ c. let (j, q, b, n) = subst (λ z. StepIs (arena l tab ends) (at ds) i z) e g in
           never-clash (arena l tab ends) n₁ n₂ (at ds) (k .ready .whole) (k .grown .classes n₁ n₂ c) j q b n,
     )
 
     module _ (a b : ℕ) (e : s ≡ Join a b) where
       abbrev linked : Linked (arena l tab ends) (at ds) a b
-      linked = subst (λ z. StepAt (arena l tab ends) (at ds) i z) e g
+      linked = subst (λ z. StepIs (arena l tab ends) (at ds) i z) e g
 
       pub closing-requires : ((a < length l) × (b < length l) × (length l ≤ 600) × (length l ≤ length ds)) × ((at ds a < length l) × (at ds b < length l))
       closing-requires =

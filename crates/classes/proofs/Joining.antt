@@ -13,7 +13,7 @@ use borrow.Author.Tests.{ltb-true, ltb-false, lt-ltb, le-ltb}
 use Rattle.terms.specs.Base.{if_then_else_}
 use Rattle.terms.proofs.Shape.{Says, eqb-says}
 use Rattle.terms.proofs.Subst.{Subst}
-use Rattle.classes.specs.Arena.{Arena, Whole, Joins, Classes}
+use Rattle.classes.specs.Arena.{Arena, NodesSpell, Joins, Classes}
 use Rattle.classes.specs.Steps.{at, arena, Ready, Linked, key, relabelled, joined, Grown, weight}
 use Rattle.classes.proofs.Arena.{spells-within}
 
@@ -83,7 +83,7 @@ weight-lt l from to (b ∷ cs) zero k h e = omega (arith, ap (key l) e, ap (key 
 weight-lt l from to (b ∷ cs) (suc a) k h e = omega (arith, weight-entry l from to b (omega arith), weight-lt l from to cs a k (le-of-suc-le-suc h) e)
 
 -- the class of one root goes to another
-module _ (A : Arena) (w : Whole A) (c d : ℕ → ℕ) (from to : ℕ) (e : (i : ℕ) → i < A .nodes → d i ≡ relabelled from to (c i)) where
+module _ (A : Arena) (w : NodesSpell A) (c d : ℕ → ℕ) (from to : ℕ) (e : (i : ℕ) → i < A .nodes → d i ≡ relabelled from to (c i)) where
   relabel-keeps : (i j : ℕ) → i < A .nodes → j < A .nodes → c i ≡ c j → d i ≡ d j
   relabel-keeps i j hi hj q = e i hi ∙ ap (relabelled from to) q ∙ sym (e j hj)
 
@@ -123,7 +123,7 @@ module _ (A : Arena) (w : Whole A) (c d : ℕ → ℕ) (from to : ℕ) (e : (i :
 joins-sym : (A : Arena) (τ : Subst) (a b : ℕ) → Joins A τ a b → Joins A τ b a
 joins-sym A τ a b h s t x y = sym (h t s y x)
 
-joins-roots : (A : Arena) → Whole A → (c : ℕ → ℕ) (τ : Subst) (a b : ℕ) → a < A .nodes → b < A .nodes → ((i : ℕ) → Joins A τ i (c i)) → Joins A τ a b → Joins A τ (c a) (c b)
+joins-roots : (A : Arena) → NodesSpell A → (c : ℕ → ℕ) (τ : Subst) (a b : ℕ) → a < A .nodes → b < A .nodes → ((i : ℕ) → Joins A τ i (c i)) → Joins A τ a b → Joins A τ (c a) (c b)
 joins-roots A w c τ a b ha hb h j s t x y =
     let u = w a ha in
     let v = w b hb in

@@ -1,5 +1,5 @@
 -- The steps that look for two nodes to join: along the arguments of two nodes (`Walk`), at a node and its root, and over all nodes. Assumes nothing.
--- Read first: specs/Arena (Agree, Closed), specs/Steps (Apart, StepAt), proofs/Arena.
+-- Read first: specs/Arena (Agree, AllClosed), specs/Steps (Apart, StepIs), proofs/Arena.
 use mathlib.Core.Path.{_≡_, refl, sym, ap, subst, subst₂, _∙_}
 use mathlib.Core.List.{List}
 use Prim.Native.Nat.{ℕ, zero, suc, _+_, _-_, _≤_, _<_}
@@ -10,8 +10,8 @@ use lib.ListN.{length}
 use Rattle.terms.specs.Term.{Term, node, cons, subst-term, subst-terms}
 use Rattle.terms.proofs.Shape.{node-args, cons-head, cons-tail}
 use Rattle.terms.proofs.Subst.{Subst}
-use Rattle.classes.specs.Arena.{Arena, Spells, made, SpellsAll, more, same, Whole, Joins, Agree, ClosedAt}
-use Rattle.classes.specs.Steps.{at, arena, Ready, SpellsSome, JoinsAll, Apart, Clashes, StepAt}
+use Rattle.classes.specs.Arena.{Arena, Spells, made, SpellsAll, more, same, NodesSpell, Joins, Agree, ClosedAt}
+use Rattle.classes.specs.Steps.{at, arena, Ready, SpellsSome, JoinsAll, Apart, Clashes, StepIs}
 use Rattle.classes.specs.declared.Step.{Step}
 use Rattle.classes.specs.declared.Step.the-variants.{Done, Clash, Join}
 use Rattle.classes.proofs.Ranges.{below-more}
@@ -73,14 +73,14 @@ walk-join A c a b k p q zero w h e = absurd (omega arith)
 walk-join A c a b k p q (suc n) w h e = (first-within A p (suc n) (w .ps) h, first-within A q (suc n) (w .qs) h, e, walk-joins A c a b k p q n w)
 
 -- the arguments of a node that is a symbol
-pub arguments : (A : Arena) → Whole A → (i f k p : ℕ) → i < A .nodes → A .byte i ≡ f → f < 128 → k ≡ A .arity f → p ≡ i + 1 → SpellsSome A p k
+pub arguments : (A : Arena) → NodesSpell A → (i f k p : ℕ) → i < A .nodes → A .byte i ≡ f → f < 128 → k ≡ A .arity f → p ≡ i + 1 → SpellsSome A p k
 arguments A w i f k p h e l ek ep =
     let u = unmake A f (w i h .1) e l in
     subst₂ (λ x y. SpellsSome A x y) (sym (ep ∙ add-one i)) (sym ek) (u .0, u .2)
 
 -- what the arguments of node i and of its root r answer is what node i asks for
 step-apart : (A : Arena) (c : ℕ → ℕ) (i r f k : ℕ) (s : Step) → i < A .nodes → r < A .nodes → r ≡ c i → f ≡ A .byte i → f < 128 → A .byte r ≡ f →
-    k ≡ A .arity f → Apart A c (i + 1) (r + 1) k s → StepAt A c i s
+    k ≡ A .arity f → Apart A c (i + 1) (r + 1) k s → StepIs A c i s
 unfolding subst-term
 step-apart A c i r f k Done hi hr er ef l eb ek g =
     λ q. (ap (A .byte) (sym er) ∙ eb ∙ ef, subst₂ (λ x y. Agree A c (suc i) x y) (ap suc er) (ek ∙ ap (A .arity) ef) (subst₂ (λ x y. Agree A c x y k) (add-one i) (add-one r) g))
@@ -119,12 +119,12 @@ ready-arguments l tab ends cs y i r k h e f b q = (
 )
 
 pub ready-step : (l tab ends cs : List ℕ) → Ready l tab ends cs → (i r k : ℕ) → i < length l → r ≡ at cs i → at l i < 128 → at l r ≡ at l i → k ≡ owes tab (at l i) →
-    (s : Step) → Apart (arena l tab ends) (at cs) (i + 1) (r + 1) k s → StepAt (arena l tab ends) (at cs) i s
+    (s : Step) → Apart (arena l tab ends) (at cs) (i + 1) (r + 1) k s → StepIs (arena l tab ends) (at cs) i s
 ready-step l tab ends cs y i r k h e f b q s g = step-apart (arena l tab ends) (at cs) i r (at l i) k s h (ready-within l tab ends cs y i r h e) e refl f b q g
 
 -- over all nodes
 abbrev pub ClosedBelow : Arena → (ℕ → ℕ) → ℕ → Type 0
 ClosedBelow A c n = (i : ℕ) → i < n → ClosedAt A c i
 
-pub below-next : (A : Arena) (c : ℕ → ℕ) (n : ℕ) → ClosedBelow A c n → (s : Step) → StepAt A c n s → s ≡ Done → ClosedBelow A c (n + 1)
-below-next A c n f s g e = below-more (λ i. ClosedAt A c i) n f (subst (λ z. StepAt A c n z) e g)
+pub below-next : (A : Arena) (c : ℕ → ℕ) (n : ℕ) → ClosedBelow A c n → (s : Step) → StepIs A c n s → s ≡ Done → ClosedBelow A c (n + 1)
+below-next A c n f s g e = below-more (λ i. ClosedAt A c i) n f (subst (λ z. StepIs A c n z) e g)

@@ -27,8 +27,8 @@ abbrev pub same : ℕ → ℕ
 same i = i
 
 -- every node stands for a term
-abbrev pub Whole : Arena → Type 0
-Whole A = (i : ℕ) → i < A .nodes → (t : Term) × Spells A same i t
+abbrev pub NodesSpell : Arena → Type 0
+NodesSpell A = (i : ℕ) → i < A .nodes → (t : Term) × Spells A same i t
 
 -- τ makes the terms at nodes a and b one
 abbrev pub Joins : Arena → (ℕ → Term) → ℕ → ℕ → Type 0
@@ -50,8 +50,8 @@ Agree A c p q (suc k) = (c p ≡ c q) × Agree A c (A .end p) (A .end q) k
 abbrev pub ClosedAt : Arena → (ℕ → ℕ) → ℕ → Type 0
 ClosedAt A c i = A .byte i < 128 → (A .byte (c i) ≡ A .byte i) × Agree A c (suc i) (suc (c i)) (A .arity (A .byte i))
 
-abbrev pub Closed : Arena → (ℕ → ℕ) → Type 0
-Closed A c = (i : ℕ) → i < A .nodes → ClosedAt A c i
+abbrev pub AllClosed : Arena → (ℕ → ℕ) → Type 0
+AllClosed A c = (i : ℕ) → i < A .nodes → ClosedAt A c i
 
 -- no substitution joins the two terms
 abbrev pub Never : Arena → ℕ → ℕ → Type 0

@@ -8,7 +8,7 @@ use lib.ListN.{length, getD}
 use Rattle.terms.specs.Base.{if_then_else_}
 use Rattle.terms.specs.Term.{Term, Terms, subst-terms}
 use Rattle.terms.specs.Scan.{owes}
-use Rattle.classes.specs.Arena.{Arena, SpellsAll, same, Whole, Joins, Classes, Agree, ClosedAt, Closed, Never}
+use Rattle.classes.specs.Arena.{Arena, SpellsAll, same, NodesSpell, Joins, Classes, Agree, ClosedAt, AllClosed, Never}
 use Rattle.classes.specs.declared.Step.{Step}
 use Rattle.classes.specs.declared.Step.the-variants.{Done, Clash, Join}
 
@@ -22,16 +22,16 @@ Each P d n = (i : ℕ) → i < n → P i (at d i)
 abbrev pub arena : List ℕ → List ℕ → List ℕ → Arena
 arena l tab ends = record { nodes = length l; byte = at l; arity = owes tab; end = at ends }
 
-abbrev pub Within : Arena → (ℕ → ℕ) → Type 0
-Within A c = (i : ℕ) → i < A .nodes → c i < A .nodes
+abbrev pub ClassesWithin : Arena → (ℕ → ℕ) → Type 0
+ClassesWithin A c = (i : ℕ) → i < A .nodes → c i < A .nodes
 
 -- the arena and its classes, in room
 pub record Ready (l tab ends cs : List ℕ) : Type 0 where
   pub small : length l ≤ 600
   pub ended : length l ≤ length ends
   pub classed : length l ≤ length cs
-  pub whole : Whole (arena l tab ends)
-  pub within : Within (arena l tab ends) (at cs)
+  pub whole : NodesSpell (arena l tab ends)
+  pub within : ClassesWithin (arena l tab ends) (at cs)
 
 abbrev pub SpellsSome : Arena → ℕ → ℕ → Type 0
 SpellsSome A p k = (ts : Terms) × SpellsAll A same p k ts
@@ -52,10 +52,10 @@ Clashes A c = (i : ℕ) × (i < A .nodes) × (A .byte i < 128) × (A .byte (c i)
 abbrev pub Linked : Arena → (ℕ → ℕ) → ℕ → ℕ → Type 0
 Linked A c p q = (p < A .nodes) × (q < A .nodes) × (c p ≡ c q → ⊥) × ((τ : ℕ → Term) → ((i : ℕ) → Joins A τ i (c i)) → Joins A τ p q)
 
-abbrev pub StepAt : Arena → (ℕ → ℕ) → ℕ → Step → Type 0
-StepAt A c i Done = ClosedAt A c i
-StepAt A c i Clash = Clashes A c
-StepAt A c i (Join p q) = Linked A c p q
+abbrev pub StepIs : Arena → (ℕ → ℕ) → ℕ → Step → Type 0
+StepIs A c i Done = ClosedAt A c i
+StepIs A c i Clash = Clashes A c
+StepIs A c i (Join p q) = Linked A c p q
 
 -- symbols come before variables, and smaller nodes before larger
 unfoldable pub key : List ℕ → ℕ → ℕ
@@ -74,7 +74,7 @@ pub record Grown (A : Arena) (c d : ℕ → ℕ) : Type 0 where
   pub keeps : (i j : ℕ) → i < A .nodes → j < A .nodes → c i ≡ c j → d i ≡ d j
 
 abbrev pub ClosedTo : Arena → (ℕ → ℕ) → (ℕ → ℕ) → Bool → Type 0
-ClosedTo A c d true = Grown A c d × Closed A d
+ClosedTo A c d true = Grown A c d × AllClosed A d
 ClosedTo A c d false = (n₁ n₂ : ℕ) → Classes A n₁ n₂ c → Never A n₁ n₂
 
 -- what the key of every entry adds up to

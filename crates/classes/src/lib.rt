@@ -3,7 +3,7 @@ ghost use mathlib.Core.Path.{_≡_};
 ghost use mathlib.Core.List.{map};
 ghost use Prim.Native.Nat.{_<_, _≤_};
 ghost use lib.ListN.{length};
-ghost use Rattle.classes.specs.Steps.{at, arena, Ready, SpellsSome, Apart, StepAt, key, relabelled, joined, ClosedTo};
+ghost use Rattle.classes.specs.Steps.{at, arena, Ready, SpellsSome, Apart, StepIs, key, relabelled, joined, ClosedTo};
 
 pub enum Step {
     // The classes are closed.
@@ -53,7 +53,7 @@ fn apart(
 fn step_at(nodes: &[u8], table: &[u8], ends: &[u16], class: &[u16], i: usize) -> Step
     requires { ⌜ Ready (now nodes) (now table) (now ends) (now class) ⌝ }
     requires { ⌜ i < length (now nodes) ⌝ }
-    ensures { λ r. ⌜ StepAt (arena (now (nodes .entry)) (now (table .entry)) (now (ends .entry))) (at (now (class .entry))) i r ⌝ }
+    ensures { λ r. ⌜ StepIs (arena (now (nodes .entry)) (now (table .entry)) (now (ends .entry))) (at (now (class .entry))) i r ⌝ }
 {
     let r = wide(class[i]);
     if r == i {

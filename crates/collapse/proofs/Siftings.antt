@@ -22,7 +22,7 @@ use Rattle.completion.proofs.Result.{origin-bytes-length}
 use Rattle.store.specs.Slots.{patched, SlotAs, OnlySlot}
 use Rattle.store.proofs.Patching.{length-patched, front-more}
 use Rattle.store.proofs.Listing.{rule-as, short-as, short-at, layout-kept, layout-more, stored-one, stored-first, stored-rest, stored-same, stored-behind}
-use Rattle.collapse.specs.Sifting.{pairs-of, origins-bytes, Shelf, shelf, Safe, Removes, Sift, SiftedOne, Sifted}
+use Rattle.collapse.specs.Sifting.{pairs-of, origins-bytes, Shelf, shelf, ShelfSafe, Removes, Sift, SiftedOne, Sifted}
 use Rattle.collapse.proofs.Lists.{any-table, number-more}
 
 -- `rewrites`
@@ -64,7 +64,7 @@ removed-none x old rest e = rw e
 come : (tab b l b′ l′ : List ℕ) (n k j : ℕ) (ps : List Pair) → Layout [] b l n → k < j → j + length ps ≤ n → OnlySlot b l k b′ l′ → Stored tab b l j ps → Stored tab b′ l′ j ps
 come tab b l b′ l′ n k j ps y h m o s = stored-same tab b l b′ l′ j n ps (any-table tab [] b l n y) m (λ i q z. o .others i (λ f. omega arith)) s
 
-module _ (tab new sizes : List ℕ) (a : Shelf) (n i k w : ℕ) (safe : Safe a n w) (low : k ≤ i) (high : i < n) (few : n ≤ 32) (room : w ≤ 32) (t : Bool) (rm : Removes tab new sizes (a .rules) (a .lens) i t) where
+module _ (tab new sizes : List ℕ) (a : Shelf) (n i k w : ℕ) (safe : ShelfSafe a n w) (low : k ≤ i) (high : i < n) (few : n ≤ 32) (room : w ≤ 32) (t : Bool) (rm : Removes tab new sizes (a .rules) (a .lens) i t) where
   -- it is removed
   module _ (yes : t ≡ true) (wb wl os : List ℕ) (s : SlotAs (a .rules) (a .lens) i wb wl w) (o : OnlySlot (a .waiting) (a .lengths) w wb wl)
       (e : os ≡ patched (6 * w) (origin-bytes (removed-rule (getD (a .numbers) i 0))) (a .origins)) where
@@ -194,16 +194,16 @@ module _ (tab new sizes : List ℕ) (a : Shelf) (n i k w : ℕ) (safe : Safe a n
 pub record SiftedTo (tab new sizes : List ℕ) (a : Shelf) (n w : ℕ) (a′ : Shelf) (k i : ℕ) : Type 0 where
   pub within : i ≤ n
   pub low : k ≤ i
-  pub safe : Safe a′ n (w + (i - k))
+  pub safe : ShelfSafe a′ n (w + (i - k))
   pub sifted : (x : Rule) (rs : List Rule) (cs : List Candidate) → RuleAt tab new sizes 0 (x .sides) → Sift tab x rs cs n a 0 0 w → Sift tab x rs cs n a′ i k (w + (i - k))
 
-pub sifting-start : (tab new sizes : List ℕ) (a : Shelf) (n w : ℕ) → Safe a n w → SiftedTo tab new sizes a n w a 0 0
+pub sifting-start : (tab new sizes : List ℕ) (a : Shelf) (n w : ℕ) → ShelfSafe a n w → SiftedTo tab new sizes a n w a 0 0
 sifting-start tab new sizes a n w s =
     let e : w ≡ w + (0 - 0) = omega arith in
     record {
       within = omega arith;
       low = omega arith;
-      safe = subst (λ z. Safe a n z) e s;
+      safe = subst (λ z. ShelfSafe a n z) e s;
       sifted = λ x rs cs h g. subst (λ z. Sift tab x rs cs n a 0 0 z) e g;
     }
 
@@ -216,7 +216,7 @@ sifting-more tab new sizes a n w a′ a″ k i r g h s =
     record {
       within = omega arith;
       low = omega arith;
-      safe = subst (λ z. Safe a″ n z) e (s .safe);
+      safe = subst (λ z. ShelfSafe a″ n z) e (s .safe);
       sifted = λ x rs cs y f. subst (λ z. Sift tab x rs cs n a″ (i + 1) r z) e (s .sifted x rs cs y (g .sifted x rs cs y f));
     }
 
@@ -227,6 +227,6 @@ sifting-end tab new sizes a n w a′ k i g h =
     let e : i ≡ n = omega arith in
     record {
       few = omega arith;
-      safe = subst (λ z. Safe a′ n (w + (z - k))) e (g .safe);
+      safe = subst (λ z. ShelfSafe a′ n (w + (z - k))) e (g .safe);
       sifted = λ x rs cs y f. subst (λ z. Sift tab x rs cs n a′ z k (w + (z - k))) e (g .sifted x rs cs y f);
     }

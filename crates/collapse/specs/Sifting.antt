@@ -29,7 +29,7 @@ abbrev pub shelf : List ℕ → List ℕ → List ℕ → List ℕ → List ℕ 
 shelf b l n wb wl o = record { rules = b; lens = l; numbers = n; waiting = wb; lengths = wl; origins = o }
 
 -- n rules and w waiting equations in arrays of their full lengths
-pub record Safe (a : Shelf) (n w : ℕ) : Type 0 where
+pub record ShelfSafe (a : Shelf) (n w : ℕ) : Type 0 where
   pub rules-long : length (a .rules) ≡ 7920
   pub lens-long : length (a .lens) ≡ 66
   pub numbers-long : length (a .numbers) ≡ 33
@@ -64,11 +64,11 @@ pub record Sift (tab : List ℕ) (new : Rule) (rs : List Rule) (cs : List Candid
 pub record SiftedOne (tab new sizes : List ℕ) (a : Shelf) (n i k w : ℕ) (a′ : Shelf) (r : ℕ) : Type 0 where
   pub low : k ≤ r
   pub high : r ≤ k + 1
-  pub safe : Safe a′ n (w + (k + 1 - r))
+  pub safe : ShelfSafe a′ n (w + (k + 1 - r))
   pub sifted : (x : Rule) (rs : List Rule) (cs : List Candidate) → RuleAt tab new sizes 0 (x .sides) → Sift tab x rs cs n a i k w → Sift tab x rs cs n a′ (i + 1) r (w + (k + 1 - r))
 
 -- `collapse`
 pub record Sifted (tab new sizes : List ℕ) (a : Shelf) (n w : ℕ) (a′ : Shelf) (r : ℕ) : Type 0 where
   pub few : r ≤ n
-  pub safe : Safe a′ n (w + (n - r))
+  pub safe : ShelfSafe a′ n (w + (n - r))
   pub sifted : (x : Rule) (rs : List Rule) (cs : List Candidate) → RuleAt tab new sizes 0 (x .sides) → Sift tab x rs cs n a 0 0 w → Sift tab x rs cs n a′ n r (w + (n - r))

@@ -7,7 +7,7 @@ ghost use Rattle.completion.specs.Turn.{removed-rule};
 ghost use Rattle.completion.specs.Calls.{origin-bytes};
 ghost use Rattle.redex.specs.Stored.{Layout};
 ghost use Rattle.store.specs.Slots.{patched};
-ghost use Rattle.collapse.specs.Sifting.{shelf, Safe, Removes, SiftedOne, Sifted};
+ghost use Rattle.collapse.specs.Sifting.{shelf, ShelfSafe, Removes, SiftedOne, Sifted};
 
 // Whether the new rule, alone in its store, rewrites the left side of rule i.
 fn rewrites(rules: &[u8], lens: &[u8], i: usize, new: &[u8], sizes: &[u8], table: &[u8]) -> bool
@@ -51,7 +51,7 @@ fn sift(
     k: usize,
     w: usize,
 ) -> usize
-    requires { ⌜ Safe (shelf (now rules) (now lens) (now numbers) (now waiting) (now lengths) (now origins)) n w × Layout [] (now new) (now sizes) 1 ⌝ }
+    requires { ⌜ ShelfSafe (shelf (now rules) (now lens) (now numbers) (now waiting) (now lengths) (now origins)) n w × Layout [] (now new) (now sizes) 1 ⌝ }
     requires { ⌜ (k ≤ i) × (i < n) × (n ≤ 32) × (w ≤ 32) ⌝ }
     ensures { λ r. ⌜ SiftedOne (now (table .entry)) (now (new .entry)) (now (sizes .entry)) (shelf (now (rules .entry)) (now (lens .entry)) (now (numbers .entry)) (now (waiting .entry)) (now (lengths .entry)) (now (origins .entry))) n i k w (shelf (now (rules .exit)) (now (lens .exit)) (now (numbers .exit)) (now (waiting .exit)) (now (lengths .exit)) (now (origins .exit))) r ⌝ }
 {
@@ -79,7 +79,7 @@ pub fn collapse(
     n: usize,
     w: usize,
 ) -> usize
-    requires { ⌜ Safe (shelf (now rules) (now lens) (now numbers) (now waiting) (now lengths) (now origins)) n w × Layout [] (now new) (now sizes) 1 ⌝ }
+    requires { ⌜ ShelfSafe (shelf (now rules) (now lens) (now numbers) (now waiting) (now lengths) (now origins)) n w × Layout [] (now new) (now sizes) 1 ⌝ }
     requires { ⌜ (n ≤ 32) × (n + w ≤ 33) ⌝ }
     ensures { λ r. ⌜ Sifted (now (table .entry)) (now (new .entry)) (now (sizes .entry)) (shelf (now (rules .entry)) (now (lens .entry)) (now (numbers .entry)) (now (waiting .entry)) (now (lengths .entry)) (now (origins .entry))) n w (shelf (now (rules .exit)) (now (lens .exit)) (now (numbers .exit)) (now (waiting .exit)) (now (lengths .exit)) (now (origins .exit))) r ⌝ }
 {

@@ -12,12 +12,12 @@ use borrow.Author.Tests.{ltb-false}
 use Rattle.terms.specs.Base.{number-from}
 use Rattle.terms.specs.Term.{Term, size}
 use Rattle.terms.proofs.Every.{Every, of-none, of-cons, every-head}
-use Rattle.problem.specs.Problem.{ok, Field, Symbol, read-symbols, symbol-field, budget-field, Part, read-side, Equation, equation-field, equation-fields, Problem, parse, only-equation}
+use Rattle.problem.specs.Problem.{ok, Field, Symbol, read-symbols, symbol-field, budget-field, ReadPart, read-side, Equation, equation-field, equation-fields, Problem, parse, only-equation}
 use Rattle.completion.specs.Calls.{Single, parse-single}
 use Rattle.problem.specs.Over.{Over}
 use Rattle.completion.proofs.Over.{OverPair, OverEquations}
 use Rattle.problem.proofs.Reading.{ReadsTo, reads, from-bind, no-ok, ok-injective, passed}
-use Rattle.completion.proofs.Limits.{Held, HeldPair, Accepted}
+use Rattle.completion.proofs.Limits.{HeldTo, HeldPair, Accepted}
 
 last-of : (a b : Bool) → (a || b) ≡ false → b ≡ false
 last-of true b h = absurd (let z : _≡_ {A = ℕ} 0 1 = cc in omega arith)
@@ -58,7 +58,7 @@ module _ (Σ : List Symbol) where
   abbrev n : ℕ
   n = length Σ
 
-  side-fits : (at : ℕ) (bytes : List ℕ) (p : Part Term) → read-side Σ at bytes ≡ ok p → Held n 16 (p .part) × Over Σ (p .part)
+  side-fits : (at : ℕ) (bytes : List ℕ) (p : ReadPart Term) → read-side Σ at bytes ≡ ok p → HeldTo n 16 (p .part) × Over Σ (p .part)
   unfolding read-side
   side-fits at bytes p e =
       from-bind _ _ p e λ t a e.

@@ -107,7 +107,7 @@ module _ (bytes : List ℕ) (P : Problem) (read : parse bytes ≡ ok P) where
   result-bytes-fit = result-is-bytes P (accepts bytes P read)
 
 -- What complete writes, if it does not refuse: bytes, and fewer than its buffer holds.
-pub record Writes (buffer : ℕ) (r : List ℕ) : Type 0 where
+pub record WritesWithin (buffer : ℕ) (r : List ℕ) : Type 0 where
   pub are-bytes : Bytes r
   pub few : length r ≤ 13_715
   pub room : length r ≤ buffer
@@ -116,7 +116,7 @@ pub buffer-enough : (buffer : ℕ) (u : Unit {0}) → enough buffer ≡ ok u →
 unfolding enough
 buffer-enough buffer u e = ltb-false buffer 16_384 (passed (ltb buffer 16_384) 1 0 u e)
 
-pub complete-writes : (bytes : List ℕ) (buffer : ℕ) (r : List ℕ) → complete-call bytes buffer ≡ ok r → Writes buffer r
+pub complete-writes : (bytes : List ℕ) (buffer : ℕ) (r : List ℕ) → complete-call bytes buffer ≡ ok r → WritesWithin buffer r
 unfolding complete-call
 complete-writes bytes buffer r e =
     from-bind _ _ r e λ u a e.

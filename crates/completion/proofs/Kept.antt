@@ -18,7 +18,7 @@ use Rattle.rewriting.proofs.Covers.{all-places-hold}
 use Rattle.rewriting.proofs.Holds.{Reached, reached-keeps}
 use Rattle.problem.specs.Problem.{Problem}
 use Rattle.completion.specs.Turn.{Origin, overlapping, scanned-input, Candidate, State, Taken, rewrites, kept, removed, settled, run}
-use Rattle.completion.proofs.Limits.{Held, HeldPair, OriginFits, CandidateFits, RuleFits, EntryFits, Ascending, numbers, Limits, Accepted, later-origin, later-candidate, later-entry, pair-wide, renamed-held, few-variables, candidates-fit, initial-limits}
+use Rattle.completion.proofs.Limits.{HeldTo, HeldPair, OriginFits, CandidateFits, RuleFits, EntryFits, Ascending, numbers, Limits, Accepted, later-origin, later-candidate, later-entry, pair-wide, renamed-held, few-variables, candidates-fit, initial-limits}
 use Rattle.completion.proofs.Ends.{inputs, Small, Source, of-waiting, of-overlap, of-input, Takes, Rights, none-yet, one-more, with-right, older-rules, Next, settles, makes, Neither}
 use Rattle.completion.proofs.Closed.{Closed, Has, taken-has, next-has, kept-every, removed-every}
 use Rattle.completion.proofs.Reachable.{Reachable, from-start, by-turn, turn-next, run-stops}
@@ -91,15 +91,15 @@ rights-numbers {new} {older} {done} g =
 
 -- Steps keep sizes and variables.
 module _ (n v : ℕ) (wide : 16 ≤ v) (rules : List Rule) (fit : Every (λ (r : Rule). HeldPair n 16 (r .sides)) rules) where
-  step-held : (t u : Term) → step rules t ≡ some u → size u ≤ 120 → Held n v t → Held n v u
+  step-held : (t u : Term) → step rules t ≡ some u → size u ≤ 120 → HeldTo n v t → HeldTo n v u
   step-held t u e l h =
       record {
         small = l;
         made = step-made (λ f. f < n) (λ x. x < v) (λ x. x < 16) (λ x k. omega arith) rules (every-map (λ r k. k .right .made) fit) t u (h .made) e;
       }
 
-  pub reached-held : (t u : Term) → Reached rules t u → Held n v t → Held n v u
-  reached-held t u r h = reached-keeps (Held n v) step-held r h
+  pub reached-held : (t u : Term) → Reached rules t u → HeldTo n v t → HeldTo n v u
+  reached-held t u r h = reached-keeps (HeldTo n v) step-held r h
 
 module _ (P : Problem) (ok : Accepted P) where
   abbrev pub symbols : ℕ

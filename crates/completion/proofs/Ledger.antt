@@ -357,24 +357,24 @@ unfolding run-events run
 run-events-valid P = turns-books (suc (P .budget)) P (initial P) (P .budget) (omega arith) (omega arith) .valid
 
 -- The turns begun: one for each log entry, and the last one, unless no unit was left for it.
-pub record Begun (before after : ℕ) (events : List Event) : Type 0 where
+pub record TurnsBegun (before after : ℕ) (events : List Event) : Type 0 where
   pub last : ℕ
   pub at-most-one : last ≤ 1
   pub begun-are : begun events + before ≡ after + last
 
 module _ (P : Problem) where
-  turns-begun : (n : ℕ) (s : State) (left : ℕ) → left < n → Reachable P s left → Begun (length (s .log)) (length (turns n P s left .state .log)) (turns-events n P s left)
+  turns-begun : (n : ℕ) (s : State) (left : ℕ) → left < n → Reachable P s left → TurnsBegun (length (s .log)) (length (turns n P s left .state .log)) (turns-events n P s left)
   unfolding turns turns-events
   turns-begun zero s left h r = absurd (omega arith)
   turns-begun (suc n) s left h r = go (turn P s left) refl (turn-books P s left .once) (λ s′ left′ h r. turns-begun n s′ left′ h r)
     where
       go : (p : Paid State) → turn P s left ≡ p → begun (turn-events P s left) ≡ min 1 left →
-          ((s′ : State) (left′ : ℕ) → left′ < n → Reachable P s′ left′ → Begun (length (s′ .log)) (length (turns n P s′ left′ .state .log)) (turns-events n P s′ left′)) →
-          Begun (length (s .log)) (length (turns (suc n) P s left .state .log)) (turns-events (suc n) P s left)
+          ((s′ : State) (left′ : ℕ) → left′ < n → Reachable P s′ left′ → TurnsBegun (length (s′ .log)) (length (turns n P s′ left′ .state .log)) (turns-events n P s′ left′)) →
+          TurnsBegun (length (s .log)) (length (turns (suc n) P s left .state .log)) (turns-events (suc n) P s left)
       go (done s′ left′) e b ih =
           let less : left′ < left = turn-less P s s′ left left′ e in
           let g : length (s′ .log) ≡ suc (length (s .log)) = next-entry P _ _ (turn-next P _ _ _ _ e) in
-          let k : Begun (length (s′ .log)) (length (turns n P s′ left′ .state .log)) (turns-events n P s′ left′) = ih s′ left′ (omega arith) (by-turn r e) in
+          let k : TurnsBegun (length (s′ .log)) (length (turns n P s′ left′ .state .log)) (turns-events n P s′ left′) = ih s′ left′ (omega arith) (by-turn r e) in
           let c : begun (turns-events n P s′ left′) + length (s′ .log) ≡ length (turns n P s′ left′ .state .log) + k .last = k .begun-are in
           let d = begun-append (turn-events P s left) (turns-events n P s′ left′) in
           rw (e, turns, turns-events) (record { last = k .last; at-most-one = k .at-most-one; begun-are = omega arith })
@@ -383,7 +383,7 @@ module _ (P : Problem) where
           let z : begun [] ≡ 0 = unfold begun in refl in
           rw (e, turns, turns-events) (record { last = min 1 left; at-most-one = omega arith; begun-are = omega arith })
 
-  pub run-begun : Begun 0 (length (run P .state .log)) (run-events P)
+  pub run-begun : TurnsBegun 0 (length (run P .state .log)) (run-events P)
   unfolding run run-events
   run-begun =
       let z : length (initial P .log) ≡ 0 = unfold initial in refl in

@@ -15,13 +15,13 @@ use Rattle.completion.proofs.Over.{OverEquations}
 use Rattle.completion.specs.Turn.{Origin, waiting-input, removed-rule, scanned-input, overlapping, Candidate, Entry, State, candidates, initial}
 
 -- At most 120 nodes, symbols below n, variables below v.
-pub record Held (n v : ℕ) (t : Term) : Type 0 where
+pub record HeldTo (n v : ℕ) (t : Term) : Type 0 where
   pub small : size t ≤ 120
   pub made : Made (λ f. f < n) (λ x. x < v) t
 
 pub record HeldPair (n v : ℕ) (e : Pair) : Type 0 where
-  pub left : Held n v (e .left)
-  pub right : Held n v (e .right)
+  pub left : HeldTo n v (e .left)
+  pub right : HeldTo n v (e .right)
 
 -- Where a pair came from: inputs are numbered 1 to 16, rules 1 to `made`, and a position is below 120.
 unfoldable pub OriginFits : ℕ → Origin → Type 0
@@ -86,7 +86,7 @@ pub later-entry : (a b : ℕ) → a ≤ b → (e : Entry) → EntryFits a e → 
 later-entry a b l e h = record { from = later-origin a b l (e .origin) (h .from); last = omega arith }
 
 -- More variables allowed.
-pub held-wide : (n v w : ℕ) → v ≤ w → (t : Term) → Held n v t → Held n w t
+pub held-wide : (n v w : ℕ) → v ≤ w → (t : Term) → HeldTo n v t → HeldTo n w t
 held-wide n v w l t h = record { small = h .small; made = made-with _ (λ x. x < v) (λ x. x < w) t (h .made) (λ x i. let k : x < v = made-vars _ (λ x. x < v) t (h .made) x i in omega arith) }
 
 pub pair-wide : (n v w : ℕ) → v ≤ w → (e : Pair) → HeldPair n v e → HeldPair n w e

@@ -10,13 +10,13 @@ use Rattle.rewriting.specs.Rewrite.{End, complete, neither-above, spent, too-la
 use Rattle.problem.specs.Problem.{Problem}
 use Rattle.completion.specs.Turn.{Candidate, State, Finished, initial, take-pair, orient, make-rule, turn, turns, run}
 use Rattle.completion.proofs.Lawful.{Unless, Other}
-use Rattle.completion.proofs.Steady.{Grown, turn-steady}
+use Rattle.completion.proofs.Steady.{WithMore, turn-steady}
 use Rattle.completion.proofs.Reachable.{Reachable, from-start, by-turn, turn-less}
 use Rattle.completion.proofs.Units.{turns-enough}
 
 -- with k units more
 pub turn-more : (P : Problem) (s s′ : State) (left left′ k : ℕ) → turn P s left ≡ done s′ left′ → turn P s (left + k) ≡ done s′ (left′ + k)
-turn-more P s s′ left left′ k e = subst (λ p. Grown p k (turn P s (left + k))) e (turn-steady P s left k (left + k) refl)
+turn-more P s s′ left left′ k e = subst (λ p. WithMore p k (turn P s (left + k))) e (turn-steady P s left k (left + k) refl)
 
 other : (e : End) (A B : Type 0) → Other e → Unless e A B → B
 other complete A B o h = h
@@ -36,11 +36,11 @@ unless log-full A B a b = b tt
 
 pub stop-more : (P : Problem) (s : State) (left left′ k : ℕ) (e : End) → Other e → turn P s left ≡ stop e left′ → turn P s (left + k) ≡ stop e (left′ + k)
 stop-more P s left left′ k e o q =
-    other e (left′ ≡ 0) (turn P s (left + k) ≡ stop e (left′ + k)) o (subst (λ p. Grown p k (turn P s (left + k))) q (turn-steady P s left k (left + k) refl))
+    other e (left′ ≡ 0) (turn P s (left + k) ≡ stop e (left′ + k)) o (subst (λ p. WithMore p k (turn P s (left + k))) q (turn-steady P s left k (left + k) refl))
 
 -- at 21 nothing is left
 pub spent-left : (P : Problem) (s : State) (left left′ : ℕ) → turn P s left ≡ stop spent left′ → left′ ≡ 0
-spent-left P s left left′ q = subst (λ p. Grown p 0 (turn P s (left + 0))) q (turn-steady P s left 0 (left + 0) refl)
+spent-left P s left left′ q = subst (λ p. WithMore p 0 (turn P s (left + 0))) q (turn-steady P s left 0 (left + 0) refl)
 
 -- the same problem with a budget greater by k
 unfoldable pub raised : ℕ → Problem → Problem

@@ -17,14 +17,14 @@ use Rattle.completion.proofs.Lawful.{Unless, Other, Lawful, turn-lawful
 use Rattle.completion.specs.Turn.{State, turn}
 
 -- With k units more: the same answer or end, and k more left; at 21 no unit is left.
-abbrev pub Grown : {A : Type 0} → Paid A → ℕ → Paid A → Type 0
-Grown (done a left) k p = p ≡ done a (left + k)
-Grown (stop e left) k p = Unless e (left ≡ 0) (p ≡ stop e (left + k))
+abbrev pub WithMore : {A : Type 0} → Paid A → ℕ → Paid A → Type 0
+WithMore (done a left) k p = p ≡ done a (left + k)
+WithMore (stop e left) k p = Unless e (left ≡ 0) (p ≡ stop e (left + k))
 
 abbrev pub Steady : {A : Type 0} → Paying A → Type 0
-Steady m = (left k more : ℕ) → more ≡ left + k → Grown (m left) k (m more)
+Steady m = (left k more : ℕ) → more ≡ left + k → WithMore (m left) k (m more)
 
-stop-then : {A B : Type 0} (e : End) (left k : ℕ) (p : Paid A) (next : A → Paying B) → Grown (stop e left) k p → Grown {A = B} (stop e left) k (and-then p next)
+stop-then : {A B : Type 0} (e : End) (left k : ℕ) (p : Paid A) (next : A → Paying B) → WithMore (stop e left) k p → WithMore {A = B} (stop e left) k (and-then p next)
 unfolding and-then
 stop-then complete left k p next h = ap (λ q. and-then q next) h
 stop-then (neither-above e) left k p next h = ap (λ q. and-then q next) h
@@ -33,9 +33,9 @@ stop-then too-large left k p next h = ap (λ q. and-then q next) h
 stop-then rules-full left k p next h = ap (λ q. and-then q next) h
 stop-then log-full left k p next h = ap (λ q. and-then q next) h
 
-then-steady : {A B : Type 0} (p q : Paid A) (next : A → Paying B) (k : ℕ) → Grown p k q → ((a : A) → Steady (next a)) → Grown (and-then p next) k (and-then q next)
+then-steady : {A B : Type 0} (p q : Paid A) (next : A → Paying B) (k : ℕ) → WithMore p k q → ((a : A) → Steady (next a)) → WithMore (and-then p next) k (and-then q next)
 unfolding and-then
-then-steady (done a left) q next k h f = subst (λ z. Grown (next a left) k (and-then z next)) (sym h) (f a left k (left + k) refl)
+then-steady (done a left) q next k h f = subst (λ z. WithMore (next a left) k (and-then z next)) (sym h) (f a left k (left + k) refl)
 then-steady (stop e left) q next k h f = stop-then e left k q next h
 
 pub bind-steady : {A B : Type 0} (m : Paying A) (next : A → Paying B) → Steady m → ((a : A) → Steady (next a)) → Steady (m >>= next)
@@ -61,28 +61,28 @@ pay-steady zero k more e = refl
 pay-steady (suc left) k zero e = absurd (omega arith)
 pay-steady (suc left) k (suc more) e = ap (done tt) (omega arith)
 
-if-grown : {A : Type 0} (b : Bool) (p q p′ q′ : Paid A) (k : ℕ) → Grown p k p′ → Grown q k q′ → Grown {A = A} (if b then p else q) k (if b then p′ else q′)
+if-grown : {A : Type 0} (b : Bool) (p q p′ q′ : Paid A) (k : ℕ) → WithMore p k p′ → WithMore q k q′ → WithMore {A = A} (if b then p else q) k (if b then p′ else q′)
 unfolding if_then_else_
 if-grown true p q p′ q′ k h l = h
 if-grown false p q p′ q′ k h l = l
 
-pub normalise-steady : (rules : List Rule) (t : Term) (left k more : ℕ) → more ≡ left + k → Grown (normalise rules t left) k (normalise rules t more)
+pub normalise-steady : (rules : List Rule) (t : Term) (left k more : ℕ) → more ≡ left + k → WithMore (normalise rules t left) k (normalise rules t more)
 unfolding normalise
 normalise-steady rules t zero k zero e = go (step rules t) refl
   where
-    go : (o : Option Term) → step rules t ≡ o → Grown (normalise rules t zero) k (normalise rules t zero)
+    go : (o : Option Term) → step rules t ≡ o → WithMore (normalise rules t zero) k (normalise rules t zero)
     go none q = rw (q, normalise) (ap (done t) e)
     go (some u) q = rw (q, normalise) refl
 normalise-steady rules t zero k (suc more) e = go (step rules t) refl
   where
-    go : (o : Option Term) → step rules t ≡ o → Grown (normalise rules t zero) k (normalise rules t (suc more))
+    go : (o : Option Term) → step rules t ≡ o → WithMore (normalise rules t zero) k (normalise rules t (suc more))
     go none q = rw (q, normalise) (ap (done t) e)
     go (some u) q = rw (q, normalise) refl
 normalise-steady rules t (suc left) k zero e = absurd (omega arith)
 normalise-steady rules t (suc left) k (suc more) e = go (step rules t) refl (λ u e. normalise-steady rules u left k more e)
   where
-    go : (o : Option Term) → step rules t ≡ o → ((u : Term) → more ≡ left + k → Grown (normalise rules u left) k (normalise rules u more)) →
-        Grown (normalise rules t (suc left)) k (normalise rules t (suc more))
+    go : (o : Option Term) → step rules t ≡ o → ((u : Term) → more ≡ left + k → WithMore (normalise rules u left) k (normalise rules u more)) →
+        WithMore (normalise rules t (suc left)) k (normalise rules t (suc more))
     go none q ih = rw (q, normalise) (ap (done t) e)
     go (some u) q ih =
         let l : more ≡ left + k = omega arith in

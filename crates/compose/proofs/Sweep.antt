@@ -14,7 +14,7 @@ use Rattle.redex.specs.Stored.{Layout, Stored}
 use Rattle.completion.specs.Turn.{normalise-rights}
 use Rattle.completion.proofs.Ends.{with-right}
 use Rattle.completion.proofs.Limits.{numbers}
-use Rattle.compose.specs.Rights.{OneIs, One, Kept, AllIs, All}
+use Rattle.compose.specs.Rights.{OneIs, One, OthersKept, AllIs, All}
 use Rattle.compose.specs.declared.Composed.{Composed}
 use Rattle.compose.proofs.Single.{sides-append}
 
@@ -29,7 +29,7 @@ pub record Midway (tab rules lens : List ℕ) (rs : List Rule) (new : Rule) (k u
 -- the first k right sides are done
 pub record SweptTo (tab rules lens rules′ lens′ : List ℕ) (older units k left : ℕ) : Type 0 where
   pub within : k ≤ older
-  pub kept : Kept tab rules lens rules′ lens′ older units left
+  pub kept : OthersKept tab rules lens rules′ lens′ older units left
   pub answer : (rs : List Rule) (new : Rule) → length rs ≡ older → Stored tab rules lens 0 (sides-of (rs ++ (new ∷ []))) →
       (before : List Rule) × (later : List Rule) × Midway tab rules′ lens′ rs new k units left before later
 
@@ -58,7 +58,7 @@ last-right before new left = refl
 
 module _ (tab rules lens rules₁ lens₁ : List ℕ) (older units k left : ℕ) (g : SweptTo tab rules lens rules₁ lens₁ older units k left) where
   module _ (more : k < older) (rules₂ lens₂ : List ℕ) (o : Composed) (one : One tab rules₁ lens₁ rules₂ lens₂ k older left o) where
-    still-kept : Kept tab rules lens rules₂ lens₂ older units (o .units)
+    still-kept : OthersKept tab rules lens rules₂ lens₂ older units (o .units)
     still-kept =
         let q = one .left-over in
         let r = g .kept .left-over in

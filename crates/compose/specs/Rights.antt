@@ -31,7 +31,7 @@ pub record One (tab rules lens rules′ lens′ : List ℕ) (k older units : ℕ
       OneIs tab rules′ lens′ before old after o (normalise (before ++ (old ∷ after)) (old .sides .right) units)
 
 -- what no bytes break: the lengths, the slots from `older` on, and the units
-pub record Kept (tab rules lens rules′ lens′ : List ℕ) (older units left : ℕ) : Type 0 where
+pub record OthersKept (tab rules lens rules′ lens′ : List ℕ) (older units left : ℕ) : Type 0 where
   pub same-bytes : length rules′ ≡ length rules
   pub same-lengths : length lens′ ≡ length lens
   pub layout : Layout tab rules′ lens′ (older + 1)
@@ -45,6 +45,6 @@ AllIs tab rules lens older rs o (done rs′ left) =
 AllIs tab rules lens older rs o (stop e left) = (o .verdict ≡ end-number e) × (o .units ≡ left)
 
 pub record All (tab rules lens rules′ lens′ : List ℕ) (older units : ℕ) (o : Composed) : Type 0 where
-  pub kept : Kept tab rules lens rules′ lens′ older units (o .units)
+  pub kept : OthersKept tab rules lens rules′ lens′ older units (o .units)
   pub answer : (rs : List Rule) (new : Rule) → length rs ≡ older → Stored tab rules lens 0 (sides-of (rs ++ (new ∷ []))) →
       AllIs tab rules′ lens′ older (rs ++ (new ∷ [])) o (normalise-rights [] rs new units)

@@ -1,5 +1,5 @@
 -- The first state: the input equations, copied into the slots with their numbers as origins, wait as in the definition's `initial`. Assumes nothing.
--- Read first: specs/State (Represents), specs/Steps (Begun, numbered), store/proofs/Listing.
+-- Read first: specs/State (Represents), specs/Steps (FirstState, numbered), store/proofs/Listing.
 use mathlib.Core.Path.{_≡_, refl, sym, ap, ap₂, _∙_, subst}
 use mathlib.Core.List.{List, [], _∷_, _++_, append-assoc, append-nil, map, flatMap}
 use Prim.Native.Nat.{ℕ, zero, suc, _+_, _-_, _*_, _/_, _%_, _<_, _≤_}
@@ -22,7 +22,7 @@ use Rattle.store.proofs.Listing.{part-in, stored-same, stored-none, layout-of, 
 use Rattle.collapse.specs.Sifting.{origins-bytes}
 use Rattle.collapse.proofs.Lists.{any-table}
 use Rattle.engine.specs.State.{Whole, Represents}
-use Rattle.engine.specs.Steps.{numbered, Begun}
+use Rattle.engine.specs.Steps.{numbered, FirstState}
 
 -- `put_input`
 pub input-bytes : (n : ℕ) → n < 256 → 1 ∷ 0 ∷ n ∷ 0 ∷ 0 ∷ 0 ∷ [] ≡ origin-bytes (waiting-input n)
@@ -142,7 +142,7 @@ module _ (inputs lens : List ℕ) (number : ℕ) (y : Layout [] inputs lens numb
           entries = refl;
         }
 
-    pub begin-done : Begun inputs lens number budget first-state
+    pub begin-done : FirstState inputs lens number budget first-state
     begin-done = record {
       fine = record {
         rules-fit = record { slots = omega arith; lengths = omega arith; few = omega arith; short = λ i h. absurd (omega arith) };

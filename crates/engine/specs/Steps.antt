@@ -23,7 +23,7 @@ numbered k zero = []
 numbered k (suc n) = origin-bytes (waiting-input k) ++ numbered (suc k) n
 
 -- the first state
-pub record Begun (inputs lens : List ℕ) (number budget : ℕ) (r : Whole) : Type 0 where
+pub record FirstState (inputs lens : List ℕ) (number budget : ℕ) (r : Whole) : Type 0 where
   pub fine : Fine r
   pub units : r .units ≡ budget
   pub waits : r .waits ≡ number
@@ -31,7 +31,7 @@ pub record Begun (inputs lens : List ℕ) (number budget : ℕ) (r : Whole) : Ty
 
 -- `begin`, whatever bytes the other two buffers hold
 pub record Begins (inputs lens : List ℕ) (number budget : ℕ) (waiting : List ℕ) (r : State) : Type 0 where
-  pub begun : (rules log : List ℕ) → length rules ≡ 7920 → length log ≡ 5632 → Begun inputs lens number budget (whole r rules waiting log)
+  pub begun : (rules log : List ℕ) → length rules ≡ 7920 → length log ≡ 5632 → FirstState inputs lens number budget (whole r rules waiting log)
 
 -- the waiting list without its oldest
 pub record TakenState (st r : Whole) : Type 0 where

@@ -1,5 +1,5 @@
 -- The end of a side: a walk of at most 120 known bytes stops where the term ends, if a term of a side stands there. Assumes nothing.
--- Read first: specs/Inputs (Known, SideEnd), terms/specs/Flat (Wf).
+-- Read first: specs/Inputs (KnownBytes, SideEnd), terms/specs/Flat (Wf).
 use mathlib.Core.Path.{_≡_, sym, ap, _∙_, subst}
 use mathlib.Core.List.{List, [], _∷_, _++_}
 use Prim.Native.Nat.{ℕ, suc, _+_, _-_, _<_, _≤_}
@@ -11,19 +11,19 @@ use Rattle.terms.specs.Flat.{Wf, Starts}
 use Rattle.terms.proofs.Every.{of-none, every-one, every-append, every-at}
 use Rattle.terms.proofs.Flats.{widen, wf-bytes}
 use Rattle.terms.proofs.Bytes.{length-bytes}
-use Rattle.inputs.specs.Inputs.{Known, SideEnd}
+use Rattle.inputs.specs.Inputs.{KnownBytes, SideEnd}
 
 -- the walk is at i: the bytes from `at` on are known
 pub record SideWalk (l : List ℕ) (at e i : ℕ) : Type 0 where
   pub low : at ≤ i
   pub high : i ≤ at + 120
   pub below : i ≤ e
-  pub known : Known (take (i - at) (drop at l))
+  pub known : KnownBytes (take (i - at) (drop at l))
 
 pub side-start : (l : List ℕ) (at e : ℕ) → at ≤ e → SideWalk l at e at
 side-start l at e h =
     let z : 0 ≡ at - at = omega arith in
-    record { low = omega arith; high = omega arith; below = h; known = subst (λ n. Known (take n (drop at l))) z of-none }
+    record { low = omega arith; high = omega arith; below = h; known = subst (λ n. KnownBytes (take n (drop at l))) z of-none }
 
 pub side-more : (l : List ℕ) (at e i : ℕ) → SideWalk l at e i → e ≤ length l → i < e → i - at < 120 → getD l i 0 ≤ 143 → SideWalk l at e (i + 1)
 side-more l at e i g h j n b =
@@ -31,12 +31,12 @@ side-more l at e i g h j n b =
     let a : suc (i - at) ≡ i + 1 - at = omega arith in
     let c : at + (i - at) ≡ i = omega arith in
     let v : getD l i 0 ≡ getD (drop at l) (i - at) 0 = sym (getD-drop at l (i - at) 0 ∙ ap (λ z. getD l z 0) c) in
-    let k : Known (take (i - at) (drop at l) ++ (getD (drop at l) (i - at) 0 ∷ [])) = every-append (g .known) (every-one (let u : getD (drop at l) (i - at) 0 < 144 = omega (arith, v) in u)) in
+    let k : KnownBytes (take (i - at) (drop at l) ++ (getD (drop at l) (i - at) 0 ∷ [])) = every-append (g .known) (every-one (let u : getD (drop at l) (i - at) 0 < 144 = omega (arith, v) in u)) in
     record {
       low = omega arith;
       high = omega arith;
       below = omega arith;
-      known = subst (λ z. Known (take z (drop at l))) a (subst (λ z. Known z) (sym (take-suc (drop at l) (i - at) 0 (omega (arith, length-drop at l)))) k);
+      known = subst (λ z. KnownBytes (take z (drop at l))) a (subst (λ z. KnownBytes z) (sym (take-suc (drop at l) (i - at) 0 (omega (arith, length-drop at l)))) k);
     }
 
 -- the walk of `term_end` ends at e

@@ -1,5 +1,5 @@
 -- The equation fields of a problem that is accepted stand one behind the other, and the loop puts the first k into slots 0 to k - 1. Assumes nothing.
--- Read first: specs/Inputs (SidesAt, Filled), problem/proofs/Laid, store/proofs/Listing.
+-- Read first: specs/Inputs (PairAt, Filled), problem/proofs/Laid, store/proofs/Listing.
 use mathlib.Core.Path.{_≡_, refl, sym, ap, _∙_, subst}
 use mathlib.Core.List.{List, [], _∷_, _++_, map, map-map, map-append, append-assoc, append-nil}
 use Prim.Native.Nat.{ℕ, _+_, _-_, _*_, _<_, _≤_}
@@ -16,11 +16,11 @@ use Rattle.problem.proofs.Sides.{Both}
 use Rattle.problem.proofs.Laid.{Laid, parsed-laid}
 use Rattle.completion.proofs.Limits.{HeldPair}
 use Rattle.completion.proofs.Accepts.{accepts}
-use Rattle.store.specs.Slots.{Room}
+use Rattle.store.specs.Slots.{SlotRoom}
 use Rattle.store.proofs.Listing.{layout-of, layout-more, stored-none, stored-behind}
-use Rattle.inputs.specs.Inputs.{SidesAt, PutEquation, Filled}
+use Rattle.inputs.specs.Inputs.{PairAt, PutEquation, Filled}
 
-sides-at : (n : ℕ) (tab : List ℕ) (T : Table tab) (l : List ℕ) (at : ℕ) (q : Equation) → Both tab T l at q → HeldPair n 16 (q .sides) → SidesAt tab l (at + 3) (q .sides)
+sides-at : (n : ℕ) (tab : List ℕ) (T : Table tab) (l : List ℕ) (at : ℕ) (q : Equation) → Both tab T l at q → HeldPair n 16 (q .sides) → PairAt tab l (at + 3) (q .sides)
 sides-at n tab T l at q b h =
     let x : Term = q .sides .left in
     let rest-is : b .left .rest ≡ drop (at + 3 + size x) l =
@@ -37,7 +37,7 @@ sides-at n tab T l at q b h =
 -- the sides of the equations from `at` on
 unfoldable pub InFields : List ℕ → List ℕ → ℕ → List Pair → Type 0
 InFields tab l at [] = Unit {0}
-InFields tab l at (p ∷ ps) = (e : ℕ) × (due 0x03 at (drop at l) ≡ ok (field-at 0x03 l at e)) × SidesAt tab l (at + 3) p × InFields tab l e ps
+InFields tab l at (p ∷ ps) = (e : ℕ) × (due 0x03 at (drop at l) ≡ ok (field-at 0x03 l at e)) × PairAt tab l (at + 3) p × InFields tab l e ps
 
 laid-fields : (n : ℕ) (tab : List ℕ) (T : Table tab) (l : List ℕ) (at : ℕ) (es : List Equation) →
     Laid tab T l at es → Every (λ (e : Equation). HeldPair n 16 (e .sides)) es → InFields tab l at (map (λ (e : Equation). e .sides) es)
@@ -77,7 +77,7 @@ fill-start tab l at b₀ l₀ = record {
   split = λ ps f h. record { first = []; rest = ps; is = refl; number = refl; stored = stored-none tab b₀ l₀ 0; more = f };
 }
 
-pub fill-room : (tab l : List ℕ) (at : ℕ) (b₀ l₀ bytes lens : List ℕ) (k i count : ℕ) → SoFar tab l at b₀ l₀ bytes lens k i → k < count → 240 * count ≤ length b₀ → 2 * count ≤ length l₀ → Room bytes lens k
+pub fill-room : (tab l : List ℕ) (at : ℕ) (b₀ l₀ bytes lens : List ℕ) (k i count : ℕ) → SoFar tab l at b₀ l₀ bytes lens k i → k < count → 240 * count ≤ length b₀ → 2 * count ≤ length l₀ → SlotRoom bytes lens k
 fill-room tab l at b₀ l₀ bytes lens k i count s h m n = record { slots = omega (arith, s .same-bytes); lengths = omega (arith, s .same-lengths) }
 
 module _ (tab l : List ℕ) (bytes lens bytes′ lens′ : List ℕ) (k i r : ℕ) (y : Layout tab bytes lens k) (q : PutEquation tab l i bytes lens k bytes′ lens′ r) where
@@ -98,7 +98,7 @@ module _ (tab l : List ℕ) (bytes lens bytes′ lens′ : List ℕ) (k i r : �
   pub next-split : (ps : List Pair) → Split tab l bytes lens k i ps → k + 1 ≤ length ps → Split tab l bytes′ lens′ (k + 1) r ps
   next-split ps s h = next ps (s .first) (s .rest) (s .is) (s .number) (s .stored) (s .more) h
 
-pub fill-more : (tab l : List ℕ) (at : ℕ) (b₀ l₀ bytes lens bytes′ lens′ : List ℕ) (k i r : ℕ) → SoFar tab l at b₀ l₀ bytes lens k i → Room bytes lens k → k < 33 →
+pub fill-more : (tab l : List ℕ) (at : ℕ) (b₀ l₀ bytes lens bytes′ lens′ : List ℕ) (k i r : ℕ) → SoFar tab l at b₀ l₀ bytes lens k i → SlotRoom bytes lens k → k < 33 →
     PutEquation tab l i bytes lens k bytes′ lens′ r → SoFar tab l at b₀ l₀ bytes′ lens′ (k + 1) r
 fill-more tab l at b₀ l₀ bytes lens bytes′ lens′ k i r s m h q = record {
   same-bytes = q .only .same-bytes ∙ s .same-bytes;

@@ -1,6 +1,6 @@
 -- Two sides, found in the problem's bytes, renamed together and put into a slot: what each of the functions that do so leaves behind. Assumes
 -- nothing.
--- Read first: specs/Inputs (SidesAt, PutSides, PutEquation), naming/proofs/Pairs, store/specs/Slots (Holds).
+-- Read first: specs/Inputs (PairAt, PutSides, PutEquation), naming/proofs/Pairs, store/specs/Slots (SlotHolds).
 use mathlib.Core.Path.{_≡_, refl, sym, ap, ap₂, _∙_, subst, subst₂}
 use mathlib.Core.List.{List, [], _++_, append-assoc}
 use Prim.Native.Nat.{ℕ, _+_, _-_, _≤_}
@@ -16,17 +16,17 @@ use Rattle.naming.specs.Names.{collect, renamed-bytes}
 use Rattle.naming.proofs.Renaming.{length-renamed}
 use Rattle.naming.proofs.Few.{names-few as few-names}
 use Rattle.naming.proofs.Pairs.{wf-low, wf-few, renamed-pair, renamed-left-wf, renamed-right-wf}
-use Rattle.store.specs.Slots.{Holds, OnlySlot}
+use Rattle.store.specs.Slots.{SlotHolds, OnlySlot}
 use Rattle.store.proofs.Listing.{short-put, rule-put}
 use Rattle.problem.specs.Problem.{ok, refused, Field, due}
 use Rattle.problem.specs.Parser.{field-at}
 use Rattle.problem.proofs.Reading.{no-ok, ok-injective}
-use Rattle.inputs.specs.Inputs.{Known, SidesAt, SideEnd, PutSides, PutEquation}
+use Rattle.inputs.specs.Inputs.{KnownBytes, PairAt, SideEnd, PutSides, PutEquation}
 
 -- `put_run`
-pub run-holds : (b l : List ℕ) (k : ℕ) (run : List ℕ) (m : ℕ) → Holds b l k (take (m - 0) run) (take (length run - m) (drop m run)) → Holds b l k (take m run) (drop m run)
+pub run-holds : (b l : List ℕ) (k : ℕ) (run : List ℕ) (m : ℕ) → SlotHolds b l k (take (m - 0) run) (take (length run - m) (drop m run)) → SlotHolds b l k (take m run) (drop m run)
 run-holds b l k run m h =
-    subst₂ (λ x y. Holds b l k x y) (ap (λ n. take n run) (sub-zero m)) (take-all (length run - m) (drop m run) (omega (arith, length-drop m run))) h
+    subst₂ (λ x y. SlotHolds b l k x y) (ap (λ n. take n run) (sub-zero m)) (take-all (length run - m) (drop m run) (omega (arith, length-drop m run))) h
 
 -- `put_renamed`: the run is copied to the front of a buffer
 module _ (s h h₁ : List ℕ) (c : h₁ ≡ take (length s) s ++ drop (length s) h) where
@@ -34,7 +34,7 @@ module _ (s h h₁ : List ℕ) (c : h₁ ≡ take (length s) s ++ drop (length s
   copied-front =
       ap₂ take (sub-zero (length s)) c ∙ ap (λ y. take (length s) (y ++ drop (length s) h)) (take-length s) ∙ take-at s (drop (length s) h) (length s) refl
 
-  pub names-few : Known s → length (collect [] (take (length s - 0) h₁)) ≤ 127
+  pub names-few : KnownBytes s → length (collect [] (take (length s - 0) h₁)) ≤ 127
   names-few k = subst (λ y. length (collect [] y) ≤ 127) (sym copied-front) (omega (arith, few-names 16 s (λ b i. every-in k i)))
 
   -- renamed there, it comes back as q
@@ -55,9 +55,9 @@ module _ (s h h₁ : List ℕ) (c : h₁ ≡ take (length s) s ++ drop (length s
         let n : length (take (length s - 0) (q ++ drop (length s - 0) h₁)) ≡ length s = ap length renamed-front ∙ length-renamed s in
         (omega arith, j, omega arith)
 
-    pub renamed-holds : (b l : List ℕ) (k m : ℕ) → Holds b l k (take m (take (length s - 0) (q ++ drop (length s - 0) h₁))) (drop m (take (length s - 0) (q ++ drop (length s - 0) h₁))) →
-        Holds b l k (take m (renamed-bytes s)) (drop m (renamed-bytes s))
-    renamed-holds b l k m h = subst (λ y. Holds b l k (take m y) (drop m y)) renamed-front h
+    pub renamed-holds : (b l : List ℕ) (k m : ℕ) → SlotHolds b l k (take m (take (length s - 0) (q ++ drop (length s - 0) h₁))) (drop m (take (length s - 0) (q ++ drop (length s - 0) h₁))) →
+        SlotHolds b l k (take m (renamed-bytes s)) (drop m (renamed-bytes s))
+    renamed-holds b l k m h = subst (λ y. SlotHolds b l k (take m y) (drop m y)) renamed-front h
 
 -- `put_sides`
 module _ (tab l : List ℕ) (at m e : ℕ) (a : SideEnd tab l at m) (b : SideEnd tab l m e) where
@@ -76,7 +76,7 @@ module _ (tab l : List ℕ) (at m e : ℕ) (a : SideEnd tab l at m) (b : SideEnd
   unfolding part
   part-right = let p = a .low in let q = b .low in let r = b .high in omega (arith, length-part)
 
-  pub part-known : Known (take (e - at) (drop at l))
+  pub part-known : KnownBytes (take (e - at) (drop at l))
   part-known =
       let p = a .low in
       let q = b .low in
@@ -84,9 +84,9 @@ module _ (tab l : List ℕ) (at m e : ℕ) (a : SideEnd tab l at m) (b : SideEnd
       let d : at + (m - at) ≡ m = omega arith in
       let f : take (e - at) (drop at l) ≡ take (m - at) (drop at l) ++ take (e - m) (drop m l) =
       ap (λ z. take z (drop at l)) (sym c) ∙ take-add (m - at) (e - m) (drop at l) ∙ ap (λ z. take (m - at) (drop at l) ++ take (e - m) z) (drop-drop (m - at) at l ∙ ap (λ z. drop z l) d) in
-      subst (λ z. Known z) (sym f) (every-append (a .known) (b .known))
+      subst (λ z. KnownBytes z) (sym f) (every-append (a .known) (b .known))
 
-  module _ (p : Pair) (S : SidesAt tab l at p) where
+  module _ (p : Pair) (S : PairAt tab l at p) where
     first-end : m ≡ at + size (p .left)
     first-end = a .answer (p .left) (term-bytes (p .right) ++ S .rest) (S .left-wf) (S .left-small) (S .bytes)
 
@@ -115,7 +115,7 @@ module _ (tab l : List ℕ) (at m e : ℕ) (a : SideEnd tab l at m) (b : SideEnd
     right-is = ap (drop (m - at)) run-is ∙ drop-at (term-bytes (renamed p .left)) (term-bytes (renamed p .right)) (m - at) left-length
 
   pub sides-put : (bytes lens : List ℕ) (k : ℕ) (bytes′ lens′ : List ℕ) →
-      Holds bytes′ lens′ k (take (m - at) (renamed-bytes (take (e - at) (drop at l)))) (drop (m - at) (renamed-bytes (take (e - at) (drop at l)))) → OnlySlot bytes lens k bytes′ lens′ → PutSides tab l at bytes lens k bytes′ lens′
+      SlotHolds bytes′ lens′ k (take (m - at) (renamed-bytes (take (e - at) (drop at l)))) (drop (m - at) (renamed-bytes (take (e - at) (drop at l)))) → OnlySlot bytes lens k bytes′ lens′ → PutSides tab l at bytes lens k bytes′ lens′
   sides-put bytes lens k bytes′ lens′ h o =
       let R : List ℕ = renamed-bytes (take (e - at) (drop at l)) in
       let n = length-renamed (take (e - at) (drop at l)) in
@@ -132,7 +132,7 @@ module _ (tab l : List ℕ) (at m e : ℕ) (a : SideEnd tab l at m) (b : SideEnd
 
 -- `put_equation`
 pub field-none : (tab l : List ℕ) (at : ℕ) (bytes lens : List ℕ) (k : ℕ) (bytes′ lens′ : List ℕ) (n place : ℕ) → due 0x03 at (drop at l) ≡ refused n place →
-    Holds bytes′ lens′ k [] [] → OnlySlot bytes lens k bytes′ lens′ → PutEquation tab l at bytes lens k bytes′ lens′ at
+    SlotHolds bytes′ lens′ k [] [] → OnlySlot bytes lens k bytes′ lens′ → PutEquation tab l at bytes lens k bytes′ lens′ at
 field-none tab l at bytes lens k bytes′ lens′ n place d h o = record {
   only = o;
   short = short-put h (omega arith) (omega arith);

@@ -12,11 +12,11 @@ use Rattle.problem.specs.Parser.{field-at, ParsedAt}
 use Rattle.store.specs.Slots.{OnlySlot, ShortAt}
 
 -- no byte is above that of the last variable
-abbrev pub Known : List ℕ → Type 0
-Known l = Every (λ b. b < 144) l
+abbrev pub KnownBytes : List ℕ → Type 0
+KnownBytes l = Every (λ b. b < 144) l
 
 -- the two sides of a pair stand one behind the other, each of at most 120 nodes with variables below 16
-pub record SidesAt (tab l : List ℕ) (at : ℕ) (p : Pair) : Type 0 where
+pub record PairAt (tab l : List ℕ) (at : ℕ) (p : Pair) : Type 0 where
   pub left-wf : Wf 16 tab (p .left)
   pub right-wf : Wf 16 tab (p .right)
   pub left-small : size (p .left) ≤ 120
@@ -29,20 +29,20 @@ pub record SideEnd (tab l : List ℕ) (at r : ℕ) : Type 0 where
   pub low : at ≤ r
   pub high : r ≤ at + 120
   pub within : r ≤ length l
-  pub known : Known (take (r - at) (drop at l))
+  pub known : KnownBytes (take (r - at) (drop at l))
   pub answer : (x : Term) (rest : List ℕ) → Wf 16 tab x → size x ≤ 120 → drop at l ≡ term-bytes x ++ rest → r ≡ at + size x
 
 -- `put_sides`
 pub record PutSides (tab l : List ℕ) (at : ℕ) (bytes lens : List ℕ) (k : ℕ) (bytes′ lens′ : List ℕ) : Type 0 where
   pub only : OnlySlot bytes lens k bytes′ lens′
   pub short : ShortAt lens′ k
-  pub answer : (p : Pair) → SidesAt tab l at p → RuleAt tab bytes′ lens′ k (renamed p)
+  pub answer : (p : Pair) → PairAt tab l at p → RuleAt tab bytes′ lens′ k (renamed p)
 
 -- `put_equation`
 pub record PutEquation (tab l : List ℕ) (at : ℕ) (bytes lens : List ℕ) (k : ℕ) (bytes′ lens′ : List ℕ) (r : ℕ) : Type 0 where
   pub only : OnlySlot bytes lens k bytes′ lens′
   pub short : ShortAt lens′ k
-  pub answer : (e : ℕ) (p : Pair) → due 0x03 at (drop at l) ≡ ok (field-at 0x03 l at e) → SidesAt tab l (at + 3) p → (r ≡ e) × RuleAt tab bytes′ lens′ k (renamed p)
+  pub answer : (e : ℕ) (p : Pair) → due 0x03 at (drop at l) ≡ ok (field-at 0x03 l at e) → PairAt tab l (at + 3) p → (r ≡ e) × RuleAt tab bytes′ lens′ k (renamed p)
 
 -- "Every equation and rule held is so renamed."
 abbrev pub inputs-of : Problem → List Pair

@@ -2,8 +2,8 @@
 ghost use Prim.Native.Nat.{_+_, _-_, _*_, _<_, _≤_};
 ghost use lib.ListN.{length, drop, take};
 ghost use Rattle.naming.specs.Names.{renamed-bytes};
-ghost use Rattle.store.specs.Slots.{Room, Holds, OnlySlot};
-ghost use Rattle.inputs.specs.Inputs.{Known, SideEnd, PutSides, PutEquation, Filled};
+ghost use Rattle.store.specs.Slots.{SlotRoom, SlotHolds, OnlySlot};
+ghost use Rattle.inputs.specs.Inputs.{KnownBytes, SideEnd, PutSides, PutEquation, Filled};
 
 // The end of the side that starts at `at`; it ends before a byte that is no node, and after 120 bytes.
 fn side_end(problem: &[u8], table: &[u8], at: usize) -> usize
@@ -26,9 +26,9 @@ fn side_end(problem: &[u8], table: &[u8], at: usize) -> usize
 
 // Two sides, the left one of m bytes, into slot k.
 fn put_run(run: &[u8], m: usize, bytes: &mut [u8], lens: &mut [u8], k: usize)
-    requires { ⌜ Room (now bytes) (now lens) k ⌝ }
+    requires { ⌜ SlotRoom (now bytes) (now lens) k ⌝ }
     requires { ⌜ (m ≤ length (now run)) × (m ≤ 120) × (length (now run) ≤ m + 120) ⌝ }
-    ensures { λ _. ⌜ Holds (now (bytes .exit)) (now (lens .exit)) k (take m (now (run .entry))) (drop m (now (run .entry))) ⌝ }
+    ensures { λ _. ⌜ SlotHolds (now (bytes .exit)) (now (lens .exit)) k (take m (now (run .entry))) (drop m (now (run .entry))) ⌝ }
     ensures { λ _. ⌜ OnlySlot (now (bytes .entry)) (now (lens .entry)) k (now (bytes .exit)) (now (lens .exit)) ⌝ }
 {
     store::put(bytes, lens, k, &run[0..m], &run[m..]);
@@ -36,9 +36,9 @@ fn put_run(run: &[u8], m: usize, bytes: &mut [u8], lens: &mut [u8], k: usize)
 
 // Two sides, renamed together, into slot k.
 fn put_renamed(sides: &[u8], m: usize, bytes: &mut [u8], lens: &mut [u8], k: usize)
-    requires { ⌜ Room (now bytes) (now lens) k ⌝ }
-    requires { ⌜ (m ≤ length (now sides)) × (m ≤ 120) × (length (now sides) ≤ m + 120) × Known (now sides) ⌝ }
-    ensures { λ _. ⌜ Holds (now (bytes .exit)) (now (lens .exit)) k (take m (renamed-bytes (now (sides .entry)))) (drop m (renamed-bytes (now (sides .entry)))) ⌝ }
+    requires { ⌜ SlotRoom (now bytes) (now lens) k ⌝ }
+    requires { ⌜ (m ≤ length (now sides)) × (m ≤ 120) × (length (now sides) ≤ m + 120) × KnownBytes (now sides) ⌝ }
+    ensures { λ _. ⌜ SlotHolds (now (bytes .exit)) (now (lens .exit)) k (take m (renamed-bytes (now (sides .entry)))) (drop m (renamed-bytes (now (sides .entry)))) ⌝ }
     ensures { λ _. ⌜ OnlySlot (now (bytes .entry)) (now (lens .entry)) k (now (bytes .exit)) (now (lens .exit)) ⌝ }
 {
     let n = sides.len();
@@ -51,7 +51,7 @@ fn put_renamed(sides: &[u8], m: usize, bytes: &mut [u8], lens: &mut [u8], k: usi
 
 // The two sides that start at `at`, into slot k.
 fn put_sides(problem: &[u8], table: &[u8], at: usize, bytes: &mut [u8], lens: &mut [u8], k: usize)
-    requires { ⌜ Room (now bytes) (now lens) k ⌝ }
+    requires { ⌜ SlotRoom (now bytes) (now lens) k ⌝ }
     requires { ⌜ (at ≤ length (now problem)) × (length (now problem) ≤ 65536) ⌝ }
     ensures { λ _. ⌜ PutSides (now (table .entry)) (now (problem .entry)) at (now (bytes .entry)) (now (lens .entry)) k (now (bytes .exit)) (now (lens .exit)) ⌝ }
 {
@@ -69,7 +69,7 @@ fn put_equation(
     lens: &mut [u8],
     k: usize,
 ) -> usize
-    requires { ⌜ Room (now bytes) (now lens) k ⌝ }
+    requires { ⌜ SlotRoom (now bytes) (now lens) k ⌝ }
     requires { ⌜ length (now problem) ≤ 65536 ⌝ }
     ensures { λ r. ⌜ PutEquation (now (table .entry)) (now (problem .entry)) at (now (bytes .entry)) (now (lens .entry)) k (now (bytes .exit)) (now (lens .exit)) r ⌝ }
 {

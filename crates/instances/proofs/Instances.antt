@@ -16,7 +16,7 @@ use Rattle.classes.specs.Steps.{at, arena}
 use Rattle.naming.specs.Names.{collect, renamed-bytes}
 use Rattle.naming.proofs.Renaming.{length-renamed}
 use Rattle.naming.proofs.Few.{collect-few}
-use Rattle.unifier.specs.Written.{put, Writes}
+use Rattle.unifier.specs.Written.{put, WritesTerms}
 use Rattle.unifier.proofs.Writing.{put-reads}
 use Rattle.completion.specs.Calls.{written}
 use Rattle.instances.specs.Common.{instance-field, Spelt, WritesSpelt}
@@ -67,7 +67,7 @@ module _ (l tab ends cs : List ℕ) (k : Spelt l tab ends cs) where
   unfolding sizes
   spelt-room = (cons (k .term) nil, more (k .spells) no-more, omega (arith, k .small))
 
-  module _ (d e : List ℕ) (r : ℕ) (z : length d ≡ 120) (w : Writes (arena l tab ends) (at cs) 0 1 0 d r e) where
+  module _ (d e : List ℕ) (r : ℕ) (z : length d ≡ 120) (w : WritesTerms (arena l tab ends) (at cs) 0 1 0 d r e) where
     spelt-end : (u : Term) → Spells (arena l tab ends) (at cs) 0 u → r ≡ size u
     unfolding sizes
     spelt-end u p = omega (arith, w .ends (cons u nil) (more p no-more))

@@ -18,17 +18,17 @@ use Rattle.terms.proofs.Rename.{renamed-twice}
 use Rattle.unify.specs.Unify.{Binding, mgu, under}
 use Rattle.classes.specs.Arena.{Spells, same}
 use Rattle.classes.specs.Steps.{at, arena}
-use Rattle.unifier.specs.Result.{Laid, LaidOut, Decided, Outcome, Solved}
+use Rattle.unifier.specs.Result.{Laid, LaidOut, Decided, SolvedIf, Solved}
 use Rattle.unifier.proofs.Starting.{laid-at}
 use Rattle.unifier.proofs.Verdict.{the-mgu, solved-image, solved-sizes}
 use Rattle.unifier.proofs.Instance.{small-size, large-size, instance-renamed}
 use Rattle.terms.proofs.Positions.{in-head, in-later}
 use Rattle.completion.specs.Calls.{instance, instance-too-large, unified, after-unify}
-use Rattle.instances.specs.Common.{found-of, Sides, TwoSides, SidesUnify, instance-field, Spelt, WritesSpelt}
+use Rattle.instances.specs.Common.{found-of, SidesOf, TwoSides, SidesUnify, instance-field, Spelt, WritesSpelt}
 use Rattle.instances.specs.declared.Found.the-variants.{Instance, Nothing, TooLarge}
 
 -- the two sides as an arena
-module _ (l tab : List ℕ) (s t : Term) (k : Sides l tab s t) where
+module _ (l tab : List ℕ) (s t : Term) (k : SidesOf l tab s t) where
   pub sides-laid : Laid l tab (cons s (cons t nil))
   unfolding terms-bytes Wf
   sides-laid = record { wf = (k .left, (k .right, tt)); bytes = k .bytes ∙ ap (λ (x : List ℕ). term-bytes s ++ x) (sym (append-nil (term-bytes t))) }
@@ -85,7 +85,7 @@ answers-none l tab b r d h z =
 
 -- a common instance
 module _ (l tab : List ℕ) (b : ℕ) (ends cs zs : List ℕ) (h : Solved l tab 0 b ends cs zs) where
-  module _ (s t : Term) (k : Sides l tab s t) (e : b ≡ size s) (m : List Binding) (f : mgu s t ≡ some m) where
+  module _ (s t : Term) (k : SidesOf l tab s t) (e : b ≡ size s) (m : List Binding) (f : mgu s t ≡ some m) where
     abbrev found : Term
     found = subst-term (the-mgu l tab 0 b ends cs zs h) s
 
@@ -107,7 +107,7 @@ module _ (l tab : List ℕ) (b : ℕ) (ends cs zs : List ℕ) (h : Solved l tab 
         (ap term-bytes (renamed-twice (under m s)) ∙ sym (instance-renamed l tab 0 b ends cs zs h 0 s spelt s t spelt (sides-spell l tab s t k b ends cs zs h e .1) m f)))
 
   module _ (r : Bool) (a : Decided l tab 0 b r) (y : r ≡ true) where
-    the-found : (s t : Term) → Sides l tab s t → b ≡ size s → (m : List Binding) × (mgu s t ≡ some m)
+    the-found : (s t : Term) → SidesOf l tab s t → b ≡ size s → (m : List Binding) × (mgu s t ≡ some m)
     the-found s t k e = some-is (mgu s t) (sym y ∙ sides-decide l tab s t k b r a e)
 
     pub answers-large : 120 < at zs 0 → (d : List ℕ) → SidesUnify l tab b TooLarge d d
@@ -135,6 +135,6 @@ module _ (l tab : List ℕ) (b : ℕ) (ends cs zs : List ℕ) (h : Solved l tab 
   pub solved-spelt : at zs 0 ≤ 120 → 0 < length l → Spelt l tab ends cs
   solved-spelt z p = let (u, q, i) = h .sized .measured 0 p (h .known 0 p) in record { term = u; spells = q; small = omega arith }
 
-pub outcome-solved : (l tab : List ℕ) (b : ℕ) (ends cs zs : List ℕ) (r : Bool) → Outcome l tab 0 b ends cs zs r → r ≡ true → Solved l tab 0 b ends cs zs
+pub outcome-solved : (l tab : List ℕ) (b : ℕ) (ends cs zs : List ℕ) (r : Bool) → SolvedIf l tab 0 b ends cs zs r → r ≡ true → Solved l tab 0 b ends cs zs
 outcome-solved l tab b ends cs zs true h e = h
 outcome-solved l tab b ends cs zs false h e = absurd (let z : _≡_ {A = ℕ} 0 1 = cc in omega arith)

@@ -16,7 +16,7 @@ use Rattle.instances.specs.declared.Found.{Found}
 use Rattle.instances.specs.declared.Found.the-variants.{Instance, Nothing, TooLarge}
 
 -- nodes that are those of the two sides, one behind the other
-pub record Sides (l tab : List ℕ) (s t : Term) : Type 0 where
+pub record SidesOf (l tab : List ℕ) (s t : Term) : Type 0 where
   pub left : Wf 128 tab s
   pub right : Wf 128 tab t
   pub small-left : size s ≤ 120
@@ -31,7 +31,7 @@ instance-field u = field-bytes (record { tag = 0x15; contents = renamed-bytes (t
 pub record TwoSides (l tab : List ℕ) (b : ℕ) : Type 0 where
   pub s : Term
   pub t : Term
-  pub sides : Sides l tab s t
+  pub sides : SidesOf l tab s t
   pub begins : b ≡ size s
 
 -- the answer for what the definition says
@@ -46,7 +46,7 @@ pub record Gives (u : Unified) (r : Found) (d d′ : List ℕ) : Type 0 where
   pub leaves : d′ ≡ after-unify (ok u) d
 
 pub record SidesUnify (l tab : List ℕ) (b : ℕ) (r : Found) (d d′ : List ℕ) : Type 0 where
-  pub unifies : (s t : Term) → Sides l tab s t → b ≡ size s → Gives (unified s (mgu s t)) r d d′
+  pub unifies : (s t : Term) → SidesOf l tab s t → b ≡ size s → Gives (unified s (mgu s t)) r d d′
 
 -- node 0 stands for a term of at most 120 nodes when each node is read at the root of its class
 pub record Spelt (l tab ends cs : List ℕ) : Type 0 where

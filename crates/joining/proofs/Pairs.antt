@@ -21,7 +21,7 @@ use Rattle.redex.specs.Stored.{Stored}
 use Rattle.normaliser.specs.Settled.{NormalIs, Normalised}
 use Rattle.normaliser.specs.declared.Normal.{Normal}
 use Rattle.joining.specs.declared.Walk.{Walk}
-use Rattle.joining.specs.Joins.{Part, compared, Walked, found, short, large, on, Room, Bare, PairWalk}
+use Rattle.joining.specs.Joins.{ScanPart, compared, Walked, found, short, large, on, FormsRoom, Bare, PairWalk}
 use Rattle.joining.proofs.Rooms.{bare-room}
 
 -- what the definition does with a pair, by what its sides come to
@@ -47,7 +47,7 @@ normal-end : (rs : List Rule) (t : Term) (u : ℕ) (x : End) (v : ℕ) → norma
 normal-end rs t u x v q = subst (Holds _ (λ e left. NormalEnd e)) q (normalise-ends rs t .out u)
 
 -- a part that stops because normalising does
-ends : {tab L R : List ℕ} {d : Part} {u v : ℕ} {w : Walk} (l : Normal) (x : End) (k : ℕ) → NormalEnd x → Bare (l .verdict) (v - l .paid) w →
+ends : {tab L R : List ℕ} {d : ScanPart} {u v : ℕ} {w : Walk} (l : Normal) (x : End) (k : ℕ) → NormalEnd x → Bare (l .verdict) (v - l .paid) w →
     (l .verdict ≡ end-number x) × (l .paid + k ≡ v) → ((next : Paying Candidate) → d next u ≡ stop x k) → Walked tab L R d u w
 ends l complete k only b h e = absurd only
 ends l (neither-above p) k only b h e = absurd only
@@ -78,7 +78,7 @@ module _ (tab rules lens : List ℕ) (count : ℕ) (L : List ℕ) (m : ℕ) (R :
         rest y k q z (h .3) (h .4) (normalise rs (e .right) k) refl a
     after-left ok rs st ct o e wr br rest (stop x k) q h = absurd (goes-on≢end x (sym ok ∙ h .0))
 
-    both : (l .verdict ≡ goes-on) → Room L R L′ R′ units w → ((rs : List Rule) (o : Origin) (e : Pair) → from ≡ origin-bytes o → Rest rs o e) → PairWalk tab rules lens count L m R n L′ R′ from units w
+    both : (l .verdict ≡ goes-on) → FormsRoom L R L′ R′ units w → ((rs : List Rule) (o : Origin) (e : Pair) → from ≡ origin-bytes o → Rest rs o e) → PairWalk tab rules lens count L m R n L′ R′ from units w
     both ok room rest =
         record {
           room = room;

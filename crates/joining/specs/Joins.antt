@@ -13,11 +13,11 @@ use Rattle.redex.specs.Stored.{Sides, RuleAt, Stored}
 use Rattle.joining.specs.declared.Walk.{Walk}
 
 -- A part of the scan, before what follows it.
-abbrev pub Part : Type 0
-Part = Paying Candidate → Paying Candidate
+abbrev pub ScanPart : Type 0
+ScanPart = Paying Candidate → Paying Candidate
 
 -- a pair's two normal forms are compared
-unfoldable pub compared : List Rule → Origin → Pair → Part
+unfoldable pub compared : List Rule → Origin → Pair → ScanPart
 compared rules origin e next = do
   forms ← normalise-pair rules e
   if-different origin forms next
@@ -28,14 +28,14 @@ pub record Shows (tab L R : List ℕ) (w : Walk) (c : Candidate) : Type 0 where
   pub from : w .origin ≡ origin-bytes (c .origin)
 
 -- What a walk over the part d answers, that began with u units.
-pub data Walked (tab L R : List ℕ) (d : Part) (u : ℕ) (w : Walk) : Type 0 where
+pub data Walked (tab L R : List ℕ) (d : ScanPart) (u : ℕ) (w : Walk) : Type 0 where
   found : (c : Candidate) → w .verdict ≡ goes-on → ((next : Paying Candidate) → d next u ≡ done c (w .units)) → Shows tab L R w c → Walked tab L R d u w
   short : w .verdict ≡ end-number spent → ((next : Paying Candidate) → d next u ≡ stop spent (w .units)) → Walked tab L R d u w
   large : w .verdict ≡ end-number too-large → ((next : Paying Candidate) → d next u ≡ stop too-large (w .units)) → Walked tab L R d u w
   on : w .verdict ≡ end-number complete → ((next : Paying Candidate) → d next u ≡ next (w .units)) → Walked tab L R d u w
 
 -- what every answer has
-pub record Room (L R L′ R′ : List ℕ) (units : ℕ) (w : Walk) : Type 0 where
+pub record FormsRoom (L R L′ R′ : List ℕ) (units : ℕ) (w : Walk) : Type 0 where
   pub left-kept : length L′ ≡ length L
   pub right-kept : length R′ ≡ length R
   pub left-few : w .m ≤ 120
@@ -51,13 +51,13 @@ pub record Bare (v u : ℕ) (w : Walk) : Type 0 where
 
 -- `join_pair`
 pub record PairWalk (tab rules lens : List ℕ) (count : ℕ) (L : List ℕ) (m : ℕ) (R : List ℕ) (n : ℕ) (L′ R′ from : List ℕ) (units : ℕ) (w : Walk) : Type 0 where
-  pub room : Room L R L′ R′ units w
+  pub room : FormsRoom L R L′ R′ units w
   pub answer : (rs : List Rule) → Stored tab rules lens 0 (sides-of rs) → count ≡ length rs →
       (o : Origin) (e : Pair) → from ≡ origin-bytes o → Wf 32 tab (e .left) → Wf 32 tab (e .right) → take m L ≡ term-bytes (e .left) → take n R ≡ term-bytes (e .right) →
       Walked tab L′ R′ (compared rs o e) units w
 
 -- `join_slot`
 pub record SlotWalk (tab rules lens : List ℕ) (count : ℕ) (bytes sizes : List ℕ) (k : ℕ) (L R L′ R′ from : List ℕ) (units : ℕ) (w : Walk) : Type 0 where
-  pub room : Room L R L′ R′ units w
+  pub room : FormsRoom L R L′ R′ units w
   pub answer : (rs : List Rule) → Stored tab rules lens 0 (sides-of rs) → count ≡ length rs →
       (o : Origin) (e : Pair) → from ≡ origin-bytes o → RuleAt tab bytes sizes k e → Walked tab L′ R′ (compared rs o e) units w

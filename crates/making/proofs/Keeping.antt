@@ -9,11 +9,11 @@ use Rattle.redex.specs.Stored.{Stored}
 use Rattle.completion.specs.Turn.{State as RunState}
 use Rattle.engine.specs.State.{Whole, whole, Represents, Held}
 use Rattle.engine.specs.declared.State.{State}
-use Rattle.making.specs.Made.{Outcome, outcome, Kept, Stays, Stops, Answers}
+use Rattle.making.specs.Made.{Outcome, outcome, RulesKept, Stays, Stops, StoppedAs}
 use Rattle.making.specs.declared.Turned.{Turned}
 
 -- what stands for s before stands for it then
-pub held-of : {tab : List ℕ} {st r : Whole} {s : RunState} → Represents tab st s → Kept st r → Held tab r s
+pub held-of : {tab : List ℕ} {st r : Whole} {s : RunState} → Represents tab st s → RulesKept st r → Held tab r s
 held-of {tab} {st} {r} {s} R K =
     record {
       rules = subst₂ (λ b l. Stored tab b l 0 (sides-of (s .rules))) (sym (K .rules)) (sym (K .lens)) (R .rules);
@@ -29,12 +29,12 @@ pub said : {st : Whole} {v u m n : ℕ} {o : Outcome} → Stops st v u m n o →
 said y = record { state = refl; verdict-is = y .verdict-is; units-are = y .units-are; m-is = y .m-is; n-is = y .n-is }
 
 -- `stopped`, whatever bytes the buffers hold
-pub stays : {st : State} {v u m n : ℕ} {o : Turned} → Answers st v u m n o → (rules waiting log : List ℕ) → Stays (whole st rules waiting log) v u m n (outcome o rules waiting log)
+pub stays : {st : State} {v u m n : ℕ} {o : Turned} → StoppedAs st v u m n o → (rules waiting log : List ℕ) → Stays (whole st rules waiting log) v u m n (outcome o rules waiting log)
 stays A rules waiting log =
     record { state = ap (λ x. whole x rules waiting log) (A .state); verdict-is = A .verdict-is; units-are = A .units-are; m-is = A .m-is; n-is = A .n-is }
 
 -- `stopped` where the rules and the log are as they were
-pub stops : {st : State} {v u m n : ℕ} {o : Turned} → Answers st v u m n o → (rules waiting log rules′ waiting′ log′ : List ℕ) → rules′ ≡ rules → log′ ≡ log →
+pub stops : {st : State} {v u m n : ℕ} {o : Turned} → StoppedAs st v u m n o → (rules waiting log rules′ waiting′ log′ : List ℕ) → rules′ ≡ rules → log′ ≡ log →
     Stops (whole st rules waiting log) v u m n (outcome o rules′ waiting′ log′)
 stops {o = o} A rules waiting log rules′ waiting′ log′ e f =
     record {

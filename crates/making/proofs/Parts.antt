@@ -21,15 +21,15 @@ use Rattle.compose.specs.Rights.{All}
 use Rattle.compose.specs.declared.Composed.{Composed}
 use Rattle.engine.specs.State.{Whole, Fine, FineBut, Represents}
 use Rattle.engine.specs.Steps.{LoggedState, CollapsedState, OrientedState, TakenState}
-use Rattle.orient.specs.Oriented.{oriented, OrientedIs, Placed}
-use Rattle.making.specs.Made.{Outcome, Stops, Stays, Safe, Finishes, without-taken, Makes, WithRule, SettledTurn, MakesTurn}
+use Rattle.orient.specs.Oriented.{oriented, OrientedIs, RulePlaced}
+use Rattle.making.specs.Made.{Outcome, Stops, Stays, TurnSafe, Finishes, without-taken, Makes, WithRule, SettledTurn, MakesTurn}
 use Rattle.making.proofs.Keeping.{said}
 use Rattle.making.proofs.Making.{finish-stops, finish-done, with-slots, slots-fine, make-unplaced, make-full, make-finished}
 use Rattle.redex.proofs.Choosing.{layout-front}
 use Rattle.making.proofs.Turns.{turn-full, turn-settled, turn-made, turn-not-made}
 
 -- a stop has no next state
-halt-safe : (st : Whole) (v u m n entries : ℕ) (o : Outcome) → (v ≡ goes-on → ⊥) → Stays st v u m n o → m ≤ 120 → n ≤ 120 → Safe entries o
+halt-safe : (st : Whole) (v u m n entries : ℕ) (o : Outcome) → (v ≡ goes-on → ⊥) → Stays st v u m n o → m ≤ 120 → n ≤ 120 → TurnSafe entries o
 halt-safe st v u m n entries o p y f g =
     record {
       fine = λ z. absurd (p (sym (y .verdict-is) ∙ z));
@@ -38,10 +38,10 @@ halt-safe st v u m n entries o p y f g =
       right-few = subst (λ x. x ≤ 120) (sym (y .n-is)) g;
     }
 
-pub stop-safe : (st : Whole) (v u m n entries : ℕ) (o : Outcome) → (v ≡ goes-on → ⊥) → Stops st v u m n o → m ≤ 120 → n ≤ 120 → Safe entries o
+pub stop-safe : (st : Whole) (v u m n entries : ℕ) (o : Outcome) → (v ≡ goes-on → ⊥) → Stops st v u m n o → m ≤ 120 → n ≤ 120 → TurnSafe entries o
 stop-safe st v u m n entries o p y f g = halt-safe (o .state) v u m n entries o p (said y) f g
 
-next-safe : (st : Whole) (v u entries : ℕ) (o : Outcome) → Fine st → st .entries ≡ entries + 1 → Stays st v u 0 0 o → Safe entries o
+next-safe : (st : Whole) (v u entries : ℕ) (o : Outcome) → Fine st → st .entries ≡ entries + 1 → Stays st v u 0 0 o → TurnSafe entries o
 next-safe st v u entries o F e y =
     record {
       fine = λ _. subst Fine (sym (y .state)) F;
@@ -86,7 +86,7 @@ one-behind st F =
 pub one-slot : (tab l b : List ℕ) → 240 ≤ length b → 2 ≤ length l → ShortAt l 0 → Layout tab b l 1
 one-slot tab l b p q h = layout-of tab b l 1 (omega arith) (omega arith) (omega arith) (λ k lt. subst (ShortAt l) (let e : 0 ≡ k = omega arith in e) h)
 
-module _ (st : Whole) (tab left right origin b l b′ l′ : List ℕ) (units r : ℕ) (o : Outcome) (A : Placed tab left right b l 0 r b′ l′) where
+module _ (st : Whole) (tab left right origin b l b′ l′ : List ℕ) (units r : ℕ) (o : Outcome) (A : RulePlaced tab left right b l 0 r b′ l′) where
   abbrev answered : (P : Problem) → rank-of (P .symbols) ≡ rank tab → (t : Taken) → Sides 32 tab left right (t .pair .sides) → OrientedIs tab b′ l′ 0 r (t .pair .sides) units (oriented P (t .pair .sides) units)
   answered P k t S = A .answer P k (t .pair .sides) S units
 
@@ -192,7 +192,7 @@ module _ (st rest : Whole) (tab left right origin : List ℕ) (units : ℕ) wher
     pub makes-turn-done : t′ .verdict ≡ goes-on → rest .entries ≡ st .entries → MakesTurn st rest tab left right origin units t′
     makes-turn-done v n =
         record {
-          safe = subst (λ x. Safe x t′) n (M .safe);
+          safe = subst (λ x. TurnSafe x t′) n (M .safe);
           stays = λ w. absurd (w v);
           answer = λ P k s t u R R₁ S q T e.
               turn-made tab P s t u units st R T t′ (length left) (length right) few e v (make-rule P s t units) refl (M .answer P k s t R₁ S q);

@@ -29,7 +29,7 @@ abbrev pub outcome : Turned → List ℕ → List ℕ → List ℕ → Outcome
 outcome t rules waiting log = record { state = whole (t .state) rules waiting log; verdict = t .verdict; units = t .units; m = t .m; n = t .n }
 
 -- the rules and the log are as they were
-pub record Kept (st r : Whole) : Type 0 where
+pub record RulesKept (st r : Whole) : Type 0 where
   pub rules : r .rules ≡ st .rules
   pub lens : r .lens ≡ st .lens
   pub numbers : r .numbers ≡ st .numbers
@@ -48,14 +48,14 @@ pub record Stays (st : Whole) (verdict units m n : ℕ) (o : Outcome) : Type 0 w
 
 -- a stop: the answer has the rules and the log of st
 pub record Stops (st : Whole) (verdict units m n : ℕ) (o : Outcome) : Type 0 where
-  pub kept : Kept st (o .state)
+  pub kept : RulesKept st (o .state)
   pub verdict-is : o .verdict ≡ verdict
   pub units-are : o .units ≡ units
   pub m-is : o .m ≡ m
   pub n-is : o .n ≡ n
 
 -- `stopped`
-pub record Answers (st : State) (verdict units m n : ℕ) (o : Turned) : Type 0 where
+pub record StoppedAs (st : State) (verdict units m n : ℕ) (o : Turned) : Type 0 where
   pub state : o .state ≡ st
   pub verdict-is : o .verdict ≡ verdict
   pub units-are : o .units ≡ units
@@ -63,7 +63,7 @@ pub record Answers (st : State) (verdict units m n : ℕ) (o : Turned) : Type 0 
   pub n-is : o .n ≡ n
 
 -- what every answer has, of a turn that began with so many entries in the log
-pub record Safe (entries : ℕ) (o : Outcome) : Type 0 where
+pub record TurnSafe (entries : ℕ) (o : Outcome) : Type 0 where
   pub fine : o .verdict ≡ goes-on → Fine (o .state)
   pub grows : o .verdict ≡ goes-on → o .state .entries ≡ entries + 1
   pub left-few : o .m ≤ 120
@@ -77,7 +77,7 @@ FinishedIs tab s from o (done rules left) =
 FinishedIs tab s from o (stop e left) = (o .verdict ≡ end-number e) × (o .units ≡ left) × ((g : Pair) → e ≡ neither-above g → ⊥)
 
 pub record Finishes (st : Whole) (tab origin : List ℕ) (units : ℕ) (o : Outcome) : Type 0 where
-  pub safe : Safe (st .entries) o
+  pub safe : TurnSafe (st .entries) o
   pub answer : (s : RunState) (rules : List Rule) (new : Rule) (from : Origin) → s .rules ≡ rules ++ (new ∷ []) → Represents tab st s → origin ≡ origin-bytes from →
       FinishedIs tab s from o (normalise-rights [] rules new units)
 
@@ -95,14 +95,14 @@ MadeIs tab e m n o (done s left) = (o .verdict ≡ goes-on) × (o .units ≡ lef
 MadeIs tab e m n o (stop f left) = (o .verdict ≡ end-number f) × (o .units ≡ left) × ((g : Pair) → f ≡ neither-above g → (g ≡ e) × (o .m ≡ m) × (o .n ≡ n))
 
 pub record Makes (st : Whole) (tab left right origin : List ℕ) (units : ℕ) (o : Outcome) : Type 0 where
-  pub safe : Safe (st .entries) o
+  pub safe : TurnSafe (st .entries) o
   pub kept : (o .verdict ≡ goes-on → ⊥) → (o .state .rules ≡ st .rules) × (o .state .log ≡ st .log)
   pub answer : (P : Problem) → rank-of (P .symbols) ≡ rank tab → (s : RunState) (t : Taken) → Represents tab st (without-taken s t) →
       Sides 32 tab left right (t .pair .sides) → origin ≡ origin-bytes (t .pair .origin) → MadeIs tab (t .pair .sides) (length left) (length right) o (make-rule P s t units)
 
 -- `with_rule`: the taken pair is oriented, and its rule stands alone in a store
 pub record WithRule (st : Whole) (tab new sizes origin : List ℕ) (units : ℕ) (o : Outcome) : Type 0 where
-  pub safe : Safe (st .entries) o
+  pub safe : TurnSafe (st .entries) o
   pub kept : (o .verdict ≡ goes-on → ⊥) → (o .state .rules ≡ st .rules) × (o .state .log ≡ st .log)
   pub answer : (P : Problem) (s : RunState) (t : Taken) (sides : Pair) (left m n : ℕ) → oriented P (t .pair .sides) units ≡ done sides left → left ≡ units → RuleAt tab new sizes 0 sides →
       Represents tab st (without-taken s t) → origin ≡ origin-bytes (t .pair .origin) → MadeIs tab (t .pair .sides) m n o (make-rule P s t units)
@@ -122,19 +122,19 @@ pub record TakenBy (P : Problem) (s : RunState) (u : ℕ) (t : Taken) (units : �
 
 -- the taken pair has equal forms
 pub record SettledTurn (st : Whole) (origin : List ℕ) (units : ℕ) (o : Outcome) : Type 0 where
-  pub safe : Safe (st .entries) o
-  pub stays : (o .verdict ≡ goes-on → ⊥) → Kept st (o .state)
+  pub safe : TurnSafe (st .entries) o
+  pub stays : (o .verdict ≡ goes-on → ⊥) → RulesKept st (o .state)
   pub answer : (tab : List ℕ) (P : Problem) (s : RunState) (t : Taken) (u : ℕ) (c : Candidate) → Represents tab st s → s .waiting ≡ c ∷ (t .waiting) → origin ≡ origin-bytes (t .pair .origin) →
       TakenBy P s u t units → same (t .pair .sides .left) (t .pair .sides .right) ≡ true → TurnWith (λ g. ⊥) tab s o (turn P s (suc u))
 
 -- `settled`, with any rules
-pub record Settles (st : State) (waiting log origin : List ℕ) (units : ℕ) (waiting′ log′ : List ℕ) (o : Turned) : Type 0 where
+pub record SettlesIn (st : State) (waiting log origin : List ℕ) (units : ℕ) (waiting′ log′ : List ℕ) (o : Turned) : Type 0 where
   pub settles : (rules : List ℕ) → Fine (whole st rules waiting log) → SettledTurn (whole st rules waiting log) origin units (outcome o rules waiting′ log′)
 
 -- it has different forms; `rest` is the state without it
 pub record MakesTurn (st rest : Whole) (tab left right origin : List ℕ) (units : ℕ) (o : Outcome) : Type 0 where
-  pub safe : Safe (st .entries) o
-  pub stays : (o .verdict ≡ goes-on → ⊥) → Kept st (o .state)
+  pub safe : TurnSafe (st .entries) o
+  pub stays : (o .verdict ≡ goes-on → ⊥) → RulesKept st (o .state)
   pub answer : (P : Problem) → rank-of (P .symbols) ≡ rank tab → (s : RunState) (t : Taken) (u : ℕ) → Represents tab st s → Represents tab rest (without-taken s t) →
       Sides 32 tab left right (t .pair .sides) → origin ≡ origin-bytes (t .pair .origin) → TakenBy P s u t units → same (t .pair .sides .left) (t .pair .sides .right) ≡ false →
       MadeTurn tab s (t .pair .sides) (length left) (length right) o (turn P s (suc u))

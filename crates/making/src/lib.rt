@@ -5,7 +5,7 @@ ghost use Prim.Native.Nat.{_+_, _<_, _≤_};
 ghost use lib.ListN.{length};
 ghost use Rattle.redex.specs.Stored.{Layout};
 ghost use Rattle.engine.specs.State.{whole, Fine};
-ghost use Rattle.making.specs.Made.{outcome, Answers, FinishesIn, WithRule, Makes, Settles, MakesIn};
+ghost use Rattle.making.specs.Made.{outcome, StoppedAs, FinishesIn, WithRule, Makes, SettlesIn, MakesIn};
 use engine::State;
 
 // Verdict GOES_ON: the next state; else the number of the end at which the turn stopped. `units` are left. The bytes of the rules, of the waiting
@@ -21,7 +21,7 @@ pub struct Turned {
 
 // A turn's answer from its parts.
 pub fn stopped(state: State, verdict: u8, units: u32, m: usize, n: usize) -> Turned
-    ensures { λ r. ⌜ Answers state verdict units m n r ⌝ }
+    ensures { λ r. ⌜ StoppedAs state verdict units m n r ⌝ }
 {
     Turned {
         state: state,
@@ -116,7 +116,7 @@ fn make_rule(
 // Steps 2 and 3: the taken pair has equal forms.
 pub fn settled(st: State, waiting: &mut [u8], log: &mut [u8], origin: [u8; 6], units: u32) -> Turned
     requires { ⌜ (0 < st .waits) × (length (now waiting) ≡ 7920) × (length (now log) ≡ 5632) ⌝ }
-    ensures { λ r. ⌜ Settles st (now (waiting .entry)) (now (log .entry)) origin units (now (waiting .exit)) (now (log .exit)) r ⌝ }
+    ensures { λ r. ⌜ SettlesIn st (now (waiting .entry)) (now (log .entry)) origin units (now (waiting .exit)) (now (log .exit)) r ⌝ }
 {
     if st.entries >= 512 {
         return stopped(st, rewriting::FULL, units, 0, 0);

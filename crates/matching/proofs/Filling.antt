@@ -126,22 +126,22 @@ pub put-as : (out out′ : List ℕ) (w most r : ℕ) (p q : List ℕ) → p ≡
 put-as out out′ w most r p q e h = subst (λ l. Put out out′ w most r l) e h
 
 -- the loop of `contract`
-pub record Filled (T B right out₀ out : List ℕ) (most i w : ℕ) : Type 0 where
+pub record PutSoFar (T B right out₀ out : List ℕ) (most i w : ℕ) : Type 0 where
   pub in-right : i ≤ length right
   pub room : w ≤ most
   pub same : length out ≡ length out₀
   pub so-far : take w out ++ pieces T B (drop i right) ≡ pieces T B right
 
-pub fill-start : (T B right out : List ℕ) (most : ℕ) → Filled T B right out out most 0 0
+pub fill-start : (T B right out : List ℕ) (most : ℕ) → PutSoFar T B right out out most 0 0
 fill-start T B right out most = record { in-right = omega arith; room = omega arith; same = refl; so-far = refl }
 
 pieces-cons : (T B right : List ℕ) (i : ℕ) → i < length right → pieces T B (drop i right) ≡ piece T B (getD right i 0) ++ pieces T B (drop (suc i) right)
 unfolding pieces
 pieces-cons T B right i h = rw (drop-cons right i 0 h)
 
-module _ (T B right out₀ out : List ℕ) (most i w : ℕ) (f : Filled T B right out₀ out most i w) (room : most ≤ length out₀) where
+module _ (T B right out₀ out : List ℕ) (most i w : ℕ) (f : PutSoFar T B right out₀ out most i w) (room : most ≤ length out₀) where
   module _ (h : i < length right) (out′ : List ℕ) (r : ℕ) (p : Put out out′ w most r (piece T B (getD right i 0))) where
-    pub fill-on : r ≤ most → Filled T B right out₀ out′ most (i + 1) r
+    pub fill-on : r ≤ most → PutSoFar T B right out₀ out′ most (i + 1) r
     fill-on l = record {
       in-right = omega arith;
       room = l;

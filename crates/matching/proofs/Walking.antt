@@ -20,7 +20,7 @@ use Rattle.unify.specs.Unify.{Binding}
 use Rattle.rewriting.specs.Rewrite.{bound, bind-to, matching, matching-all}
 use Rattle.rewriting.proofs.Matching.{after}
 use Rattle.matching.specs.Cells.{cells, cells-all, Stands}
-use Rattle.matching.specs.Held.{Slot, Rep, Within, Cleared, BoundTo, Advanced, Answers, Matched}
+use Rattle.matching.specs.Held.{Slot, Rep, Within, Cleared, BoundTo, Advanced, MatchingIs, Matched}
 use Rattle.matching.proofs.Celled.{length-cells, cell-byte}
 use Rattle.matching.proofs.Clearing.{cleared-within}
 
@@ -108,9 +108,9 @@ goes-start left T B c tab l x w e s = record {
   answer = after-some (matching l x []) (λ q. matching-all nil nil q) (λ q. refl);
 }
 
-done-go : (tab T : List ℕ) (n : ℕ) (B : List ℕ) (ls xs : Terms) (bs : List Binding) (m : Option (List Binding)) → [] ≡ terms-bytes ls → count ls ≡ count xs → Rep tab T n B bs → matching-all ls xs bs ≡ m → Answers tab T n true B m
+done-go : (tab T : List ℕ) (n : ℕ) (B : List ℕ) (ls xs : Terms) (bs : List Binding) (m : Option (List Binding)) → [] ≡ terms-bytes ls → count ls ≡ count xs → Rep tab T n B bs → matching-all ls xs bs ≡ m → MatchingIs tab T n true B m
 unfolding terms-bytes term-bytes count matching-all
-done-go tab T n B nil nil bs m e c r a = subst (λ z. Answers tab T n true B z) a (refl, r)
+done-go tab T n B nil nil bs m e c r a = subst (λ z. MatchingIs tab T n true B z) a (refl, r)
 done-go tab T n B nil (cons x xs) bs m e c r a = absurd (omega arith)
 done-go tab T n B (cons (var y) ls) xs bs m e c r a = absurd (nil≢cons e)
 done-go tab T n B (cons (node f ps) ls) xs bs m e c r a = absurd (nil≢cons e)
@@ -237,7 +237,7 @@ module _ (left T : List ℕ) (i j : ℕ) (B : List ℕ) (r : ℕ) (B′ : List �
   goes-wrong z B₀ q = record {
     same = q;
     within = a .within;
-    answer = λ tab l x w e s. subst (λ o. Answers tab T (size x) false B′ o) (sym (turn tab left T (size x) i j B r B′ h k a (matching l x []) (g tab l x w e s) .0 z)) refl;
+    answer = λ tab l x w e s. subst (λ o. MatchingIs tab T (size x) false B′ o) (sym (turn tab left T (size x) i j B r B′ h k a (matching l x []) (g tab l x w e s) .0 z)) refl;
   }
 
 -- what the loop keeps

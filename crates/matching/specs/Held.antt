@@ -55,11 +55,11 @@ pub record Advanced (T : List ℕ) (b j : ℕ) (B : List ℕ) (r : ℕ) (B′ : 
   pub variable : (x : ℕ) → b ≡ 128 + x → x < 16 → (tab : List ℕ) (n : ℕ) (u : Term) → Stands tab T n j u → (bs : List Binding) → Rep tab T n B bs → BoundTo tab T n j u r B′ (bind-to x u bs (bound bs x))
 
 -- what `matches` answers: true exactly where `matching` answers bindings, and the places are those
-abbrev pub Answers : List ℕ → List ℕ → ℕ → Bool → List ℕ → Option (List Binding) → Type 0
-Answers tab T n r B none = r ≡ false
-Answers tab T n r B (some bs) = (r ≡ true) × Rep tab T n B bs
+abbrev pub MatchingIs : List ℕ → List ℕ → ℕ → Bool → List ℕ → Option (List Binding) → Type 0
+MatchingIs tab T n r B none = r ≡ false
+MatchingIs tab T n r B (some bs) = (r ≡ true) × Rep tab T n B bs
 
 pub record Matched (left T B : List ℕ) (r : Bool) (B′ : List ℕ) : Type 0 where
   pub same : length B′ ≡ length B
   pub within : Within T B′
-  pub answer : (tab : List ℕ) (l x : Term) → Wf 16 tab l → left ≡ term-bytes l → Stands tab T (size x) 0 x → Answers tab T (size x) r B′ (matching l x [])
+  pub answer : (tab : List ℕ) (l x : Term) → Wf 16 tab l → left ≡ term-bytes l → Stands tab T (size x) 0 x → MatchingIs tab T (size x) r B′ (matching l x [])

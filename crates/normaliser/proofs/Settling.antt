@@ -1,5 +1,5 @@
 -- The turns of `settle`: normalising the term at hand, with the units left, comes to what was asked; and a lemma for each return. Assumes nothing.
--- Read first: specs/Settled (Settled), redex/specs/Step (Holds, Rewritten), redex/specs/Marks, proofs/Sequence, proofs/Parts.
+-- Read first: specs/Settled (Settled), redex/specs/Step (CellsHold, Rewritten), redex/specs/Marks, proofs/Sequence, proofs/Parts.
 use mathlib.Core.Path.{_≡_, refl, sym, _∙_, ap, ap₂, subst}
 use mathlib.Core.Bool.{Bool, true, false}
 use mathlib.Core.List.{List, [], _∷_, _++_}
@@ -25,8 +25,8 @@ use Rattle.matching.proofs.Celled.{length-cells, cells-root, root-low, cell-siz
 use Rattle.normaliser.specs.Inside.{pay-for, normalise-in, normalise-all}
 use Rattle.redex.specs.Marks.{Marked, MarkedAll, leaf, visit, leave, no-more, ArgumentsNormal, open-cells}
 use Rattle.redex.specs.Stored.{Stored}
-use Rattle.redex.specs.Step.{Holds, rewritten, Tested, Wrote, Rewritten, out}
-use Rattle.normaliser.specs.Settled.{HoldsAll, no-term, Left, EndsWith, EndsAll, Limit, Settled, SettledAll}
+use Rattle.redex.specs.Step.{CellsHold, rewritten, StepTested, Wrote, Rewritten, out}
+use Rattle.normaliser.specs.Settled.{CellsHoldAll, no-term, LeftNormal, EndsWith, EndsAll, Limit, Settled, SettledAll}
 use Rattle.redex.specs.declared.Out.{Out}
 use Rattle.normaliser.proofs.Sequence.{at-root, iterate-normal, normalise-normal, normalise-var, normalise-node, normalise-nil}
 use Rattle.redex.proofs.Marking.{marked-length}
@@ -34,8 +34,8 @@ use Rattle.redex.proofs.Choosing.{head-of}
 use Rattle.normaliser.proofs.Parts.{back, from-take, back-length, back-take, ltb-less}
 
 -- `leave`
-pub leave-long : (c len units e : ℕ) (o : Out) → o ≡ out no-term units len 0 → e ≡ c / 256 → len < e → Left c len units o
-leave-long c len units e o d k h = subst (λ z. Left c len units z) (sym d) (record {
+pub leave-long : (c len units e : ℕ) (o : Out) → o ≡ out no-term units len 0 → e ≡ c / 256 → len < e → LeftNormal c len units o
+leave-long c len units e o d k h = subst (λ z. LeftNormal c len units z) (sym d) (record {
   whole = refl;
   left-over = refl;
   ends = omega arith;
@@ -43,8 +43,8 @@ leave-long c len units e o d k h = subst (λ z. Left c len units z) (sym d) (rec
   answer = λ z. absurd (omega arith);
 })
 
-pub leave-done : (c len units e : ℕ) (o : Out) → o ≡ out goes-on units len e → e ≡ c / 256 → e ≤ len → 256 ≤ c → Left c len units o
-leave-done c len units e o d k h l = subst (λ z. Left c len units z) (sym d) (record {
+pub leave-done : (c len units e : ℕ) (o : Out) → o ≡ out goes-on units len e → e ≡ c / 256 → e ≤ len → 256 ≤ c → LeftNormal c len units o
+leave-done c len units e o d k h l = subst (λ z. LeftNormal c len units z) (sym d) (record {
   whole = refl;
   left-over = refl;
   ends = h;
@@ -76,17 +76,17 @@ record Opened (rs : List Rule) (t : List ℕ) (l : ℕ) (y : Term) (post : List 
 -- What is true where a turn begins.
 pub record Where (tab : List ℕ) (rs : List Rule) (x : Term) (post : List ℕ) (big : ℕ → Bool) (units : ℕ) (t : List ℕ) (l u : ℕ) : Type 0 where
   pub term : Term
-  pub held : Holds tab rs t l term post
+  pub held : CellsHold tab rs t l term post
   pub answer : normalise-in rs big x units ≡ normalise-in rs big term u
 
 pub record Turning (tab rules lens : List ℕ) (number : ℕ) (t₀ : List ℕ) (len most units : ℕ) (t : List ℕ) (l u : ℕ) : Type 0 where
   pub same : length t ≡ length t₀
   pub small : l ≤ most
   pub cost : 1000 * u + 2 * l ≤ 1000 * units + 2 * len
-  pub place : (rs : List Rule) → Stored tab rules lens 0 (sides-of rs) → number ≡ length rs → (x : Term) (post : List ℕ) → Holds tab rs t₀ len x post →
+  pub place : (rs : List Rule) → Stored tab rules lens 0 (sides-of rs) → number ≡ length rs → (x : Term) (post : List ℕ) → CellsHold tab rs t₀ len x post →
       (big : ℕ → Bool) → Limit big most post → Where tab rs x post big units t l u
 
-none-held : (tab : List ℕ) (rs : List Rule) (t : List ℕ) (l : ℕ) (y : Term) (post : List ℕ) → l ≡ 0 → Holds tab rs t l y post → ⊥
+none-held : (tab : List ℕ) (rs : List Rule) (t : List ℕ) (l : ℕ) (y : Term) (post : List ℕ) → l ≡ 0 → CellsHold tab rs t l y post → ⊥
 none-held tab rs t l y post e h =
     let q : [] ≡ h .marks ++ post = sym (ap (λ z. take z t) e) ∙ h .text in
     omega (arith, size-pos y, marked-length rs (h .marked), ap length q, length-append (h .marks) post)
@@ -109,7 +109,7 @@ module _ (tab rules lens : List ℕ) (number : ℕ) where
     })
 
     -- a term whose root has its size is normal
-    module _ (ne : l ≡ 0 → ⊥) (k : 256 ≤ getD t 0 0) (o : Out) (lf : Left (getD t 0 0) l u o) where
+    module _ (ne : l ≡ 0 → ⊥) (k : 256 ≤ getD t 0 0) (o : Out) (lf : LeftNormal (getD t 0 0) l u o) where
       leave-term : (rs : List Rule) (big : ℕ → Bool) (y : Term) (post : List ℕ) → Wf 32 tab y → take l t ≡ cells y ++ post → step rs y ≡ none → EndsWith tab t post o (normalise-in rs big y u)
       leave-term rs big y post w b n =
           let g : getD t 0 0 ≡ root-byte y + 256 * size y = head-of t l 0 (root-byte y + 256 * size y) (cells-below y ++ post) (b ∙ ap (λ z. z ++ post) (cells-root y)) in
@@ -164,7 +164,7 @@ module _ (tab rules lens : List ℕ) (number : ℕ) where
       opened rs (var y) post ms (leave d n) b = absurd (sized-not (var y) post (b ∙ ap (λ z. z ++ post) d))
       opened rs (node f ts) post ms (leave d n) b = absurd (sized-not (node f ts) post (b ∙ ap (λ z. z ++ post) d))
 
-      open-held : (rs : List Rule) (y : Term) (post : List ℕ) → Holds tab rs t l y post → Opened rs t l y post
+      open-held : (rs : List Rule) (y : Term) (post : List ℕ) → CellsHold tab rs t l y post → Opened rs t l y post
       open-held rs y post h = opened rs y post (h .marks) (h .marked) (h .text)
 
       number-go : (y : Term) → Wf 32 tab y → getD t 0 0 ≡ root-byte y → count (args y) ≡ n
@@ -183,7 +183,7 @@ module _ (tab rules lens : List ℕ) (number : ℕ) where
       inner : (rs : List Rule) → Stored tab rules lens 0 (sides-of rs) → number ≡ length rs → (y : Term) (post : List ℕ) → Wf 32 tab y → Opened rs t l y post → (big : ℕ → Bool) → Limit big most post →
           EndsAll tab q post n r (normalise-all rs (λ k. big (suc k)) (args y) u)
       inner rs st m y post w o big lim =
-          let h : HoldsAll tab rs (from t 1) (l - 1) (args y) post = record { wfs = args-wf y w; marks = o .marks; marked = o .marked; text = from-take 1 l t (omega arith) ∙ ap (drop 1) (o .text) } in
+          let h : CellsHoldAll tab rs (from t 1) (l - 1) (args y) post = record { wfs = args-wf y w; marks = o .marks; marked = o .marked; text = from-take 1 l t (omega arith) ∙ ap (drop 1) (o .text) } in
           a .answer rs st m (args y) post h (number-of rs y post w o) (λ k. big (suc k)) (low big post lim)
 
       pub turn-room : (length (back 1 t q) ≡ length t) × (0 < r .end + 1) × (r .end + 1 ≤ r .len + 1) × (r .len + 1 ≤ most)
@@ -245,9 +245,9 @@ module _ (tab rules lens : List ℕ) (number : ℕ) where
         -- what the step at the root says of `at-root`
         abbrev Next : List Rule → (ℕ → Bool) → List ℕ → Paid Term → Type 0
         Next rs big post p = ((s .verdict ≡ rewritten → ⊥) → EndsWith tab t′ post s p) ×
-            (s .verdict ≡ rewritten → (v : Term) × Holds tab rs t′ (s .len) v post × (p ≡ normalise-in rs big v (s .units)))
+            (s .verdict ≡ rewritten → (v : Term) × CellsHold tab rs t′ (s .len) v post × (p ≡ normalise-in rs big v (s .units)))
 
-        tested-go : (rs : List Rule) (big : ℕ → Bool) (post : List ℕ) (v : Term) (k : ℕ) (b : Bool) → Tested tab rs t′ post k s v b → Next rs big post (if b then stop too-large k else normalise-in rs big v k)
+        tested-go : (rs : List Rule) (big : ℕ → Bool) (post : List ℕ) (v : Term) (k : ℕ) (b : Bool) → StepTested tab rs t′ post k s v b → Next rs big post (if b then stop too-large k else normalise-in rs big v k)
         unfolding if_then_else_ end-number
         tested-go rs big post v k true e = (λ z. e, λ z. absurd (let d : s .verdict ≡ end-number too-large = e .0 in omega arith))
         tested-go rs big post v k false e = (λ z. absurd (z (e .0)), λ z. (v, e .2, ap (normalise-in rs big v) (sym (e .1))))
@@ -260,7 +260,7 @@ module _ (tab rules lens : List ℕ) (number : ℕ) where
           λ z. absurd (let h : s .verdict ≡ goes-on = o .0 in omega arith),
         )
         root-go rs big post lim y v d (some x) zero o = (λ z. o, λ z. absurd (let h : s .verdict ≡ end-number spent = o .0 in omega arith))
-        root-go rs big post lim y v d (some x) (suc k) o = tested-go rs big post x k (big (size x)) (subst (λ c. Tested tab rs t′ post k s x c) (sym (lim (size x))) o)
+        root-go rs big post lim y v d (some x) (suc k) o = tested-go rs big post x k (big (size x)) (subst (λ c. StepTested tab rs t′ post k s x c) (sym (lim (size x))) o)
 
         root-next : (rs : List Rule) → Stored tab rules lens 0 (sides-of rs) → number ≡ length rs → (big : ℕ → Bool) (post : List ℕ) → Limit big most post → (y : Term) → Wf 32 tab y → Opened rs t l y post →
             (p : Paid Terms) → normalise-all rs (λ k. big (suc k)) (args y) u ≡ p → EndsAll tab q post n r p → Next rs big post (and-then p (λ us m. at-root rs big (with-args y us) m))
@@ -275,7 +275,7 @@ module _ (tab rules lens : List ℕ) (number : ℕ) where
             root-go rs big post lim (with-args y us) f h (root-step rs (with-args y us)) k
             (subst (λ j. Wrote tab rs t′ (with-args y us) post most j s (root-step rs (with-args y us))) (e .1) (w .answer tab rs st m (with-args y us) post f g h nb))
 
-        next : (rs : List Rule) → Stored tab rules lens 0 (sides-of rs) → number ≡ length rs → (x : Term) (post : List ℕ) → Holds tab rs t₀ len x post → (big : ℕ → Bool) → Limit big most post → Next rs big post (normalise-in rs big x units)
+        next : (rs : List Rule) → Stored tab rules lens 0 (sides-of rs) → number ≡ length rs → (x : Term) (post : List ℕ) → CellsHold tab rs t₀ len x post → (big : ℕ → Bool) → Limit big most post → Next rs big post (normalise-in rs big x units)
         next rs st m x post h big lim =
             let p = i .place rs st m x post h big lim in
             let o = open-held rs (p .term) post (p .held) in

@@ -22,7 +22,7 @@ use Rattle.normaliser.specs.Inside.{normalise-in, normalise-all}
 use Rattle.redex.specs.Marks.{Marked, MarkedAll, no-more, more}
 use Rattle.redex.specs.Stored.{Stored}
 use Rattle.redex.specs.Step.{out}
-use Rattle.normaliser.specs.Settled.{HoldsAll, EndsWith, EndsAll, Limit, Settled, SettledAll}
+use Rattle.normaliser.specs.Settled.{CellsHoldAll, EndsWith, EndsAll, Limit, Settled, SettledAll}
 use Rattle.redex.specs.declared.Out.{Out}
 use Rattle.normaliser.proofs.Sequence.{normalise-nil, normalise-cons, then-others}
 use Rattle.redex.proofs.Marking.{marked-lengths}
@@ -33,7 +33,7 @@ pub record Ahead (tab : List ℕ) (rs : List Rule) (post t : List ℕ) (n most k
   pub todo : Terms
   pub big : ℕ → Bool
   pub limit : Limit big (most - p) post
-  pub held : HoldsAll tab rs (from t p) (l - p) todo post
+  pub held : CellsHoldAll tab rs (from t p) (l - p) todo post
   pub number : count todo ≡ k
   pub behind : Terms → Terms
   pub answer : goal ≡ and-then (normalise-all rs big todo u) (λ us m. done (behind us) m)
@@ -47,7 +47,7 @@ pub record Row (tab rules lens : List ℕ) (number : ℕ) (t₀ : List ℕ) (n l
   pub place : p ≤ l
   pub small : l ≤ most
   pub cost : 1000 * u + 2 * l ≤ 1000 * units + 2 * len
-  pub ahead : (rs : List Rule) → Stored tab rules lens 0 (sides-of rs) → number ≡ length rs → (xs : Terms) (post : List ℕ) → HoldsAll tab rs t₀ len xs post → count xs ≡ n →
+  pub ahead : (rs : List Rule) → Stored tab rules lens 0 (sides-of rs) → number ≡ length rs → (xs : Terms) (post : List ℕ) → CellsHoldAll tab rs t₀ len xs post → count xs ≡ n →
       (big : ℕ → Bool) → Limit big most post → Ahead tab rs post t n most k p l u (normalise-all rs big xs units)
 
 and-done : (p : Paid Terms) → p ≡ and-then p (λ us m. done us m)

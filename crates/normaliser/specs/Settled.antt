@@ -14,13 +14,13 @@ use Rattle.rewriting.specs.Rewrite.{step, normalise, Paid, done, stop, end-numb
 use Rattle.matching.specs.Cells.{cells, cells-all}
 use Rattle.redex.specs.Marks.{MarkedAll}
 use Rattle.redex.specs.Stored.{Stored}
-use Rattle.redex.specs.Step.{Holds}
+use Rattle.redex.specs.Step.{CellsHold}
 use Rattle.redex.specs.declared.Out.{Out}
 use Rattle.normaliser.specs.Inside.{normalise-in, normalise-all}
 use Rattle.normaliser.specs.declared.Normal.{Normal}
 
 -- terms, of which some subterms are known to be normal, and then `post` are the first `len` cells
-pub record HoldsAll (tab : List ℕ) (rs : List Rule) (t : List ℕ) (len : ℕ) (us : Terms) (post : List ℕ) : Type 0 where
+pub record CellsHoldAll (tab : List ℕ) (rs : List Rule) (t : List ℕ) (len : ℕ) (us : Terms) (post : List ℕ) : Type 0 where
   pub wfs : Wfs 32 tab us
   pub marks : List ℕ
   pub marked : MarkedAll rs marks us
@@ -31,7 +31,7 @@ abbrev pub no-term : ℕ
 no-term = 3
 
 -- `leave`
-pub record Left (c len units : ℕ) (o : Out) : Type 0 where
+pub record LeftNormal (c len units : ℕ) (o : Out) : Type 0 where
   pub whole : o .len ≡ len
   pub left-over : o .units ≡ units
   pub ends : o .end ≤ o .len
@@ -59,12 +59,12 @@ Limit big most post = (n : ℕ) → big n ≡ ltb most (n + length post)
 pub record Settled (tab rules lens : List ℕ) (number : ℕ) (t t′ : List ℕ) (len most units : ℕ) (o : Out) : Type 0 where
   pub bounds : Bounds t t′ len most units o
   pub first : o .verdict ≡ goes-on → 1 ≤ o .end
-  pub answer : (rs : List Rule) → Stored tab rules lens 0 (sides-of rs) → number ≡ length rs → (x : Term) (post : List ℕ) → Holds tab rs t len x post →
+  pub answer : (rs : List Rule) → Stored tab rules lens 0 (sides-of rs) → number ≡ length rs → (x : Term) (post : List ℕ) → CellsHold tab rs t len x post →
       (big : ℕ → Bool) → Limit big most post → EndsWith tab t′ post o (normalise-in rs big x units)
 
 pub record SettledAll (tab rules lens : List ℕ) (number : ℕ) (t t′ : List ℕ) (n len most units : ℕ) (o : Out) : Type 0 where
   pub bounds : Bounds t t′ len most units o
-  pub answer : (rs : List Rule) → Stored tab rules lens 0 (sides-of rs) → number ≡ length rs → (xs : Terms) (post : List ℕ) → HoldsAll tab rs t len xs post → count xs ≡ n →
+  pub answer : (rs : List Rule) → Stored tab rules lens 0 (sides-of rs) → number ≡ length rs → (xs : Terms) (post : List ℕ) → CellsHoldAll tab rs t len xs post → count xs ≡ n →
       (big : ℕ → Bool) → Limit big most post → EndsAll tab t′ post n o (normalise-all rs big xs units)
 
 -- `normalise`: exactly as the definition says, and the units paid are those it takes

@@ -6,7 +6,7 @@ ghost use Prim.Native.Nat.{_≤_};
 ghost use lib.ListN.{length, drop};
 ghost use Rattle.matching.specs.Cells.{node-bytes};
 ghost use Rattle.redex.specs.Stored.{Layout};
-ghost use Rattle.normaliser.specs.Settled.{Left, Settled, SettledAll, Normalised, Reducible};
+ghost use Rattle.normaliser.specs.Settled.{LeftNormal, Settled, SettledAll, Normalised, Reducible};
 
 // The verdict where no term stands; no end has it.
 const NO_TERM: u8 = 3;
@@ -14,7 +14,7 @@ const NO_TERM: u8 = 3;
 // The term at the start, whose root has the cell c, is normal. It would be no term where it ends beyond len.
 fn leave(c: u16, len: usize, units: u32) -> Out
     requires { ⌜ 256 ≤ c ⌝ }
-    ensures { λ r. ⌜ Left c len units r ⌝ }
+    ensures { λ r. ⌜ LeftNormal c len units r ⌝ }
 {
     let e = matching::size_of(c);
     if e > len {

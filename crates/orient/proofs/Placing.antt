@@ -1,5 +1,5 @@
 -- Two sides, renamed in a slot, are the renamed pair, with variables below 16; and steps 4 and 5 of a turn by each test's outcome. Assumes nothing.
--- Read first: specs/Oriented (PutRenamed, Placed), naming/proofs/Pairs, store/proofs/Listing.
+-- Read first: specs/Oriented (PutRenamed, RulePlaced), naming/proofs/Pairs, store/proofs/Listing.
 use mathlib.Core.Path.{_≡_, refl, sym, ap, ap₂, _∙_, subst}
 use mathlib.Core.Bool.{Bool, true, false}
 use mathlib.Core.Logic.{⊎-elim}
@@ -27,11 +27,11 @@ use Rattle.rewriting.specs.Rewrite.{_>>=_, and-then, end-if, return, end-with, 
 use Rattle.rewriting.proofs.Holds.{NormalEnd}
 use Rattle.problem.specs.Problem.{rank-of, Problem}
 use Rattle.completion.specs.Turn.{orient}
-use Rattle.store.specs.Slots.{patched, Holds, OnlySlot}
+use Rattle.store.specs.Slots.{patched, SlotHolds, OnlySlot}
 use Rattle.store.proofs.Listing.{rule-put, short-put, slot-kept}
 use Rattle.orient.specs.Seen.{Counted}
 use Rattle.redex.specs.Stored.{Sides}
-use Rattle.orient.specs.Oriented.{oriented, PutRenamed, Placed}
+use Rattle.orient.specs.Oriented.{oriented, PutRenamed, RulePlaced}
 
 -- The two sides in the buffer.
 pub both-sides : (left right d d₁ d₂ : List ℕ) → d₁ ≡ patched 0 left d → d₂ ≡ patched (length left) right d₁ → take (length left + length right) d₂ ≡ left ++ right
@@ -52,7 +52,7 @@ renamed-sides tab left right e s =
 -- `put_renamed`: d₂ holds both sides, d₃ their renamed bytes, and its two parts were put
 pub put-renamed : (left right d₂ d₃ b l : List ℕ) (k n e : ℕ) (b′ l′ p q : List ℕ) → n ≡ length left → e ≡ n + length right → length left ≤ 120 → length right ≤ 120 →
     take e d₂ ≡ left ++ right → d₃ ≡ renamed-bytes (take e d₂) ++ drop e d₂ → p ≡ take (n - 0) (drop 0 d₃) → q ≡ take (e - n) (drop n d₃) →
-    Holds b′ l′ k p q → OnlySlot b l k b′ l′ → PutRenamed left right b l k b′ l′
+    SlotHolds b′ l′ k p q → OnlySlot b l k b′ l′ → PutRenamed left right b l k b′ l′
 put-renamed left right d₂ d₃ b l k n e b′ l′ p q en ee sl sr f g hp hq h o =
     let R : List ℕ = renamed-bytes (left ++ right) in
     let g′ : d₃ ≡ R ++ drop e d₂ = g ∙ ap (λ z. renamed-bytes z ++ drop e d₂) f in
@@ -79,7 +79,7 @@ starts : (tab left : List ℕ) (t : Term) → Wf 32 tab t → left ≡ term-byte
 starts tab left t w e = record { wf = w; rest = []; bytes = e ∙ sym (append-nil (term-bytes t)) }
 
 module _ (tab left right b l : List ℕ) (k r : ℕ) (c : Counted left right r) where
-  pub place-many : 16 < r → Placed tab left right b l k 22 b l
+  pub place-many : 16 < r → RulePlaced tab left right b l k 22 b l
   unfolding oriented end-if end-with and-then _>>=_ end-number
   place-many h = record {
     only = slot-kept b l k;
@@ -104,7 +104,7 @@ module _ (tab left right b l : List ℕ) (k r : ℕ) (c : Counted left right r) 
     below-is : (P : Problem) → rank-of (P .symbols) ≡ rank tab → (e : Pair) → Sides 32 tab left right e → (t : Bool) → IsAbove tab right left t → above (rank-of (P .symbols)) (e .right) (e .left) ≡ t
     below-is P q e s t h = ap (λ z. above z (e .right) (e .left)) q ∙ sym (h (e .right) (e .left) (starts tab right (e .right) (s .right-wf) (s .right-bytes)) (starts tab left (e .left) (s .left-wf) (s .left-bytes)))
 
-    pub place-left : (t : Bool) → t ≡ true → IsAbove tab left right t → (b′ l′ : List ℕ) → PutRenamed left right b l k b′ l′ → Placed tab left right b l k goes-on b′ l′
+    pub place-left : (t : Bool) → t ≡ true → IsAbove tab left right t → (b′ l′ : List ℕ) → PutRenamed left right b l k b′ l′ → RulePlaced tab left right b l k goes-on b′ l′
     unfolding orient if_then_else_ return
     place-left t z h b′ l′ p = record {
       only = p .only;
@@ -112,7 +112,7 @@ module _ (tab left right b l : List ℕ) (k r : ℕ) (c : Counted left right r) 
       answer = λ P q e s units. rw (start P e s units, above-is P q e s t h ∙ z) (refl, refl, p .rule tab e s (few-of e s));
     }
 
-    pub place-right : (t u : Bool) → t ≡ false → u ≡ true → IsAbove tab left right t → IsAbove tab right left u → (b′ l′ : List ℕ) → PutRenamed right left b l k b′ l′ → Placed tab left right b l k goes-on b′ l′
+    pub place-right : (t u : Bool) → t ≡ false → u ≡ true → IsAbove tab left right t → IsAbove tab right left u → (b′ l′ : List ℕ) → PutRenamed right left b l k b′ l′ → RulePlaced tab left right b l k goes-on b′ l′
     unfolding orient if_then_else_ return
     place-right t u y z g h b′ l′ p = record {
       only = p .only;
@@ -124,7 +124,7 @@ module _ (tab left right b l : List ℕ) (k r : ℕ) (c : Counted left right r) 
           rw (start P e s units, above-is P q e s t g ∙ y, below-is P q e s u h ∙ z) (refl, refl, p .rule tab (swapped e) x (omega arith));
     }
 
-    pub place-neither : (t u : Bool) → t ≡ false → u ≡ false → IsAbove tab left right t → IsAbove tab right left u → Placed tab left right b l k 20 b l
+    pub place-neither : (t u : Bool) → t ≡ false → u ≡ false → IsAbove tab left right t → IsAbove tab right left u → RulePlaced tab left right b l k 20 b l
     unfolding orient if_then_else_ end-with end-number
     place-neither t u y z g h = record {
       only = slot-kept b l k;

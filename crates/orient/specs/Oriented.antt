@@ -30,7 +30,7 @@ OrientedIs tab b l k r e units (done p left) = (r ≡ goes-on) × (left ≡ unit
 OrientedIs tab b l k r e units (stop f left) = (r ≡ end-number f) × (left ≡ units) × ((g : Pair) → f ≡ neither-above g → g ≡ e)
 
 -- `place`
-pub record Placed (tab left right b l : List ℕ) (k r : ℕ) (b′ l′ : List ℕ) : Type 0 where
+pub record RulePlaced (tab left right b l : List ℕ) (k r : ℕ) (b′ l′ : List ℕ) : Type 0 where
   pub only : OnlySlot b l k b′ l′
   pub short : r ≡ goes-on → ShortAt l′ k
   pub answer : (P : Problem) → rank-of (P .symbols) ≡ rank tab → (e : Pair) → Sides 32 tab left right e → (units : ℕ) → OrientedIs tab b′ l′ k r e units (oriented P e units)

@@ -2,8 +2,8 @@
 ghost use mathlib.Core.List.{[], _∷_, _++_, List·Memᴰ};
 ghost use Prim.Native.Nat.{ℕ, _+_, _-_, _<_, _≤_};
 ghost use lib.ListN.{length, take, drop};
-ghost use Rattle.store.specs.Slots.{Room, Holds, OnlySlot};
-ghost use Rattle.orient.specs.Oriented.{PutRenamed, Placed};
+ghost use Rattle.store.specs.Slots.{SlotRoom, SlotHolds, OnlySlot};
+ghost use Rattle.orient.specs.Oriented.{PutRenamed, RulePlaced};
 ghost use Rattle.orient.specs.Seen.{Seen, Counted};
 
 // A variable is a bit of the set; a byte above all variables fills it.
@@ -42,9 +42,9 @@ pub fn variable_count(left: &[u8], right: &[u8]) -> u32
 
 // The bytes to n and those from n to e into slot k.
 fn put_parts(out: &[u8], n: usize, e: usize, rules: &mut [u8], lens: &mut [u8], k: usize)
-    requires { ⌜ Room (now rules) (now lens) k ⌝ }
+    requires { ⌜ SlotRoom (now rules) (now lens) k ⌝ }
     requires { ⌜ (n ≤ e) × (e ≤ length (now out)) × (n ≤ 120) × (e ≤ n + 120) ⌝ }
-    ensures { λ _. ⌜ Holds (now (rules .exit)) (now (lens .exit)) k (take (n - 0) (drop 0 (now (out .entry)))) (take (e - n) (drop n (now (out .entry)))) ⌝ }
+    ensures { λ _. ⌜ SlotHolds (now (rules .exit)) (now (lens .exit)) k (take (n - 0) (drop 0 (now (out .entry)))) (take (e - n) (drop n (now (out .entry)))) ⌝ }
     ensures { λ _. ⌜ OnlySlot (now (rules .entry)) (now (lens .entry)) k (now (rules .exit)) (now (lens .exit)) ⌝ }
 {
     store::put(rules, lens, k, &out[0..n], &out[n..e]);
@@ -52,7 +52,7 @@ fn put_parts(out: &[u8], n: usize, e: usize, rules: &mut [u8], lens: &mut [u8], 
 
 // The pair, renamed, into slot k.
 fn put_renamed(left: &[u8], right: &[u8], rules: &mut [u8], lens: &mut [u8], k: usize)
-    requires { ⌜ Room (now rules) (now lens) k ⌝ }
+    requires { ⌜ SlotRoom (now rules) (now lens) k ⌝ }
     requires { ⌜ (length (now left) ≤ 120) × (length (now right) ≤ 120) × ((b : ℕ) → List·Memᴰ b (now left ++ now right) → b < 160) ⌝ }
     ensures { λ _. ⌜ PutRenamed (now (left .entry)) (now (right .entry)) (now (rules .entry)) (now (lens .entry)) k (now (rules .exit)) (now (lens .exit)) ⌝ }
 {
@@ -74,9 +74,9 @@ pub fn place(
     lens: &mut [u8],
     k: usize,
 ) -> u8
-    requires { ⌜ Room (now rules) (now lens) k ⌝ }
+    requires { ⌜ SlotRoom (now rules) (now lens) k ⌝ }
     requires { ⌜ (length (now left) ≤ 120) × (length (now right) ≤ 120) ⌝ }
-    ensures { λ r. ⌜ Placed (now (table .entry)) (now (left .entry)) (now (right .entry)) (now (rules .entry)) (now (lens .entry)) k r (now (rules .exit)) (now (lens .exit)) ⌝ }
+    ensures { λ r. ⌜ RulePlaced (now (table .entry)) (now (left .entry)) (now (right .entry)) (now (rules .entry)) (now (lens .entry)) k r (now (rules .exit)) (now (lens .exit)) ⌝ }
 {
     if variable_count(left, right) > 16 {
         return rewriting::TOO_LARGE;

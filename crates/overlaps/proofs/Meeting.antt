@@ -27,7 +27,7 @@ use Rattle.overlaps.specs.declared.Met.{Met}
 use Rattle.overlaps.specs.declared.Met.the-variants.{Nothing}
 use Rattle.laying.specs.Layout.{LaysFour}
 use Rattle.clash.specs.Clashing.{NeverOne, Clashing}
-use Rattle.overlaps.specs.Answer.{Says, instances, four, Solves, AtNode, Meets, side-bytes, Overlapped}
+use Rattle.overlaps.specs.Answer.{Says, instances, four, SolvesAt, AtSymbol, Meets, side-bytes, Overlapped}
 use Rattle.overlaps.proofs.Apart.{the-four, four-wf, four-terms}
 use Rattle.laying.proofs.Layers.{laid-bytes}
 use Rattle.overlaps.proofs.Slots.{sides-of-rule}
@@ -52,7 +52,7 @@ sizes-four x y z w = omega arith
 
 module _ (tab l₁ r₁ l₂ r₂ : List ℕ) (p : ℕ) (nodes nodes′ : List ℕ) (end : ℕ) (g : LaysFour tab l₁ r₁ l₂ r₂ p nodes nodes′ end) (n a b : ℕ) where
   pub meet-found : n ≡ length l₂ → a ≡ n + length l₁ → b ≡ end - length r₂ → (L R L′ R′ : List ℕ) (r : Met) →
-      Solves (take (end - 0) (drop 0 nodes′)) tab p n a b L R L′ R′ r → Meets tab l₁ r₁ l₂ r₂ p L R L′ R′ r
+      SolvesAt (take (end - 0) (drop 0 nodes′)) tab p n a b L R L′ R′ r → Meets tab l₁ r₁ l₂ r₂ p L R L′ R′ r
   meet-found en ea eb L R L′ R′ r s = record {
     kept = s .kept;
     short = s .short;
@@ -160,7 +160,7 @@ module _ (tab rules lens : List ℕ) (inner outer p : ℕ) (L R l₂ : List ℕ)
     overlap-empty z =
         nothing (λ i o k. absurd (omega (arith, ap length (sides-of-rule tab rules lens outer l₂ r₂ e₂ f₂ o k .right-bytes), length-bytes (o .right), size-pos (o .right))))
 
-    at-node : getD l₂ p 0 < 128 → (o : Pair) → RuleAt tab rules lens outer o → (u : Term) → subterm-at (o .left) p ≡ some u → AtNode (o .left) p
+    at-node : getD l₂ p 0 < 128 → (o : Pair) → RuleAt tab rules lens outer o → (u : Term) → subterm-at (o .left) p ≡ some u → AtSymbol (o .left) p
     at-node h o k (var x) e = absurd (omega (arith, outer-begins o (var x) k e))
     at-node h o k (node f ts) e = (f, ts, e)
 

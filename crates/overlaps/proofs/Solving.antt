@@ -1,5 +1,5 @@
 -- From the answer of unification to that of an overlap: which most general unifier was found does not matter after renaming. Assumes nothing.
--- Read first: specs/Answer (Solves, instances), unifier/specs/Result (Solved, Decided), unifier/proofs/Verdict.
+-- Read first: specs/Answer (SolvesAt, instances), unifier/specs/Result (Solved, Decided), unifier/proofs/Verdict.
 use mathlib.Core.Path.{_≡_, refl, sym, ap, ap₂, subst, _∙_}
 use mathlib.Core.Bool.{Bool, true, false, true≢false}
 use mathlib.Core.List.{List}
@@ -19,16 +19,16 @@ use Rattle.terms.proofs.Positions.{subterm-below, in-first, in-later, in-head}
 use Rattle.unify.specs.Unify.{Binding, mgu, under}
 use Rattle.classes.specs.Arena.{Spells, same}
 use Rattle.classes.specs.Steps.{at, arena}
-use Rattle.unifier.specs.Result.{Laid, LaidOut, Tested, Solved, Decided}
+use Rattle.unifier.specs.Result.{Laid, LaidOut, IsTerms, Solved, Decided}
 use Rattle.unifier.proofs.Starting.{laid-at}
 use Rattle.unifier.proofs.Verdict.{the-mgu, solved-sizes, solved-renamed, solved-decided}
 use Rattle.pairs.specs.declared.Lengths.{Lengths}
-use Rattle.pairs.specs.Placed.{Low, Fits, Placed}
+use Rattle.pairs.specs.Placed.{VariablesLow, PlacedIf, PairPlaced}
 use Rattle.unifier.proofs.Instance.{spells-instance}
 use Rattle.rewriting.specs.Overlap.{Overlap}
 use Rattle.overlaps.specs.declared.Met.{Met}
 use Rattle.overlaps.specs.declared.Met.the-variants.{Nothing, TooLarge, Found}
-use Rattle.overlaps.specs.Answer.{Answered, Says, four, instances, Solves}
+use Rattle.overlaps.specs.Answer.{PairIs, Says, four, instances, SolvesAt}
 
 -- bytes of terms with variables below 32
 terms-low : (tab : List ℕ) (ts : Terms) → Wfs 32 tab ts → Every (λ b. b < 160) (terms-bytes ts)
@@ -36,16 +36,16 @@ unfolding terms-bytes Wfs
 terms-low tab nil w = of-none
 terms-low tab (cons t ts) w = every-append (wf-bytes 32 tab t (w .0)) (terms-low tab ts (w .1))
 
-module _ (l tab : List ℕ) (r : Bool) (g : Tested l tab r) where
+module _ (l tab : List ℕ) (r : Bool) (g : IsTerms l tab r) where
   pub tested-out : r ≡ true → LaidOut l tab
   tested-out e = let s = g .sound e in (s .0, record { wf = widen-all 32 128 tab (s .0) (omega arith) (s .1 .0); bytes = s .1 .1 })
 
-  pub tested-low : r ≡ true → Low l
+  pub tested-low : r ≡ true → VariablesLow l
   tested-low e =
       let s = g .sound e in
-      subst (λ k. Low k) (sym (s .1 .1)) (λ i h. every-at (terms-low tab (s .0) (s .1 .0)) i 0 h)
+      subst (λ k. VariablesLow k) (sym (s .1 .1)) (λ i h. every-at (terms-low tab (s .0) (s .1 .0)) i 0 h)
 
-  pub solve-bad : (p n a b : ℕ) (L R : List ℕ) → r ≡ false → Solves l tab p n a b L R L R Nothing
+  pub solve-bad : (p n a b : ℕ) (L R : List ℕ) → r ≡ false → SolvesAt l tab p n a b L R L R Nothing
   solve-bad p n a b L R e = record {
     kept = record { left = refl; right = refl };
     short = tt;
@@ -116,7 +116,7 @@ module _ (l tab : List ℕ) (p n a b : ℕ) (x y z w : Term) (f : Wfs 32 tab (fo
           (sym (solved-renamed l tab n p ends cs zs k y t (spells n y at-y) (spells p t at-t) m e (record { left = z; right = w })))
           (g (subst-term (the-mgu l tab n p ends cs zs k) x) (subst-term (the-mgu l tab n p ends cs zs k) z) (subst-term (the-mgu l tab n p ends cs zs k) w) (found 0 x at-x) (found a z at-z) (found b w at-w))
 
-pub solve-never : (l tab : List ℕ) (p n a b : ℕ) (L R : List ℕ) (r : Bool) → Decided l tab n p r → r ≡ false → Solves l tab p n a b L R L R Nothing
+pub solve-never : (l tab : List ℕ) (p n a b : ℕ) (L R : List ℕ) (r : Bool) → Decided l tab n p r → r ≡ false → SolvesAt l tab p n a b L R L R Nothing
 solve-never l tab p n a b L R r d e = record {
   kept = record { left = refl; right = refl };
   short = tt;
@@ -124,22 +124,22 @@ solve-never l tab p n a b L R r d e = record {
 }
 
 -- what `place` answers
-fits-says : (L R : List ℕ) (s : Lengths) (y z : Term) (b c d : Bool) → Fits L R s y z b c d → s .fits ≡ true →
-    Answered L R (Found (s .left) (s .right)) (size y) (size z) (renamed (record { left = y; right = z })) b c d
+fits-says : (L R : List ℕ) (s : Lengths) (y z : Term) (b c d : Bool) → PlacedIf L R s y z b c d → s .fits ≡ true →
+    PairIs L R (Found (s .left) (s .right)) (size y) (size z) (renamed (record { left = y; right = z })) b c d
 fits-says L R s y z true c d h e = absurd (true≢false (sym e ∙ h))
 fits-says L R s y z false true d h e = absurd (true≢false (sym e ∙ h))
 fits-says L R s y z false false true h e = absurd (true≢false (sym e ∙ h))
 fits-says L R s y z false false false h e = (ap₂ (λ u v. Found u v) (h .1) (h .2), h .3, h .4)
 
-large-says : (L R : List ℕ) (s : Lengths) (y z : Term) (b c d : Bool) → Fits L R s y z b c d → s .fits ≡ false →
-    Answered L R TooLarge (size y) (size z) (renamed (record { left = y; right = z })) b c d
+large-says : (L R : List ℕ) (s : Lengths) (y z : Term) (b c d : Bool) → PlacedIf L R s y z b c d → s .fits ≡ false →
+    PairIs L R TooLarge (size y) (size z) (renamed (record { left = y; right = z })) b c d
 large-says L R s y z true c d h e = refl
 large-says L R s y z false true d h e = refl
 large-says L R s y z false false true h e = refl
 large-says L R s y z false false false h e = absurd (true≢false (sym (h .0) ∙ e))
 
-module _ (l tab : List ℕ) (p n a b : ℕ) (L R L′ R′ : List ℕ) (ends cs zs : List ℕ) (s : Lengths) (k : Solved l tab n p ends cs zs) (g : Placed (arena l tab ends) (at cs) a b L R L′ R′ s) where
-  pub solve-found : s .fits ≡ true → Solves l tab p n a b L R L′ R′ (Found (s .left) (s .right))
+module _ (l tab : List ℕ) (p n a b : ℕ) (L R L′ R′ : List ℕ) (ends cs zs : List ℕ) (s : Lengths) (k : Solved l tab n p ends cs zs) (g : PairPlaced (arena l tab ends) (at cs) a b L R L′ R′ s) where
+  pub solve-found : s .fits ≡ true → SolvesAt l tab p n a b L R L′ R′ (Found (s .left) (s .right))
   solve-found e =
       record {
         kept = g .kept;
@@ -149,7 +149,7 @@ module _ (l tab : List ℕ) (p n a b : ℕ) (L R L′ R′ : List ℕ) (ends cs 
             (λ x′ y′ z′ u v j. fits-says L′ R′ s y′ z′ (ltb 120 (size x′)) (ltb 120 (size y′)) (ltb 120 (size z′)) (g .answer x′ y′ z′ u v j) e);
       }
 
-  pub solve-large : s .fits ≡ false → Solves l tab p n a b L R L′ R′ TooLarge
+  pub solve-large : s .fits ≡ false → SolvesAt l tab p n a b L R L′ R′ TooLarge
   solve-large e =
       record {
         kept = g .kept;

@@ -3,7 +3,7 @@ ghost use mathlib.Core.Path.{_≡_};
 ghost use Prim.Native.Nat.{_+_, _*_, _<_, _≤_};
 ghost use lib.ListN.{length, getD};
 ghost use Rattle.redex.specs.Stored.{Layout};
-ghost use Rattle.overlaps.specs.Answer.{side-bytes, Solves, Meets, Overlapped};
+ghost use Rattle.overlaps.specs.Answer.{side-bytes, SolvesAt, Meets, Overlapped};
 
 pub enum Met {
     // There is no overlap.
@@ -31,7 +31,7 @@ fn solve_in(
     requires { ⌜ (length (now nodes) ≤ 600) × (p < length (now nodes)) × (n < length (now nodes)) × (a < length (now nodes)) × (b < length (now nodes)) ⌝ }
     requires { ⌜ (length (now nodes) ≤ length (now ends)) × (length (now nodes) ≤ length (now class)) × (length (now nodes) ≤ length (now sizes)) ⌝ }
     requires { ⌜ (120 ≤ length (now left)) × (120 ≤ length (now right)) ⌝ }
-    ensures { λ r. ⌜ Solves (now (nodes .entry)) (now (table .entry)) p n a b (now (left .entry)) (now (right .entry)) (now (left .exit)) (now (right .exit)) r ⌝ }
+    ensures { λ r. ⌜ SolvesAt (now (nodes .entry)) (now (table .entry)) p n a b (now (left .entry)) (now (right .entry)) (now (left .exit)) (now (right .exit)) r ⌝ }
 {
     if !unifier::laid_out(nodes, table) {
         return Met::Nothing;
@@ -59,7 +59,7 @@ fn solve(
 ) -> Met
     requires { ⌜ (length (now nodes) ≤ 600) × (p < length (now nodes)) × (n < length (now nodes)) × (a < length (now nodes)) × (b < length (now nodes)) ⌝ }
     requires { ⌜ (120 ≤ length (now left)) × (120 ≤ length (now right)) ⌝ }
-    ensures { λ r. ⌜ Solves (now (nodes .entry)) (now (table .entry)) p n a b (now (left .entry)) (now (right .entry)) (now (left .exit)) (now (right .exit)) r ⌝ }
+    ensures { λ r. ⌜ SolvesAt (now (nodes .entry)) (now (table .entry)) p n a b (now (left .entry)) (now (right .entry)) (now (left .exit)) (now (right .exit)) r ⌝ }
 {
     let mut ends = [0u16; 600];
     let mut class = [0u16; 600];

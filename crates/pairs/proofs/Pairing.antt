@@ -1,5 +1,5 @@
 -- The instances of two nodes, written one after the other and renamed, are the renamed pair; their names are few. Assumes nothing.
--- Read first: specs/Placed (PutPair, Small), unifier/specs/Written (Writes), naming/proofs/Pairs (renamed-pair), naming/proofs/Few.
+-- Read first: specs/Placed (PutPair, BothSmall), unifier/specs/Written (WritesTerms), naming/proofs/Pairs (renamed-pair), naming/proofs/Few.
 use mathlib.Core.Path.{_≡_, sym, ap, ap₂, subst₂, _∙_}
 use mathlib.Core.Logic.{⊎-elim}
 use mathlib.Core.List.{List, [], _++_, append-assoc, append-nil, List·Memᴰ·not-nil, List·Memᴰ·cases-cons, List·Memᴰ·append-cases}
@@ -18,14 +18,14 @@ use Rattle.naming.specs.Names.{collect, renamed-bytes}
 use Rattle.naming.proofs.Renaming.{Lows}
 use Rattle.naming.proofs.Pairs.{renamed-pair}
 use Rattle.naming.proofs.Few.{terms-few}
-use Rattle.unifier.specs.Written.{put, Room, Writes}
+use Rattle.unifier.specs.Written.{put, RoomFor, WritesTerms}
 use Rattle.classes.proofs.Arena.{spells-one}
 use Rattle.unifier.proofs.Instance.{spells-lows}
 use Rattle.unifier.proofs.Writing.{put-append, put-reads}
-use Rattle.pairs.specs.Placed.{Low, Small, PutPair}
+use Rattle.pairs.specs.Placed.{VariablesLow, BothSmall, PutPair}
 
 -- the variables of what is spelt are those of the arena
-module _ (l tab ends cs : List ℕ) (rd : Ready l tab ends cs) (low : Low l) where
+module _ (l tab ends cs : List ℕ) (rd : Ready l tab ends cs) (low : VariablesLow l) where
   mutual
     unfolding variables variables-of
 
@@ -59,7 +59,7 @@ copied S X L L′ n e h k =
 copied-length : (S L L′ : List ℕ) → Copied S L L′ → length S ≤ length L → length L′ ≡ length L
 copied-length S L L′ h k = ap length h ∙ length-front L (take (length S) S) (length S) (ap length (take-length S) ∙ sym (length-take-le (length S) L k))
 
-module _ (l tab ends cs : List ℕ) (rd : Ready l tab ends cs) (low : Low l) (a b : ℕ) (s : Small (arena l tab ends) (at cs) a b) where
+module _ (l tab ends cs : List ℕ) (rd : Ready l tab ends cs) (low : VariablesLow l) (a b : ℕ) (s : BothSmall (arena l tab ends) (at cs) a b) where
   abbrev y : Term
   y = s .0
 
@@ -79,16 +79,16 @@ module _ (l tab ends cs : List ℕ) (rd : Ready l tab ends cs) (low : Low l) (a 
   unfolding sizes
   pair-room m n = (cons y nil, one, omega (arith, s .4))
 
-  module _ (d : List ℕ) (n : 240 ≤ length d) (e : ℕ) (d₁ : List ℕ) (w₁ : Writes (arena l tab ends) (at cs) a 1 0 d e d₁) where
+  module _ (d : List ℕ) (n : 240 ≤ length d) (e : ℕ) (d₁ : List ℕ) (w₁ : WritesTerms (arena l tab ends) (at cs) a 1 0 d e d₁) where
     first-end : e ≡ size y
     unfolding sizes
     first-end = omega (arith, w₁ .ends (cons y nil) one)
 
-    pub pair-room-2 : Room (arena l tab ends) (at cs) b 1 e d₁
+    pub pair-room-2 : RoomFor (arena l tab ends) (at cs) b 1 e d₁
     unfolding sizes
     pair-room-2 = (cons z nil, two, omega (arith, first-end, w₁ .long, s .4, s .5))
 
-    module _ (f : ℕ) (d₂ : List ℕ) (w₂ : Writes (arena l tab ends) (at cs) b 1 e d₁ f d₂) where
+    module _ (f : ℕ) (d₂ : List ℕ) (w₂ : WritesTerms (arena l tab ends) (at cs) b 1 e d₁ f d₂) where
       second-end : f ≡ size y + size z
       unfolding sizes
       second-end = omega (arith, w₂ .ends (cons z nil) two, first-end)

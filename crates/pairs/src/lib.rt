@@ -4,8 +4,8 @@ ghost use mathlib.Core.Bool.{true, false};
 ghost use Prim.Native.Nat.{_<_, _≤_};
 ghost use lib.ListN.{length};
 ghost use Rattle.classes.specs.Steps.{at, arena, Ready};
-ghost use Rattle.sizing.specs.Sizes.{Sized, Known};
-ghost use Rattle.pairs.specs.Placed.{Low, Small, PutPair, Placed};
+ghost use Rattle.sizing.specs.Sizes.{Sized, SizesKnown};
+ghost use Rattle.pairs.specs.Placed.{VariablesLow, BothSmall, PutPair, PairPlaced};
 
 // Whether the peak and both sides have at most 120 nodes, and then the lengths of the sides.
 pub struct Lengths {
@@ -25,8 +25,8 @@ fn put_pair(
     left: &mut [u8],
     right: &mut [u8],
 )
-    requires { ⌜ Ready (now nodes) (now table) (now ends) (now class) × Low (now nodes) ⌝ }
-    requires { ⌜ Small (arena (now nodes) (now table) (now ends)) (at (now class)) a b ⌝ }
+    requires { ⌜ Ready (now nodes) (now table) (now ends) (now class) × VariablesLow (now nodes) ⌝ }
+    requires { ⌜ BothSmall (arena (now nodes) (now table) (now ends)) (at (now class)) a b ⌝ }
     requires { ⌜ (120 ≤ length (now left)) × (120 ≤ length (now right)) ⌝ }
     ensures { λ r. ⌜ PutPair (arena (now (nodes .entry)) (now (table .entry)) (now (ends .entry))) (at (now (class .entry))) a b (now (left .entry)) (now (right .entry)) (now (left .exit)) (now (right .exit)) ⌝ }
 {
@@ -61,10 +61,10 @@ pub fn place(
     left: &mut [u8],
     right: &mut [u8],
 ) -> Lengths
-    requires { ⌜ Sized (now nodes) (now table) (now ends) (now class) (now sizes) × Known (arena (now nodes) (now table) (now ends)) (at (now sizes)) true × Low (now nodes) ⌝ }
+    requires { ⌜ Sized (now nodes) (now table) (now ends) (now class) (now sizes) × SizesKnown (arena (now nodes) (now table) (now ends)) (at (now sizes)) true × VariablesLow (now nodes) ⌝ }
     requires { ⌜ (0 < length (now nodes)) × (a < length (now nodes)) × (b < length (now nodes)) ⌝ }
     requires { ⌜ (120 ≤ length (now left)) × (120 ≤ length (now right)) ⌝ }
-    ensures { λ r. ⌜ Placed (arena (now (nodes .entry)) (now (table .entry)) (now (ends .entry))) (at (now (class .entry))) a b (now (left .entry)) (now (right .entry)) (now (left .exit)) (now (right .exit)) r ⌝ }
+    ensures { λ r. ⌜ PairPlaced (arena (now (nodes .entry)) (now (table .entry)) (now (ends .entry))) (at (now (class .entry))) a b (now (left .entry)) (now (right .entry)) (now (left .exit)) (now (right .exit)) r ⌝ }
 {
     if sizes[0] > 120 {
         return too_large();

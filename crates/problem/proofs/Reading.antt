@@ -12,7 +12,7 @@ use Rattle.terms.proofs.Shape.{zero≢one, both-true}
 use Rattle.terms.specs.Base.{if_then_else_}
 use Rattle.terms.specs.Term.{Term, var, node, Terms, nil, cons, size, sizes, term-bytes, terms-bytes}
 use Rattle.terms.proofs.Limits.{Made, MadeAll}
-use Rattle.problem.specs.Problem.{Reading, ok, refused, _>>=_, refuse-if, Symbol, arity-of, Byte, symbol, variable, neither, byte-of, Part, read-term, read-terms}
+use Rattle.problem.specs.Problem.{Reading, ok, refused, _>>=_, refuse-if, Symbol, arity-of, Byte, symbol, variable, neither, byte-of, ReadPart, read-term, read-terms}
 use Rattle.problem.specs.Over.{Over, OverAll}
 use Rattle.terms.specs.Scan.{count}
 
@@ -56,13 +56,13 @@ byte-is Σ b = go (ltb b (length Σ)) (leb 0x80 b && leb b 0x8f) refl refl
     go false false h k = rw (h, byte-of) (rw k tt)
 
 module _ (Σ : List Symbol) where
-  pub record ReadsTo (at : ℕ) (bytes : List ℕ) (p : Part Term) : Type 0 where
+  pub record ReadsTo (at : ℕ) (bytes : List ℕ) (p : ReadPart Term) : Type 0 where
     pub front : bytes ≡ term-bytes (p .part) ++ p .rest
     pub ends : p .end ≡ at + size (p .part)
     pub over : Over Σ (p .part)
     pub made : Made (λ f. f < length Σ) (λ x. x < 16) (p .part)
 
-  pub record ReadsAll (n at : ℕ) (bytes : List ℕ) (p : Part Terms) : Type 0 where
+  pub record ReadsAll (n at : ℕ) (bytes : List ℕ) (p : ReadPart Terms) : Type 0 where
     pub front : bytes ≡ terms-bytes (p .part) ++ p .rest
     pub ends : p .end ≡ at + sizes (p .part)
     pub over : OverAll Σ (p .part)
@@ -73,7 +73,7 @@ module _ (Σ : List Symbol) where
   unfolding term-bytes size Over Made count
   all-nil at bytes = record { front = refl; ends = omega arith; over = tt; made = tt; counted = refl }
 
-  all-cons : (n at : ℕ) (bytes : List ℕ) (t : Part Term) (ts : Part Terms) → ReadsTo at bytes t → ReadsAll n (t .end) (t .rest) ts →
+  all-cons : (n at : ℕ) (bytes : List ℕ) (t : ReadPart Term) (ts : ReadPart Terms) → ReadsTo at bytes t → ReadsAll n (t .end) (t .rest) ts →
       ReadsAll (suc n) at bytes (record { part = cons (t .part) (ts .part); end = ts .end; rest = ts .rest })
   unfolding term-bytes size Over Made count
   all-cons n at bytes t ts r s =
@@ -85,7 +85,7 @@ module _ (Σ : List Symbol) where
         counted = ap suc (s .counted);
       }
 
-  one-node : (f at : ℕ) (bytes : List ℕ) (ts : Part Terms) → f < length Σ → ReadsAll (arity-of Σ f) (at + 1) bytes ts →
+  one-node : (f at : ℕ) (bytes : List ℕ) (ts : ReadPart Terms) → f < length Σ → ReadsAll (arity-of Σ f) (at + 1) bytes ts →
       ReadsTo at (f ∷ bytes) (record { part = node f (ts .part); end = ts .end; rest = ts .rest })
   unfolding term-bytes size Over Made count
   one-node f at bytes ts h s =
@@ -95,8 +95,8 @@ module _ (Σ : List Symbol) where
   unfolding term-bytes size Over Made
   one-variable x at bytes l = record { front = refl; ends = refl; over = tt; made = l }
 
-  pub reads-all : (one : ℕ → List ℕ → Reading (Part Term)) → ((at : ℕ) (bytes : List ℕ) (p : Part Term) → one at bytes ≡ ok p → ReadsTo at bytes p) →
-      (n at : ℕ) (bytes : List ℕ) (p : Part Terms) → read-terms one n at bytes ≡ ok p → ReadsAll n at bytes p
+  pub reads-all : (one : ℕ → List ℕ → Reading (ReadPart Term)) → ((at : ℕ) (bytes : List ℕ) (p : ReadPart Term) → one at bytes ≡ ok p → ReadsTo at bytes p) →
+      (n at : ℕ) (bytes : List ℕ) (p : ReadPart Terms) → read-terms one n at bytes ≡ ok p → ReadsAll n at bytes p
   unfolding read-terms
   reads-all one h zero at bytes p e = subst (ReadsAll zero at bytes) (ok-injective e) (all-nil at bytes)
   reads-all one h (suc n) at bytes p e =
@@ -105,13 +105,13 @@ module _ (Σ : List Symbol) where
       subst (ReadsAll (suc n) at bytes) (ok-injective e₃) (all-cons n at bytes t ts (h at bytes t e₁) (reads-all one h n _ _ ts e₂))
 
   -- A term that is read is a term over the symbols, its bytes are those passed, and its end is the place behind them.
-  pub reads : (depth at : ℕ) (bytes : List ℕ) (p : Part Term) → read-term Σ depth at bytes ≡ ok p → ReadsTo at bytes p
+  pub reads : (depth at : ℕ) (bytes : List ℕ) (p : ReadPart Term) → read-term Σ depth at bytes ≡ ok p → ReadsTo at bytes p
   unfolding read-term ByteIs
   reads zero at bytes p e = absurd (no-ok e)
   reads (suc depth) at [] p e = absurd (no-ok e)
   reads (suc depth) at (b ∷ bytes) p e = go (byte-of Σ b) refl (byte-is Σ b) (λ at bytes p e. reads depth at bytes p e)
     where
-      go : (k : Byte) → byte-of Σ b ≡ k → ByteIs Σ b (byte-of Σ b) → ((at : ℕ) (bytes : List ℕ) (p : Part Term) → read-term Σ depth at bytes ≡ ok p → ReadsTo at bytes p) → ReadsTo at (b ∷ bytes) p
+      go : (k : Byte) → byte-of Σ b ≡ k → ByteIs Σ b (byte-of Σ b) → ((at : ℕ) (bytes : List ℕ) (p : ReadPart Term) → read-term Σ depth at bytes ≡ ok p → ReadsTo at bytes p) → ReadsTo at (b ∷ bytes) p
       go (symbol f) k i ih =
           let j : ByteIs Σ b (symbol f) = rw k at i in
           from-bind _ _ p (rw (k, read-term) at e) λ ts e₁ e₂.
@@ -153,7 +153,7 @@ module _ (Σ : List Symbol) (few : length Σ ≤ 16) where
   unfolding read-terms
   nil-step depth at end rest e = rw e refl
 
-  cons-step : (t : Term) (ts : Terms) (one : ℕ → List ℕ → Reading (Part Term)) (at mid end : ℕ) (bytes more rest : List ℕ) →
+  cons-step : (t : Term) (ts : Terms) (one : ℕ → List ℕ → Reading (ReadPart Term)) (at mid end : ℕ) (bytes more rest : List ℕ) →
       one at (bytes ++ (more ++ rest)) ≡ ok (record { part = t; end = mid; rest = more ++ rest }) →
       read-terms one (count ts) mid (more ++ rest) ≡ ok (record { part = ts; end = end; rest = rest }) →
       read-terms one (suc (count ts)) at ((bytes ++ more) ++ rest) ≡ ok (record { part = cons t ts; end = end; rest = rest })

@@ -17,7 +17,7 @@ use Rattle.terms.specs.Scan.{owes, is-node, scan}
 use Rattle.terms.specs.declared.Ends.the-variants.{At, Bad}
 use Rattle.terms.proofs.Bytes.{length-bytes}
 use Rattle.terms.proofs.Scans.{owes-symbol, owes-other, scan-none}
-use Rattle.problem.specs.Problem.{Reading, ok, refused, _>>=_, refuse-if, Field, due, Equation, equation-field, equation-fields, Symbol, arity-of, rank-of, Byte, symbol, variable, neither, byte-of, Part, read-term, read-terms, read-side}
+use Rattle.problem.specs.Problem.{Reading, ok, refused, _>>=_, refuse-if, Field, due, Equation, equation-field, equation-fields, Symbol, arity-of, rank-of, Byte, symbol, variable, neither, byte-of, ReadPart, read-term, read-terms, read-side}
 use Rattle.problem.specs.Parser.{field-at, symbols-of, Table, SideAt, FieldAt}
 use Rattle.problem.proofs.Reading.{reads}
 use Rattle.problem.proofs.Fields.{bind-ok, bind-refused}
@@ -77,30 +77,30 @@ module _ (tab : List ℕ) (T : Table tab) where
           rw (h, byte-of) (rw k (is-neither b (omega (arith, T .even)) k))
 
   -- The walk with so many terms owed, where the first n are read as this says.
-  abbrev Follow : {A : Type 0} → ℕ → ℕ → ℕ → List ℕ → Reading (Part A) → Type 0
+  abbrev Follow : {A : Type 0} → ℕ → ℕ → ℕ → List ℕ → Reading (ReadPart A) → Type 0
   Follow n m at bytes (ok p) = scan tab bytes at n ≡ scan tab (p .rest) (p .end) m
   Follow n m at bytes (refused k q) = (k ≡ 10) × (scan tab bytes at n ≡ Bad q)
 
-  module _ (one : ℕ → List ℕ → Reading (Part Term)) (d : ℕ)
+  module _ (one : ℕ → List ℕ → Reading (ReadPart Term)) (d : ℕ)
       (follow-one : (m at : ℕ) (bytes : List ℕ) → length bytes < d → Follow (suc m) m at bytes (one at bytes))
-      (shorter : (at : ℕ) (bytes : List ℕ) (p : Part Term) → one at bytes ≡ ok p → length (p .rest) ≤ length bytes) where
+      (shorter : (at : ℕ) (bytes : List ℕ) (p : ReadPart Term) → one at bytes ≡ ok p → length (p .rest) ≤ length bytes) where
     follow-all : (n m at : ℕ) (bytes : List ℕ) → length bytes < d → Follow (n + m) m at bytes (read-terms one n at bytes)
     unfolding read-terms _>>=_
     follow-all zero m at bytes h = rw (zero-add m) refl
     follow-all (suc n) m at bytes h = rw (suc-add n m) (go (one at bytes) refl (λ m at bytes h. follow-all n m at bytes h))
       where
-        last : (t : Part Term) (r : Reading (Part Terms)) → one at bytes ≡ ok t → Follow (n + m) m (t .end) (t .rest) r →
+        last : (t : ReadPart Term) (r : Reading (ReadPart Terms)) → one at bytes ≡ ok t → Follow (n + m) m (t .end) (t .rest) r →
             Follow (suc (n + m)) m at bytes (r >>= λ ts. ok (record { part = cons (t .part) (ts .part); end = ts .end; rest = ts .rest }))
         last t (ok ts) e f = (rw e at (follow-one (n + m) at bytes h)) ∙ f
         last t (refused k q) e f = (f .0, (rw e at (follow-one (n + m) at bytes h)) ∙ f .1)
 
-        go : (r : Reading (Part Term)) → one at bytes ≡ r →
+        go : (r : Reading (ReadPart Term)) → one at bytes ≡ r →
             ((m at : ℕ) (bytes : List ℕ) → length bytes < d → Follow (n + m) m at bytes (read-terms one n at bytes)) →
             Follow (suc (n + m)) m at bytes (r >>= λ t. read-terms one n (t .end) (t .rest) >>= λ ts. ok (record { part = cons (t .part) (ts .part); end = ts .end; rest = ts .rest }))
         go (ok t) e ih = last t (read-terms one n (t .end) (t .rest)) e (ih m (t .end) (t .rest) (let s = shorter at bytes t e in omega arith))
         go (refused k q) e ih = rw e at (follow-one (n + m) at bytes h)
 
-  rest-shorter : (d at : ℕ) (bytes : List ℕ) (p : Part Term) → read-term (symbols-of tab) d at bytes ≡ ok p → length (p .rest) ≤ length bytes
+  rest-shorter : (d at : ℕ) (bytes : List ℕ) (p : ReadPart Term) → read-term (symbols-of tab) d at bytes ≡ ok p → length (p .rest) ≤ length bytes
   rest-shorter d at bytes p e = omega (arith, ap length (reads (symbols-of tab) d at bytes p e .front) ∙ length-append (term-bytes (p .part)) (p .rest))
 
   scan-node : (b : ℕ) (bytes : List ℕ) (at m : ℕ) → is-node tab b ≡ true → scan tab (b ∷ bytes) at (suc m) ≡ scan tab bytes (at + 1) (owes tab b + m)
@@ -115,7 +115,7 @@ module _ (tab : List ℕ) (T : Table tab) where
   unfolding scan
   scan-empty at m = refl
 
-  after : (f n m at : ℕ) (b : ℕ) (bytes : List ℕ) (r : Reading (Part Terms)) → scan tab (b ∷ bytes) at (suc m) ≡ scan tab bytes (at + 1) n → Follow n m (at + 1) bytes r →
+  after : (f n m at : ℕ) (b : ℕ) (bytes : List ℕ) (r : Reading (ReadPart Terms)) → scan tab (b ∷ bytes) at (suc m) ≡ scan tab bytes (at + 1) n → Follow n m (at + 1) bytes r →
       Follow (suc m) m at (b ∷ bytes) (r >>= λ ts. ok (record { part = node f (ts .part); end = ts .end; rest = ts .rest }))
   unfolding _>>=_
   after f n m at b bytes (ok ts) e g = e ∙ g
@@ -147,13 +147,13 @@ module _ (tab : List ℕ) (T : Table tab) where
 
   -- `side` returns: t are the bytes up to the field's end
   module _ (t : List ℕ) (at : ℕ) (inside : at ≤ length t) where
-    abbrev reading : Reading (Part Term)
+    abbrev reading : Reading (ReadPart Term)
     reading = read-term (symbols-of tab) (suc (length (drop at t))) at (drop at t)
 
     followed : Follow 1 0 at (drop at t) reading
     followed = follow (suc (length (drop at t))) 0 at (drop at t) (omega arith)
 
-    bad : (r : Reading (Part Term)) (p : ℕ) → Follow 1 0 at (drop at t) r → Bad p ≡ scan tab (drop at t) at 1 → r ≡ refused 10 p
+    bad : (r : Reading (ReadPart Term)) (p : ℕ) → Follow 1 0 at (drop at t) r → Bad p ≡ scan tab (drop at t) at 1 → r ≡ refused 10 p
     bad (ok q) p f e = absurd (let g : At (q .end) ≡ Bad p = sym (scan-none tab (q .rest) (q .end)) ∙ sym f ∙ sym e in let z : _≡_ {A = ℕ} 0 1 = cc in omega arith)
     bad (refused k q) p f e = let g : Bad q ≡ Bad p = sym (f .1) ∙ sym e in let h : q ≡ p = cc in ap₂ refused (f .0) h
 
@@ -168,7 +168,7 @@ module _ (tab : List ℕ) (T : Table tab) where
       pub ends : e ≡ at + size term
       pub within : e ≤ length t
 
-    good : (r : Reading (Part Term)) (e : ℕ) → reading ≡ r → Follow 1 0 at (drop at t) r → At e ≡ scan tab (drop at t) at 1 → Ended e
+    good : (r : Reading (ReadPart Term)) (e : ℕ) → reading ≡ r → Follow 1 0 at (drop at t) r → At e ≡ scan tab (drop at t) at 1 → Ended e
     good (refused k q) e i f s = absurd (let g : Bad q ≡ At e = sym (f .1) ∙ sym s in let z : _≡_ {A = ℕ} 0 1 = cc in omega arith)
     good (ok p) e i f s =
         let g : At (p .end) ≡ At e = sym (scan-none tab (p .rest) (p .end)) ∙ sym f ∙ sym s in

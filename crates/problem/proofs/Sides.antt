@@ -11,7 +11,7 @@ use Rattle.terms.specs.Flat.{Wf, Wfs, Starts}
 use Rattle.terms.proofs.Bytes.{length-bytes}
 use Rattle.terms.proofs.Flats.{widen}
 use Rattle.terms.proofs.Limits.{Made, MadeAll}
-use Rattle.problem.specs.Problem.{ok, Field, due, Symbol, Part, read-side, Equation, equation-field, equation-fields}
+use Rattle.problem.specs.Problem.{ok, Field, due, Symbol, ReadPart, read-side, Equation, equation-field, equation-fields}
 use Rattle.problem.specs.Over.{Over, OverAll}
 use Rattle.problem.specs.Parser.{field-at, symbols-of, Table}
 use Rattle.problem.proofs.Reading.{from-bind, reads, ok-injective}
@@ -32,11 +32,11 @@ module _ (tab : List ℕ) (T : Table tab) where
       over-wf-all (cons t ts) o m = (over-wf t (o .0) (m .0), over-wf-all ts (o .1) (m .1))
 
   -- a side that is read, in bytes with more behind them
-  record Side (at : ℕ) (bytes : List ℕ) (p : Part Term) : Type 0 where
+  record Side (at : ℕ) (bytes : List ℕ) (p : ReadPart Term) : Type 0 where
     wf : Wf 16 tab (p .part)
     front : bytes ≡ term-bytes (p .part) ++ p .rest
 
-  side-read : (at : ℕ) (bytes : List ℕ) (p : Part Term) → read-side (symbols-of tab) at bytes ≡ ok p → Side at bytes p
+  side-read : (at : ℕ) (bytes : List ℕ) (p : ReadPart Term) → read-side (symbols-of tab) at bytes ≡ ok p → Side at bytes p
   unfolding read-side
   side-read at bytes p e =
       from-bind _ _ p e λ t e₁ k.
@@ -57,7 +57,7 @@ module _ (tab : List ℕ) (T : Table tab) where
     more-behind =
         ap (drop (at + 3)) (sym (take-append-drop e l)) ∙ drop-append-le (at + 3) (take e l) (drop e l) (omega (arith, length-take e l))
 
-    both-of : (x y : Part Term) → Side (at + 3) (drop (at + 3) (take e l)) x → Side (x .end) (x .rest) y →
+    both-of : (x y : ReadPart Term) → Side (at + 3) (drop (at + 3) (take e l)) x → Side (x .end) (x .rest) y →
         Both l at (record { first = at; sides = record { left = x .part; right = y .part } })
     both-of x y X Y =
         let f : drop (at + 3) l ≡ term-bytes (x .part) ++ (x .rest ++ drop e l) =

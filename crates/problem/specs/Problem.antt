@@ -100,13 +100,13 @@ byte-of Σ b =
     else neither
 
 -- A part that was read of a field's contents: what it is, the place behind it and the bytes there.
-pub record Part (A : Type 0) : Type 0 where
+pub record ReadPart (A : Type 0) : Type 0 where
   pub part : A
   pub end : ℕ
   pub rest : List ℕ
 
 -- so many terms, one behind the other
-unfoldable pub read-terms : (ℕ → List ℕ → Reading (Part Term)) → ℕ → ℕ → List ℕ → Reading (Part Terms)
+unfoldable pub read-terms : (ℕ → List ℕ → Reading (ReadPart Term)) → ℕ → ℕ → List ℕ → Reading (ReadPart Terms)
 read-terms one zero at bytes = ok (record { part = nil; end = at; rest = bytes })
 read-terms one (suc n) at bytes = do
   t ← one at bytes
@@ -115,7 +115,7 @@ read-terms one (suc n) at bytes = do
 
 -- 10: "byte that is no symbol and no variable; field ends inside a term", at "that byte or the field's end".
 -- The first number bounds the depth; as many as there are bytes always suffices.
-unfoldable pub read-term : List Symbol → ℕ → ℕ → List ℕ → Reading (Part Term)
+unfoldable pub read-term : List Symbol → ℕ → ℕ → List ℕ → Reading (ReadPart Term)
 read-term Σ zero at bytes = refused wrong-term at
 read-term Σ (suc depth) at [] = refused wrong-term at
 read-term Σ (suc depth) at (b ∷ bytes) =
@@ -128,7 +128,7 @@ read-term Σ (suc depth) at (b ∷ bytes) =
     ]
 
 -- 11: "side over 120 nodes", at the "side's first byte"
-unfoldable pub read-side : List Symbol → ℕ → List ℕ → Reading (Part Term)
+unfoldable pub read-side : List Symbol → ℕ → List ℕ → Reading (ReadPart Term)
 read-side Σ at bytes = do
   t ← read-term Σ (suc (length bytes)) at bytes
   _ ← refuse-if (ltb 120 (size (t .part))) large-side at

@@ -1,5 +1,5 @@
 -- The lowest rule that matches at the root, found in the slots: the rules from k on decide the step as all do. Assumes nothing.
--- Read first: specs/Stored, specs/Step (Fitted, Found), matching/specs/Held (Matched), rewriting/specs/Rewrite (root-step).
+-- Read first: specs/Stored, specs/Step (Fitted, FoundRule), matching/specs/Held (Matched), rewriting/specs/Rewrite (root-step).
 use mathlib.Core.Path.{_≡_, refl, sym, _∙_, ap, subst}
 use mathlib.Core.Bool.{Bool, true, false, true≢false, false≢true}
 use mathlib.Core.List.{List, [], _∷_, nil≢cons}
@@ -17,10 +17,10 @@ use Rattle.unify.specs.Unify.{Binding}
 use Rattle.rewriting.specs.Overlap.{Rule, sides-of}
 use Rattle.rewriting.specs.Rewrite.{matching, matching-all, root-step}
 use Rattle.matching.specs.Cells.{root-byte, Stands}
-use Rattle.matching.specs.Held.{Answers, Matched}
+use Rattle.matching.specs.Held.{MatchingIs, Matched}
 use Rattle.matching.proofs.Celled.{stands-byte}
 use Rattle.redex.specs.Stored.{Layout, Stored}
-use Rattle.redex.specs.Step.{Fitted, Choice, Found}
+use Rattle.redex.specs.Step.{Fitted, Choice, FoundRule}
 
 -- what stands first in a part of a list
 pub head-of : (t : List ℕ) (n a b : ℕ) (l : List ℕ) → take n (drop a t) ≡ b ∷ l → getD t a 0 ≡ b
@@ -52,7 +52,7 @@ module _ (rules lens T : List ℕ) (k : ℕ) (B : List ℕ) where
     same = refl;
     within = λ q. absurd (false≢true q);
     answer = λ tab p a x s.
-        subst (λ o. Answers tab T (size x) false B o) (sym (root-none (p .left) x (getD lens (2 * k) 0) (a .left-bytes) h (λ e. z (stands-byte tab T (size x) 0 x s ∙ e)))) refl;
+        subst (λ o. MatchingIs tab T (size x) false B o) (sym (root-none (p .left) x (getD lens (2 * k) 0) (a .left-bytes) h (λ e. z (stands-byte tab T (size x) 0 x s ∙ e)))) refl;
   }
 
 -- the search
@@ -75,7 +75,7 @@ search-start rules lens T number B = record {
 }
 
 module _ (rules lens T : List ℕ) (number k : ℕ) (B₀ B : List ℕ) (s : Searching rules lens T number k B₀ B) where
-  pub search-end : number ≤ k → Found rules lens T number k B₀ B
+  pub search-end : number ≤ k → FoundRule rules lens T number k B₀ B
   unfolding root-step
   search-end h = record {
     same = s .same;
@@ -95,7 +95,7 @@ module _ (rules lens T : List ℕ) (number k : ℕ) (B₀ B : List ℕ) (s : Sea
     miss-go tab rs x e w [] st n q = absurd (omega arith)
     miss-go tab rs x e w (a ∷ rest) st n q = go (matching (a .sides .left) x []) refl (f .answer tab (a .sides) (st .0) x w)
       where
-        go : (o : Option (List Binding)) → matching (a .sides .left) x [] ≡ o → Answers tab T (size x) r B′ o → Remaining tab rules lens number (k + 1) rs x
+        go : (o : Option (List Binding)) → matching (a .sides .left) x [] ≡ o → MatchingIs tab T (size x) r B′ o → Remaining tab rules lens number (k + 1) rs x
         go none m v = record { rest = rest; stored = rw (add-one k) (st .1); counts = omega arith; same-step = sym (rw m refl) ∙ q }
         go (some bs) m v = absurd (true≢false (sym (v .0) ∙ e))
 
@@ -111,11 +111,11 @@ module _ (rules lens T : List ℕ) (number k : ℕ) (B₀ B : List ℕ) (s : Sea
     hit-go tab rs x e w [] st n q = absurd (omega arith)
     hit-go tab rs x e w (a ∷ rest) st n q = go (matching (a .sides .left) x []) refl (f .answer tab (a .sides) (st .0) x w)
       where
-        go : (o : Option (List Binding)) → matching (a .sides .left) x [] ≡ o → Answers tab T (size x) r B′ o → Choice tab rules lens T B′ k x (root-step rs x)
+        go : (o : Option (List Binding)) → matching (a .sides .left) x [] ≡ o → MatchingIs tab T (size x) r B′ o → Choice tab rules lens T B′ k x (root-step rs x)
         go none m v = absurd (true≢false (sym e ∙ v))
         go (some bs) m v = record { rule = a .sides; bindings = bs; matched = m; place = st .0; held = v .1; result = sym q ∙ rw m refl }
 
-    pub search-hit : r ≡ true → Found rules lens T number k B₀ B′
+    pub search-hit : r ≡ true → FoundRule rules lens T number k B₀ B′
     search-hit e = record {
       same = f .same ∙ s .same;
       bounded = omega arith;

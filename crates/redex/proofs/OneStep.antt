@@ -1,5 +1,5 @@
 -- `rewrite` by its returns: no rule, no unit left, too large, or the instance with what follows; the instance is well-formed. Assumes nothing.
--- Read first: specs/Step (Found, Rewritten), matching/specs/Pieces (Put), proofs/Marking.
+-- Read first: specs/Step (FoundRule, Rewritten), matching/specs/Pieces (Put), proofs/Marking.
 use mathlib.Core.Path.{_≡_, refl, sym, _∙_, ap, ap₂, subst}
 use mathlib.Core.List.{List, _∷_, _++_}
 use mathlib.Core.Option.{Option, none, some}
@@ -22,7 +22,7 @@ use Rattle.matching.specs.Pieces.{Put, pieces, replaced}
 use Rattle.matching.proofs.Celled.{length-cells, cells-root, root-low}
 use Rattle.redex.specs.Marks.{Marked, ArgumentsNormal, open-cells}
 use Rattle.redex.specs.Stored.{Stored, right-side}
-use Rattle.redex.specs.Step.{Choice, Found, out, rewritten, Tested, Wrote, Rewritten}
+use Rattle.redex.specs.Step.{Choice, FoundRule, out, rewritten, StepTested, Wrote, Rewritten}
 use Rattle.redex.specs.declared.Out.{Out}
 use Rattle.redex.proofs.Marking.{instance-marked, marked-length}
 use Rattle.redex.proofs.Choosing.{head-of}
@@ -59,7 +59,7 @@ rooted tab t len end c x post h e w b d =
 pub rewritten-as : (rules lens : List ℕ) (number : ℕ) (t t′ : List ℕ) (len end most units : ℕ) (o p : Out) → o ≡ p → Rewritten rules lens number t t′ len end most units p → Rewritten rules lens number t t′ len end most units o
 rewritten-as rules lens number t t′ len end most units o p e h = subst (λ z. Rewritten rules lens number t t′ len end most units z) (sym e) h
 
-module _ (rules lens t : List ℕ) (number len end most units k : ℕ) (B B′ T : List ℕ) (c : ℕ) (cv : c ≡ getD t 0 0 % 256 + 256 * end) (eT : T ≡ take len (set t 0 c)) (f : Found rules lens T number k B B′) (z : 0 < end) (p : end ≤ len) (q : len ≤ most) where
+module _ (rules lens t : List ℕ) (number len end most units k : ℕ) (B B′ T : List ℕ) (c : ℕ) (cv : c ≡ getD t 0 0 % 256 + 256 * end) (eT : T ≡ take len (set t 0 c)) (f : FoundRule rules lens T number k B B′) (z : 0 < end) (p : end ≤ len) (q : len ≤ most) where
   text : (tab : List ℕ) (x : Term) (post : List ℕ) → Wf 32 tab x → take len t ≡ open-cells x ++ post → end ≡ size x → take len (set t 0 c) ≡ cells x ++ post
   text tab x post w b d = rooted tab t len end c x post (omega arith) cv w b d
 
@@ -112,10 +112,10 @@ module _ (rules lens t : List ℕ) (number len end most units k : ℕ) (B B′ T
         filled-length : length (pieces T B′ right ++ drop end T) ≡ size new + length post
         filled-length = length-append (pieces T B′ right) (drop end T) ∙ ap₂ _+_ (marked-length rs marks) (ap length rest)
 
-        large-go : (n : ℕ) → most < w → Tested tab rs t′ post n (out (end-number too-large) n len end) new (ltb most (size new + length post))
+        large-go : (n : ℕ) → most < w → StepTested tab rs t′ post n (out (end-number too-large) n len end) new (ltb most (size new + length post))
         large-go n l = let g : most < size new + length post = omega (arith, put .over l, filled-length) in rw (lt-ltb most (size new + length post) g) (refl, refl)
 
-        done-go : (n : ℕ) → w ≤ most → Tested tab rs t′ post n (out rewritten n w 0) new (ltb most (size new + length post))
+        done-go : (n : ℕ) → w ≤ most → StepTested tab rs t′ post n (out rewritten n w 0) new (ltb most (size new + length post))
         unfolding new
         done-go n l =
             let g : size new + length post ≤ most = omega (arith, put .next l, filled-length) in

@@ -12,7 +12,7 @@ use Rattle.unify.specs.Unify.{Binding}
 use Rattle.rewriting.specs.Overlap.{Rule, sides-of}
 use Rattle.rewriting.specs.Rewrite.{matching, instantiate, root-step, spent, too-large, end-number, goes-on}
 use Rattle.matching.specs.Cells.{cells, Stands}
-use Rattle.matching.specs.Held.{Rep, Within, Answers}
+use Rattle.matching.specs.Held.{Rep, Within, MatchingIs}
 use Rattle.redex.specs.Marks.{Marked, ArgumentsNormal, open-cells}
 use Rattle.redex.specs.Stored.{RuleAt, Stored}
 use Rattle.redex.specs.declared.Out.{Out}
@@ -21,7 +21,7 @@ use Rattle.redex.specs.declared.Out.{Out}
 pub record Fitted (rules lens T : List ℕ) (k : ℕ) (B : List ℕ) (r : Bool) (B′ : List ℕ) : Type 0 where
   pub same : length B′ ≡ length B
   pub within : r ≡ true → Within T B′
-  pub answer : (tab : List ℕ) (p : Pair) → RuleAt tab rules lens k p → (x : Term) → Stands tab T (size x) 0 x → Answers tab T (size x) r B′ (matching (p .left) x [])
+  pub answer : (tab : List ℕ) (p : Pair) → RuleAt tab rules lens k p → (x : Term) → Stands tab T (size x) 0 x → MatchingIs tab T (size x) r B′ (matching (p .left) x [])
 
 -- `find`
 pub record Choice (tab rules lens T B : List ℕ) (k : ℕ) (x : Term) (o : Option Term) : Type 0 where
@@ -32,7 +32,7 @@ pub record Choice (tab rules lens T B : List ℕ) (k : ℕ) (x : Term) (o : Opti
   pub held : Rep tab T (size x) B bindings
   pub result : o ≡ some (instantiate bindings (rule .right))
 
-pub record Found (rules lens T : List ℕ) (number k : ℕ) (B B′ : List ℕ) : Type 0 where
+pub record FoundRule (rules lens T : List ℕ) (number k : ℕ) (B B′ : List ℕ) : Type 0 where
   pub same : length B′ ≡ length B
   pub bounded : k ≤ number
   pub within : k < number → Within T B′
@@ -40,7 +40,7 @@ pub record Found (rules lens T : List ℕ) (number k : ℕ) (B B′ : List ℕ) 
   pub missing : k ≡ number → (tab : List ℕ) (rs : List Rule) → Stored tab rules lens 0 (sides-of rs) → number ≡ length rs → (x : Term) → Stands tab T (size x) 0 x → root-step rs x ≡ none
 
 -- the term u, of which some subterms are known to be normal, and then `post` are the first `len` cells
-pub record Holds (tab : List ℕ) (rs : List Rule) (t : List ℕ) (len : ℕ) (u : Term) (post : List ℕ) : Type 0 where
+pub record CellsHold (tab : List ℕ) (rs : List Rule) (t : List ℕ) (len : ℕ) (u : Term) (post : List ℕ) : Type 0 where
   pub wf : Wf 32 tab u
   pub marks : List ℕ
   pub marked : Marked rs marks u
@@ -53,14 +53,14 @@ out verdict units len end = record { verdict = verdict; units = units; len = len
 abbrev pub rewritten : ℕ
 rewritten = 2
 
-abbrev pub Tested : List ℕ → List Rule → List ℕ → List ℕ → ℕ → Out → Term → Bool → Type 0
-Tested tab rs t post n o u true = (o .verdict ≡ end-number too-large) × (o .units ≡ n)
-Tested tab rs t post n o u false = (o .verdict ≡ rewritten) × (o .units ≡ n) × Holds tab rs t (o .len) u post
+abbrev pub StepTested : List ℕ → List Rule → List ℕ → List ℕ → ℕ → Out → Term → Bool → Type 0
+StepTested tab rs t post n o u true = (o .verdict ≡ end-number too-large) × (o .units ≡ n)
+StepTested tab rs t post n o u false = (o .verdict ≡ rewritten) × (o .units ≡ n) × CellsHold tab rs t (o .len) u post
 
 abbrev pub Wrote : List ℕ → List Rule → List ℕ → Term → List ℕ → ℕ → ℕ → Out → Option Term → Type 0
 Wrote tab rs t x post most units o none = (o .verdict ≡ goes-on) × (o .units ≡ units) × (take (o .len) t ≡ cells x ++ post)
 Wrote tab rs t x post most zero o (some u) = (o .verdict ≡ end-number spent) × (o .units ≡ 0)
-Wrote tab rs t x post most (suc n) o (some u) = Tested tab rs t post n o u (ltb most (size u + length post))
+Wrote tab rs t x post most (suc n) o (some u) = StepTested tab rs t post n o u (ltb most (size u + length post))
 
 pub record Rewritten (rules lens : List ℕ) (number : ℕ) (t t′ : List ℕ) (len end most units : ℕ) (o : Out) : Type 0 where
   pub same : length t′ ≡ length t

@@ -6,7 +6,7 @@ ghost use lib.ListN.{length, take};
 ghost use Rattle.matching.specs.Held.{Within};
 ghost use Rattle.matching.specs.Pieces.{Put, replaced};
 ghost use Rattle.redex.specs.Stored.{Layout, right-side};
-ghost use Rattle.redex.specs.Step.{Fitted, Found, out, Rewritten};
+ghost use Rattle.redex.specs.Step.{Fitted, FoundRule, out, Rewritten};
 
 // Whether rule k matches at the start of t.
 fn fits(rules: &[u8], lens: &[u8], k: usize, t: &[u16], binds: &mut [u8]) -> bool
@@ -29,7 +29,7 @@ fn fits(rules: &[u8], lens: &[u8], k: usize, t: &[u16], binds: &mut [u8]) -> boo
 fn find(rules: &[u8], lens: &[u8], count: usize, t: &[u16], binds: &mut [u8]) -> usize
     requires { ⌜ Layout [] (now rules) (now lens) count ⌝ }
     requires { ⌜ (0 < length (now t)) × (length (now t) ≤ 120) × (16 ≤ length (now binds)) ⌝ }
-    ensures { λ r. ⌜ Found (now (rules .entry)) (now (lens .entry)) (now (t .entry)) count r (now (binds .entry)) (now (binds .exit)) ⌝ }
+    ensures { λ r. ⌜ FoundRule (now (rules .entry)) (now (lens .entry)) (now (t .entry)) count r (now (binds .entry)) (now (binds .exit)) ⌝ }
 {
     let mut k = 0;
     while k < count {

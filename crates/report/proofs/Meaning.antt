@@ -1,5 +1,5 @@
 -- The fields written from slots, numbers, log and forms are the result fields of the run that these stand for. Assumes nothing.
--- Read first: specs/Report (Kept, Ended), completion/specs/Calls (result-bytes), proofs/Lowness.
+-- Read first: specs/Report (StateIn, EndIn), completion/specs/Calls (result-bytes), proofs/Lowness.
 use mathlib.Core.Path.{_≡_, refl, sym, ap, ap₂, subst, _∙_}
 use mathlib.Core.Bool.{true}
 use mathlib.Core.List.{List, [], _∷_, _++_, map, flatMap, append-assoc, append-nil}
@@ -20,7 +20,7 @@ use Rattle.completion.specs.Calls.{pair-bytes, rule-field, entry-field, forms-f
 use Rattle.report.specs.Fields.{Writes, tagged, slot-bytes, slot-field, slot-fields, low, forms-bytes, all-bytes}
 use Rattle.terms.proofs.Lists.{flatMap-append, flatMap-map}
 use Rattle.report.proofs.Lowness.{term-low}
-use Rattle.report.specs.Report.{Kept, Ended}
+use Rattle.report.specs.Report.{StateIn, EndIn}
 
 -- Fields 12.
 first-of : (n x : ℕ) (xs l : List ℕ) → take (suc n) l ≡ x ∷ xs → (getD l 0 0 ≡ x) × (take n (drop 1 l) ≡ xs)
@@ -69,7 +69,7 @@ forms-are tab left right end rules-full h f = rw h refl
 forms-are tab left right end log-full h f = rw h refl
 
 module _ (tab rules lens numbers : List ℕ) (count : ℕ) (log : List ℕ) (entries end units : ℕ) (left right : List ℕ) (f : Finished)
-    (kept : Kept tab rules lens numbers count log entries (f .state)) (ended : Ended tab end units left right f) where
+    (kept : StateIn tab rules lens numbers count log entries (f .state)) (ended : EndIn tab end units left right f) where
   fields-are : slot-fields rules lens numbers 0 count ≡ map rule-field (f .state .rules)
   fields-are =
       let c : count ≡ length (f .state .rules) = kept .counted in

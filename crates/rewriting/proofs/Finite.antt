@@ -26,13 +26,13 @@ abbrev pub rhs : List Pair → ℕ → Term
 rhs rs i = getD rs i none-such .right
 
 -- Where a rule stands in its list.
-pub record Stands (rs : List Pair) (l r : Term) : Type 0 where
+pub record StepStands (rs : List Pair) (l r : Term) : Type 0 where
   pub i : ℕ
   pub below : i < length rs
   pub is-l : l ≡ lhs rs i
   pub is-r : r ≡ rhs rs i
 
-pub stands : {rs : List Pair} (l r : Term) → Of rs l r → Stands rs l r
+pub stands : {rs : List Pair} (l r : Term) → Of rs l r → StepStands rs l r
 stands l r (List·Memᴰ·head e) = record { i = 0; below = omega arith; is-l = ap (λ (p : Pair). p .left) e; is-r = ap (λ (p : Pair). p .right) e }
 stands l r (List·Memᴰ·tail m) =
     let s = stands l r m in

@@ -13,10 +13,10 @@ use Rattle.completion.proofs.Turning.{Running, run-begins, run-goes-on, run-end
 use Rattle.completion.proofs.Reachable.{turn-less}
 use Rattle.engine.specs.State.{Whole, whole, Fine, Represents}
 use Rattle.engine.specs.declared.State.{State}
-use Rattle.engine.specs.Steps.{Begun}
+use Rattle.engine.specs.Steps.{FirstState}
 use Rattle.making.specs.Made.{Outcome, outcome}
 use Rattle.turn.specs.Turns.{Given, Shown, TurnedIs, WholeTurn}
-use Rattle.run.specs.Runs.{Ends, with-units, RanIs, Runs}
+use Rattle.run.specs.Runs.{EndedWith, with-units, RanIs, Runs}
 use Rattle.making.specs.declared.Turned.{Turned}
 use Rattle.run.specs.declared.Ran.{Ran}
 
@@ -64,7 +64,7 @@ pub record OnTheWay (tab : List ℕ) (P : Problem) (st : Whole) : Type 0 where
 abbrev pub Going : List ℕ → List ℕ → List ℕ → ℕ → ℕ → Whole → Type 0
 Going tab inputs lens count budget st = (P : Problem) → Given tab inputs lens count P → budget ≡ P .budget → OnTheWay tab P st
 
-going-begins : (tab inputs lens : List ℕ) (count budget : ℕ) (st : Whole) → Begun inputs lens count budget st → Going tab inputs lens count budget st
+going-begins : (tab inputs lens : List ℕ) (count budget : ℕ) (st : Whole) → FirstState inputs lens count budget st → Going tab inputs lens count budget st
 going-begins tab inputs lens count budget st B P G e =
     record {
       state = _;
@@ -80,7 +80,7 @@ module _ (tab L R : List ℕ) (P : Problem) (st : Whole) (W : OnTheWay tab P st)
   next-turn t (stop f left) e a v = absurd (goes-on≢end f (sym v ∙ a .0))
 
   ends : (t : Turned) (rules waiting log : List ℕ) (p : Paid RunState) → turn P (W .state) (st .units) ≡ p → TurnedIs tab (W .state) L R (outcome t rules waiting log) p → (t .verdict ≡ goes-on → ⊥) →
-      (o : Ran) → Ends t (P .budget) L R o → RanIs tab (run P) o (whole (t .state) rules waiting log)
+      (o : Ran) → EndedWith t (P .budget) L R o → RanIs tab (run P) o (whole (t .state) rules waiting log)
   ends t rules waiting log (done s′ left) e a v o E = absurd (v (a .0))
   ends t rules waiting log (stop f left) e a v o E =
       let z : run P ≡ record { end = f; units = P .budget - left; state = W .state } = run-ends P (run P) (W .state) (st .units) (W .running) f left e in
@@ -98,7 +98,7 @@ pub record Looping (tab inputs lens : List ℕ) (count budget : ℕ) (st : Whole
   pub going : Going tab inputs lens count budget st
 
 -- with the whole budget
-pub looping-begins : (tab inputs lens : List ℕ) (count budget lent : ℕ) (st : Whole) → Begun inputs lens count lent st → lent ≡ budget → Looping tab inputs lens count budget st
+pub looping-begins : (tab inputs lens : List ℕ) (count budget lent : ℕ) (st : Whole) → FirstState inputs lens count lent st → lent ≡ budget → Looping tab inputs lens count budget st
 looping-begins tab inputs lens count budget lent st B e = record { fine = B .fine; going = λ P G b. going-begins tab inputs lens count lent st B P G (e ∙ b) }
 
 -- `next`
@@ -119,7 +119,7 @@ module _ (tab inputs lens : List ℕ) (count budget : ℕ) (st : Whole) (I : Loo
 
 -- `run`
 pub run-ended : (tab inputs lens : List ℕ) (count budget : ℕ) (st : Whole) → Looping tab inputs lens count budget st → (L R L′ R′ : List ℕ) (t : Turned) (rules waiting log : List ℕ) →
-    WholeTurn st tab inputs lens count L R L′ R′ (outcome t rules waiting log) → (t .verdict ≡ goes-on → ⊥) → (o : Ran) → Ends t budget L′ R′ o → Runs tab inputs lens count budget o (whole (o .state) rules waiting log)
+    WholeTurn st tab inputs lens count L R L′ R′ (outcome t rules waiting log) → (t .verdict ≡ goes-on → ⊥) → (o : Ran) → EndedWith t budget L′ R′ o → Runs tab inputs lens count budget o (whole (o .state) rules waiting log)
 run-ended tab inputs lens count budget st I L R L′ R′ t rules waiting log T v o E =
     let K = T .stays v in
     let fit : Layout [] rules (t .state .lens) (st .count) = subst₂ (λ b l. Layout [] b l (st .count)) (sym (K .rules)) (sym (K .lens)) (I .fine .rules-fit) in
@@ -132,5 +132,5 @@ run-ended tab inputs lens count budget st I L R L′ R′ t rules waiting log T 
       right-few = subst (λ x. x ≤ 120) (sym (E .n)) (T .safe .right-few);
       answer = λ P G b.
           let W = I .going P G b in
-          ends tab L′ R′ P st W t rules waiting log (turn P (W .state) (st .units)) refl (T .answer P G (W .state) (W .stands)) v o (subst (λ n. Ends t n L′ R′ o) b E);
+          ends tab L′ R′ P st W t rules waiting log (turn P (W .state) (st .units)) refl (T .answer P G (W .state) (W .stands)) v o (subst (λ n. EndedWith t n L′ R′ o) b E);
     })

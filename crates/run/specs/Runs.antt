@@ -28,7 +28,7 @@ with-units st u = record {
 }
 
 -- `ended`
-pub record Ends (t : Turned) (budget : ℕ) (left right : List ℕ) (o : Ran) : Type 0 where
+pub record EndedWith (t : Turned) (budget : ℕ) (left right : List ℕ) (o : Ran) : Type 0 where
   pub state : o .state ≡ t .state
   pub verdict : o .verdict ≡ t .verdict
   pub paid : o .paid ≡ budget - t .units

@@ -4,7 +4,7 @@ ghost use Prim.Native.Nat.{_-_, _≤_};
 ghost use lib.ListN.{length};
 ghost use Rattle.redex.specs.Stored.{Layout};
 ghost use Rattle.engine.specs.State.{whole};
-ghost use Rattle.run.specs.Runs.{with-units, Ends, Runs};
+ghost use Rattle.run.specs.Runs.{with-units, EndedWith, Runs};
 use engine::State;
 use making::Turned;
 
@@ -31,7 +31,7 @@ fn paid(budget: u32, left: u32) -> u32
 
 // The end of the run, from a turn that stopped.
 fn ended(t: Turned, budget: u32, left: [u8; 120], right: [u8; 120]) -> Ran
-    ensures { λ r. ⌜ Ends t budget left right r ⌝ }
+    ensures { λ r. ⌜ EndedWith t budget left right r ⌝ }
 {
     let last = t.state;
     Ran {

@@ -19,7 +19,7 @@ use Rattle.overlaps.proofs.Meeting.{overlap-behind}
 use Rattle.completion.specs.Turn.{Candidate, scan, scan-inputs}
 use Rattle.scan.specs.declared.spots.Spot.{Spot}
 use Rattle.scan.specs.Walk.{visit, visits, rule-at, no-rule, at-place, of-rules}
-use Rattle.scan.specs.Order.{at-positions, with-earlier, behind, to-come, rank, Follows}
+use Rattle.scan.specs.Order.{at-positions, with-earlier, behind, to-come, place-rank, Follows}
 use Rattle.scan.proofs.Placing.{visit-none}
 
 visits-append : (rs : List Rule) (ps qs : List Place) (next : Paying Candidate) → visits rs (ps ++ qs) next ≡ visits rs ps (visits rs qs next)
@@ -164,7 +164,7 @@ module _ (rs : List Rule) where
 -- the returns of `next`
 module _ (lens : List ℕ) (i o p : ℕ) (r : Spot) (n : ℕ) (low : (i < 33) × (o < 33) × (p < 256) × (2 * o < length lens)) (z : (n ≡ getD lens (2 * o) 0) × (n < 256)) where
   pub next-position : p + 1 < n → r ≡ spot i o (p + 1) → Follows lens (spot i o p) r
-  unfolding rank
+  unfolding place-rank
   next-position l e = subst (Follows lens (spot i o p)) (sym e) (record {
     low = omega arith;
     within = λ count a b c. omega arith;
@@ -174,7 +174,7 @@ module _ (lens : List ℕ) (i o p : ℕ) (r : Spot) (n : ℕ) (low : (i < 33) ×
 
   module _ (l : n ≤ p + 1) where
     pub next-back : i < o → r ≡ spot o i 0 → Follows lens (spot i o p) r
-    unfolding rank
+    unfolding place-rank
     next-back h e = subst (Follows lens (spot i o p)) (sym e) (record {
       low = omega arith;
       within = λ count a b c. omega arith;
@@ -183,7 +183,7 @@ module _ (lens : List ℕ) (i o p : ℕ) (r : Spot) (n : ℕ) (low : (i < 33) ×
     })
 
     pub next-earlier : o + 1 < i → r ≡ spot (o + 1) i 0 → Follows lens (spot i o p) r
-    unfolding rank
+    unfolding place-rank
     next-earlier h e = subst (Follows lens (spot i o p)) (sym e) (record {
       low = omega arith;
       within = λ count a b c. omega arith;
@@ -192,7 +192,7 @@ module _ (lens : List ℕ) (i o p : ℕ) (r : Spot) (n : ℕ) (low : (i < 33) ×
     })
 
     pub next-itself : o < i → i ≤ o + 1 → r ≡ spot i i 1 → Follows lens (spot i o p) r
-    unfolding rank
+    unfolding place-rank
     next-itself f g e = subst (Follows lens (spot i o p)) (sym e) (record {
       low = omega arith;
       within = λ count a b c. omega arith;
@@ -201,7 +201,7 @@ module _ (lens : List ℕ) (i o p : ℕ) (r : Spot) (n : ℕ) (low : (i < 33) ×
     })
 
     pub next-later : o ≤ i → i ≤ o → r ≡ spot 0 (o + 1) 0 → Follows lens (spot i o p) r
-    unfolding rank
+    unfolding place-rank
     next-later f g e = subst (Follows lens (spot i o p)) (sym e) (record {
       low = omega arith;
       within = λ count a b c. omega arith;

@@ -20,12 +20,12 @@ use Rattle.completion.specs.Calls.{origin-bytes}
 use Rattle.redex.specs.Stored.{Layout, RuleAt, Stored}
 use Rattle.overlaps.specs.declared.Met.{Met}
 use Rattle.overlaps.specs.declared.Met.the-variants.{Nothing, TooLarge, Found}
-use Rattle.overlaps.specs.Answer.{Answered, Says, Short, Overlapped}
+use Rattle.overlaps.specs.Answer.{PairIs, Says, Short, Overlapped}
 use Rattle.joining.specs.declared.Walk.{Walk}
 use Rattle.joining.specs.Joins.{compared, Walked, large, on, Bare, PairWalk}
 use Rattle.joining.proofs.Rooms.{bare-room, room-from}
 use Rattle.scan.specs.declared.spots.Spot.{Spot}
-use Rattle.scan.specs.Walk.{visit, rule-at, no-rule, Holds, at-place, Walks}
+use Rattle.scan.specs.Walk.{visit, rule-at, no-rule, RulesIn, at-place, Walks}
 use Rattle.scan.proofs.WellFormed.{overlap-wf}
 use Rattle.scan.proofs.Going.{walked-from}
 
@@ -75,7 +75,7 @@ stored-at sides d {tab} {b} {l} k (x ∷ xs) h (suc i) q = subst (λ j. RuleAt t
 pub stored-here : {A : Type 0} (sides : A → Pair) (d : A) {tab b l : List ℕ} (xs : List A) → Stored tab b l 0 (map sides xs) → (i : ℕ) → i < length xs → RuleAt tab b l i (sides (getD xs i d))
 stored-here sides d {tab} {b} {l} xs h i q = subst (λ j. RuleAt tab b l j (sides (getD xs i d))) (omega arith) (stored-at sides d 0 xs h i q)
 
-module _ {tab rules lens numbers : List ℕ} {count : ℕ} {rs : List Rule} (h : Holds tab rules lens numbers count rs) where
+module _ {tab rules lens numbers : List ℕ} {count : ℕ} {rs : List Rule} (h : RulesIn tab rules lens numbers count rs) where
   rule-stands : (k : ℕ) → k < count → RuleAt tab rules lens k (rule-at rs k .sides)
   rule-stands k l = stored-here (λ (r : Rule). r .sides) no-rule rs (h .stored) k (let c = h .counted in omega arith)
 
@@ -93,15 +93,15 @@ module _ (tab rules lens numbers : List ℕ) (count : ℕ) (at : Spot) (L R L′
   place rs = record { inner = rule-at rs (at .inner); outer = rule-at rs (at .outer); position = at .position }
 
   -- what the overlap says of these rules
-  said : (rs : List Rule) → Holds tab rules lens numbers count rs → Says L′ R′ m (overlap (rule-at rs (at .inner) .sides) (rule-at rs (at .outer) .sides) (at .position))
+  said : (rs : List Rule) → RulesIn tab rules lens numbers count rs → Says L′ R′ m (overlap (rule-at rs (at .inner) .sides) (rule-at rs (at .outer) .sides) (at .position))
   said rs h = M .answer _ _ (rule-stands h (at .inner) li) (rule-stands h (at .outer) lo)
 
   module _ (w : Walk) where
-    pub place-nothing : m ≡ Nothing → Bare (end-number complete) units w → Walks (Holds tab rules lens numbers count) (at-place at) tab L R L′ R′ units w
+    pub place-nothing : m ≡ Nothing → Bare (end-number complete) units w → Walks (RulesIn tab rules lens numbers count) (at-place at) tab L R L′ R′ units w
     unfolding at-place
     place-nothing e b = record { room = bare-room b (M .kept .left) (M .kept .right) (omega arith); answer = λ rs h. go rs (overlap (rule-at rs (at .inner) .sides) (rule-at rs (at .outer) .sides) (at .position)) refl (said rs h) }
       where
-        clash : (v : Overlap) (a b c : Bool) → Answered L′ R′ m (size (v .sides .left)) (size (v .sides .right)) (renamed (v .sides)) a b c → ⊥
+        clash : (v : Overlap) (a b c : Bool) → PairIs L′ R′ m (size (v .sides .left)) (size (v .sides .right)) (renamed (v .sides)) a b c → ⊥
         clash v true b c s = zero≢one (cc)
         clash v false true c s = zero≢one (cc)
         clash v false false true s = zero≢one (cc)
@@ -111,7 +111,7 @@ module _ (tab rules lens numbers : List ℕ) (count : ℕ) (at : Spot) (L R L′
         go rs none q s = on (b .verdict) (λ next. ap (λ (f : Paying Candidate). f units) (visit-none rs (place rs) next q) ∙ ap next (let z = b .units in omega arith))
         go rs (some v) q s = absurd (clash v (ltb 120 (size (v .peak))) (ltb 120 (size (v .sides .left))) (ltb 120 (size (v .sides .right))) s)
 
-    pub place-large : m ≡ TooLarge → Bare (end-number too-large) units w → Walks (Holds tab rules lens numbers count) (at-place at) tab L R L′ R′ units w
+    pub place-large : m ≡ TooLarge → Bare (end-number too-large) units w → Walks (RulesIn tab rules lens numbers count) (at-place at) tab L R L′ R′ units w
     unfolding at-place
     place-large e b = record { room = bare-room b (M .kept .left) (M .kept .right) (omega arith); answer = λ rs h. go rs (overlap (rule-at rs (at .inner) .sides) (rule-at rs (at .outer) .sides) (at .position)) refl (said rs h) }
       where
@@ -120,7 +120,7 @@ module _ (tab rules lens numbers : List ℕ) (count : ℕ) (at : Spot) (L R L′
 
         sized : (rs : List Rule) (v : Overlap) → overlap (rule-at rs (at .inner) .sides) (rule-at rs (at .outer) .sides) (at .position) ≡ some v → (a b c : Bool) →
             ltb 120 (size (v .peak)) ≡ a → ltb 120 (size (v .sides .left)) ≡ b → ltb 120 (size (v .sides .right)) ≡ c →
-            Answered L′ R′ m (size (v .sides .left)) (size (v .sides .right)) (renamed (v .sides)) a b c → Walked tab L′ R′ (visit rs (place rs)) units w
+            PairIs L′ R′ m (size (v .sides .left)) (size (v .sides .right)) (renamed (v .sides)) a b c → Walked tab L′ R′ (visit rs (place rs)) units w
         sized rs v q true b c x y z s = stops rs (λ next. visit-peak rs (place rs) next units v q x)
         sized rs v q false true c x y z s = stops rs (λ next. visit-left rs (place rs) next units v q x y)
         sized rs v q false false true x y z s = stops rs (λ next. visit-right rs (place rs) next units v q x y z)
@@ -132,7 +132,7 @@ module _ (tab rules lens numbers : List ℕ) (count : ℕ) (at : Spot) (L R L′
 
     module _ (a b : ℕ) (from L″ R″ : List ℕ) where
       pub place-pair : m ≡ Found a b → from ≡ 4 ∷ (number-bytes 2 (getD numbers (at .inner) 0) ++ number-bytes 2 (getD numbers (at .outer) 0) ++ number-bytes 1 (at .position)) →
-          PairWalk tab rules lens count L′ a R′ b L″ R″ from units w → Walks (Holds tab rules lens numbers count) (at-place at) tab L R L″ R″ units w
+          PairWalk tab rules lens count L′ a R′ b L″ R″ from units w → Walks (RulesIn tab rules lens numbers count) (at-place at) tab L R L″ R″ units w
       unfolding at-place origin-bytes
       place-pair e f k =
           record {
@@ -140,10 +140,10 @@ module _ (tab rules lens numbers : List ℕ) (count : ℕ) (at : Spot) (L R L′
             answer = λ rs h. go rs h (overlap (rule-at rs (at .inner) .sides) (rule-at rs (at .outer) .sides) (at .position)) refl (said rs h);
           }
         where
-          origin-is : (rs : List Rule) → Holds tab rules lens numbers count rs → from ≡ origin-bytes (overlapping (rule-at rs (at .inner) .number) (rule-at rs (at .outer) .number) (at .position))
+          origin-is : (rs : List Rule) → RulesIn tab rules lens numbers count rs → from ≡ origin-bytes (overlapping (rule-at rs (at .inner) .number) (rule-at rs (at .outer) .number) (at .position))
           origin-is rs h = f ∙ rw (h .numbered (at .inner) li, h .numbered (at .outer) lo) refl
 
-          walk : (rs : List Rule) → Holds tab rules lens numbers count rs → (v : Overlap) → overlap (rule-at rs (at .inner) .sides) (rule-at rs (at .outer) .sides) (at .position) ≡ some v →
+          walk : (rs : List Rule) → RulesIn tab rules lens numbers count rs → (v : Overlap) → overlap (rule-at rs (at .inner) .sides) (rule-at rs (at .outer) .sides) (at .position) ≡ some v →
               take a L′ ≡ term-bytes (renamed (v .sides) .left) → take b R′ ≡ term-bytes (renamed (v .sides) .right) → Walked tab L″ R″ (compared rs (overlapping (rule-at rs (at .inner) .number) (rule-at rs (at .outer) .number) (at .position)) (renamed (v .sides))) units w
           walk rs h v q x y =
               let i = rule-stands h (at .inner) li in
@@ -151,9 +151,9 @@ module _ (tab rules lens numbers : List ℕ) (count : ℕ) (at : Spot) (L R L′
               let wf = overlap-wf tab (rule-at rs (at .inner) .sides) (rule-at rs (at .outer) .sides) (at .position) v q (i .left-wf, i .right-wf) (o .left-wf, o .right-wf) in
               k .answer rs (h .stored) (h .counted) _ (renamed (v .sides)) (origin-is rs h) (wf .0) (wf .1) x y
 
-          sized : (rs : List Rule) → Holds tab rules lens numbers count rs → (v : Overlap) → overlap (rule-at rs (at .inner) .sides) (rule-at rs (at .outer) .sides) (at .position) ≡ some v → (x y z : Bool) →
+          sized : (rs : List Rule) → RulesIn tab rules lens numbers count rs → (v : Overlap) → overlap (rule-at rs (at .inner) .sides) (rule-at rs (at .outer) .sides) (at .position) ≡ some v → (x y z : Bool) →
               ltb 120 (size (v .peak)) ≡ x → ltb 120 (size (v .sides .left)) ≡ y → ltb 120 (size (v .sides .right)) ≡ z →
-              Answered L′ R′ m (size (v .sides .left)) (size (v .sides .right)) (renamed (v .sides)) x y z → Walked tab L″ R″ (visit rs (place rs)) units w
+              PairIs L′ R′ m (size (v .sides .left)) (size (v .sides .right)) (renamed (v .sides)) x y z → Walked tab L″ R″ (visit rs (place rs)) units w
           sized rs h v q true y z t₁ t₂ t₃ s = absurd (zero≢one (cc))
           sized rs h v q false true z t₁ t₂ t₃ s = absurd (zero≢one (cc))
           sized rs h v q false false true t₁ t₂ t₃ s = absurd (zero≢one (cc))
@@ -163,7 +163,7 @@ module _ (tab rules lens numbers : List ℕ) (count : ℕ) (at : Spot) (L R L′
               let j : size (v .sides .right) ≡ b = cc in
               walked-from (λ next. visit-pair rs (place rs) next units v q t₁ t₂ t₃) (walk rs h v q (subst (λ n. take n L′ ≡ term-bytes (renamed (v .sides) .left)) g (s .1)) (subst (λ n. take n R′ ≡ term-bytes (renamed (v .sides) .right)) j (s .2)))
 
-          go : (rs : List Rule) → Holds tab rules lens numbers count rs → (o : Option Overlap) → overlap (rule-at rs (at .inner) .sides) (rule-at rs (at .outer) .sides) (at .position) ≡ o → Says L′ R′ m o → Walked tab L″ R″ (visit rs (place rs)) units w
+          go : (rs : List Rule) → RulesIn tab rules lens numbers count rs → (o : Option Overlap) → overlap (rule-at rs (at .inner) .sides) (rule-at rs (at .outer) .sides) (at .position) ≡ o → Says L′ R′ m o → Walked tab L″ R″ (visit rs (place rs)) units w
           go rs h none q s = absurd (zero≢one (cc))
           go rs h (some v) q s = sized rs h v q (ltb 120 (size (v .peak))) (ltb 120 (size (v .sides .left))) (ltb 120 (size (v .sides .right))) refl refl refl s
 

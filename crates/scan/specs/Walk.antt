@@ -10,26 +10,26 @@ use Rattle.rewriting.specs.Rewrite.{end-number, goes-on, Paid, done, stop, _>>=
 use Rattle.completion.specs.Turn.{scanned-input, Candidate, candidates, scan-overlap, if-different-overlap, scan}
 use Rattle.redex.specs.Stored.{Stored}
 use Rattle.joining.specs.declared.Walk.{Walk}
-use Rattle.joining.specs.Joins.{Part, compared, Shows, Walked, Room}
+use Rattle.joining.specs.Joins.{ScanPart, compared, Shows, Walked, FormsRoom}
 use Rattle.scan.specs.declared.spots.Spot.{Spot}
 
 -- one place, places, and inputs
-unfoldable pub visit : List Rule → Place → Part
+unfoldable pub visit : List Rule → Place → ScanPart
 visit rules at next = do
   forms ← scan-overlap rules (overlap (at .inner .sides) (at .outer .sides) (at .position))
   if-different-overlap at forms next
 
-unfoldable pub visits : List Rule → List Place → Part
+unfoldable pub visits : List Rule → List Place → ScanPart
 visits rules [] next = next
 visits rules (at ∷ ps) next = visit rules at (visits rules ps next)
 
-unfoldable pub visit-inputs : List Rule → List Candidate → Part
+unfoldable pub visit-inputs : List Rule → List Candidate → ScanPart
 visit-inputs rules [] next = next
 visit-inputs rules (c ∷ cs) next = compared rules (c .origin) (c .sides) (visit-inputs rules cs next)
 
 -- A function that walks over the part d, of whatever it is handed that is as H says.
-pub record Walks {W : Type 0} (H : W → Type 0) (d : W → Part) (tab L R L′ R′ : List ℕ) (units : ℕ) (w : Walk) : Type 0 where
-  pub room : Room L R L′ R′ units w
+pub record Walks {W : Type 0} (H : W → Type 0) (d : W → ScanPart) (tab L R L′ R′ : List ℕ) (units : ℕ) (w : Walk) : Type 0 where
+  pub room : FormsRoom L R L′ R′ units w
   pub answer : (x : W) → H x → Walked tab L′ R′ (d x) units w
 
 -- a rule by its place
@@ -40,16 +40,16 @@ abbrev pub rule-at : List Rule → ℕ → Rule
 rule-at rs k = getD rs k no-rule
 
 -- the rules stand in the slots, and their numbers beside them
-pub record Holds (tab rules lens numbers : List ℕ) (count : ℕ) (rs : List Rule) : Type 0 where
+pub record RulesIn (tab rules lens numbers : List ℕ) (count : ℕ) (rs : List Rule) : Type 0 where
   pub stored : Stored tab rules lens 0 (sides-of rs)
   pub counted : count ≡ length rs
   pub numbered : (k : ℕ) → k < count → getD numbers k 0 ≡ rule-at rs k .number
 
 -- the parts that the functions walk over: one place; the rules from b on
-unfoldable pub at-place : Spot → List Rule → Part
+unfoldable pub at-place : Spot → List Rule → ScanPart
 at-place at rs = visit rs (record { inner = rule-at rs (at .inner); outer = rule-at rs (at .outer); position = at .position })
 
-unfoldable pub of-rules : ℕ → List Rule → Part
+unfoldable pub of-rules : ℕ → List Rule → ScanPart
 of-rules b rs = visits rs (all-places (take b rs) (drop b rs))
 
 -- the rules and the input equations stand in slots
@@ -57,29 +57,29 @@ pub record World : Type 0 where
   pub rules : List Rule
   pub equations : List Equation
 
-abbrev pub inputs-of : World → List Candidate
-inputs-of x = candidates scanned-input 1 (x .equations)
+abbrev pub world-inputs : World → List Candidate
+world-inputs x = candidates scanned-input 1 (x .equations)
 
-pub record Given (tab rules lens : List ℕ) (count : ℕ) (bytes sizes : List ℕ) (number : ℕ) (x : World) : Type 0 where
+pub record InSlots (tab rules lens : List ℕ) (count : ℕ) (bytes sizes : List ℕ) (number : ℕ) (x : World) : Type 0 where
   pub stored : Stored tab rules lens 0 (sides-of (x .rules))
   pub counted : count ≡ length (x .rules)
-  pub inputs : Stored tab bytes sizes 0 (map (λ c. c .sides) (inputs-of x))
+  pub inputs : Stored tab bytes sizes 0 (map (λ c. c .sides) (world-inputs x))
   pub number-is : number ≡ length (x .equations)
 
 -- one input; the inputs from k on; the whole scan
 abbrev pub no-candidate : Candidate
 no-candidate = record { origin = scanned-input 0; sides = no-rule .sides }
 
-unfoldable pub of-input : ℕ → World → Part
-of-input k x = compared (x .rules) (getD (inputs-of x) k no-candidate .origin) (getD (inputs-of x) k no-candidate .sides)
+unfoldable pub of-input : ℕ → World → ScanPart
+of-input k x = compared (x .rules) (getD (world-inputs x) k no-candidate .origin) (getD (world-inputs x) k no-candidate .sides)
 
-unfoldable pub of-inputs : ℕ → World → Part
-of-inputs k x = visit-inputs (x .rules) (drop k (inputs-of x))
+unfoldable pub of-inputs : ℕ → World → ScanPart
+of-inputs k x = visit-inputs (x .rules) (drop k (world-inputs x))
 
-unfoldable pub rules-part : World → Part
+unfoldable pub rules-part : World → ScanPart
 rules-part x = of-rules 0 (x .rules)
 
-unfoldable pub of-all : World → Part
+unfoldable pub of-all : World → ScanPart
 of-all x next = of-rules 0 (x .rules) (of-inputs 0 x next)
 
 -- `scan`: exactly as the definition says
@@ -87,8 +87,8 @@ abbrev pub Finds : List ℕ → List ℕ → List ℕ → Walk → Paid Candidat
 Finds tab L R w (done c left) = (w .verdict ≡ goes-on) × (w .units ≡ left) × Shows tab L R w c
 Finds tab L R w (stop e left) = (w .verdict ≡ end-number e) × (w .units ≡ left)
 
-pub record Scanned (tab rules lens numbers : List ℕ) (count : ℕ) (bytes sizes : List ℕ) (number : ℕ) (L R L′ R′ : List ℕ) (units : ℕ) (w : Walk) : Type 0 where
-  pub room : Room L R L′ R′ units w
-  pub answer : (rs : List Rule) → Holds tab rules lens numbers count rs →
+pub record ScanIs (tab rules lens numbers : List ℕ) (count : ℕ) (bytes sizes : List ℕ) (number : ℕ) (L R L′ R′ : List ℕ) (units : ℕ) (w : Walk) : Type 0 where
+  pub room : FormsRoom L R L′ R′ units w
+  pub answer : (rs : List Rule) → RulesIn tab rules lens numbers count rs →
       (es : List Equation) → Stored tab bytes sizes 0 (map (λ c. c .sides) (candidates scanned-input 1 es)) → number ≡ length es →
       Finds tab L′ R′ w (scan rs (candidates scanned-input 1 es) (all-places [] rs) units)

@@ -5,7 +5,7 @@ mod spots;
 ghost use Prim.Native.Nat.{_<_, _≤_};
 ghost use lib.ListN.{length};
 ghost use Rattle.redex.specs.Stored.{Layout};
-ghost use Rattle.scan.specs.Walk.{Walks, Holds, at-place, of-rules, Given, of-inputs, Scanned};
+ghost use Rattle.scan.specs.Walk.{Walks, RulesIn, at-place, of-rules, InSlots, of-inputs, ScanIs};
 use joining::Walk;
 use overlaps::Met;
 use spots::Spot;
@@ -25,7 +25,7 @@ fn scan_at(
     requires { ⌜ Layout (now table) (now rules) (now lens) count × (count ≤ length (now numbers)) ⌝ }
     requires { ⌜ (at .inner < count) × (at .outer < count) × (at .position < 256) ⌝ }
     requires { ⌜ (120 ≤ length (now left)) × (120 ≤ length (now right)) ⌝ }
-    ensures { λ r. ⌜ Walks (Holds (now (table .entry)) (now (rules .entry)) (now (lens .entry)) (now (numbers .entry)) count) (at-place at) (now (table .entry)) (now (left .entry)) (now (right .entry)) (now (left .exit)) (now (right .exit)) units r ⌝ }
+    ensures { λ r. ⌜ Walks (RulesIn (now (table .entry)) (now (rules .entry)) (now (lens .entry)) (now (numbers .entry)) count) (at-place at) (now (table .entry)) (now (left .entry)) (now (right .entry)) (now (left .exit)) (now (right .exit)) units r ⌝ }
 {
     let inner = at.inner;
     let outer = at.outer;
@@ -53,7 +53,7 @@ fn scan_rules(
 ) -> Walk
     requires { ⌜ Layout (now table) (now rules) (now lens) count × (count ≤ length (now numbers)) ⌝ }
     requires { ⌜ (120 ≤ length (now left)) × (120 ≤ length (now right)) ⌝ }
-    ensures { λ r. ⌜ Walks (Holds (now (table .entry)) (now (rules .entry)) (now (lens .entry)) (now (numbers .entry)) count) (of-rules 0) (now (table .entry)) (now (left .entry)) (now (right .entry)) (now (left .exit)) (now (right .exit)) units r ⌝ }
+    ensures { λ r. ⌜ Walks (RulesIn (now (table .entry)) (now (rules .entry)) (now (lens .entry)) (now (numbers .entry)) count) (of-rules 0) (now (table .entry)) (now (left .entry)) (now (right .entry)) (now (left .exit)) (now (right .exit)) units r ⌝ }
 {
     let mut at = spots::spot_at(0, 0, spots::BELOW_ROOT);
     let mut u = units;
@@ -83,7 +83,7 @@ fn scan_inputs(
 ) -> Walk
     requires { ⌜ Layout (now table) (now rules) (now lens) count × Layout (now table) (now inputs) (now sizes) number ⌝ }
     requires { ⌜ (120 ≤ length (now left)) × (120 ≤ length (now right)) ⌝ }
-    ensures { λ r. ⌜ Walks (Given (now (table .entry)) (now (rules .entry)) (now (lens .entry)) count (now (inputs .entry)) (now (sizes .entry)) number) (of-inputs 0) (now (table .entry)) (now (left .entry)) (now (right .entry)) (now (left .exit)) (now (right .exit)) units r ⌝ }
+    ensures { λ r. ⌜ Walks (InSlots (now (table .entry)) (now (rules .entry)) (now (lens .entry)) count (now (inputs .entry)) (now (sizes .entry)) number) (of-inputs 0) (now (table .entry)) (now (left .entry)) (now (right .entry)) (now (left .exit)) (now (right .exit)) units r ⌝ }
 {
     let mut u = units;
     for k in 0..number {
@@ -126,7 +126,7 @@ pub fn scan(
     requires { ⌜ Layout (now table) (now rules) (now lens) count × (count ≤ length (now numbers)) ⌝ }
     requires { ⌜ Layout (now table) (now inputs) (now sizes) number ⌝ }
     requires { ⌜ (120 ≤ length (now left)) × (120 ≤ length (now right)) ⌝ }
-    ensures { λ r. ⌜ Scanned (now (table .entry)) (now (rules .entry)) (now (lens .entry)) (now (numbers .entry)) count (now (inputs .entry)) (now (sizes .entry)) number (now (left .entry)) (now (right .entry)) (now (left .exit)) (now (right .exit)) units r ⌝ }
+    ensures { λ r. ⌜ ScanIs (now (table .entry)) (now (rules .entry)) (now (lens .entry)) (now (numbers .entry)) count (now (inputs .entry)) (now (sizes .entry)) number (now (left .entry)) (now (right .entry)) (now (left .exit)) (now (right .exit)) units r ⌝ }
 {
     let w = scan_rules(rules, lens, numbers, count, table, left, right, units);
     if w.verdict != rewriting::COMPLETE {

@@ -16,7 +16,7 @@ use Rattle.terms.specs.Term.{Term, var, node, Terms, nil, cons, size, sizes}
 use Rattle.terms.specs.Scan.{owes}
 use Rattle.classes.specs.Arena.{Arena, Spells, free, made, SpellsAll, none, more, Among}
 use Rattle.classes.specs.Steps.{at, Each, arena, Ready, SpellsSome}
-use Rattle.sizing.specs.Sizes.{Sized, Unknown, Total, Lacks, SizeAt, Known, SizedTo, cap}
+use Rattle.sizing.specs.Sizes.{Sized, Unknown, Total, Lacks, SizeAt, SizesKnown, SizedTo, cap}
 use Rattle.classes.proofs.Ranges.{from-less}
 use Rattle.classes.proofs.Walks.{rest-spells, some-within, arguments, ready-within}
 use Rattle.classes.proofs.Arena.{spells-one, spells-within}
@@ -92,7 +92,7 @@ module _ (l tab ends cs zs : List ℕ) (y : Sized l tab ends cs zs) where
       (y, arguments (arena l tab ends) (y .ready .whole) r (at l r) k (r + 1) (ready-within l tab ends cs (y .ready) i r h e) refl b ek refl)
 
 -- a size that is known is the size, up to 120
-pub known-size : (l tab ends cs zs : List ℕ) → Sized l tab ends cs zs → Known (arena l tab ends) (at zs) true → (i : ℕ) (u : Term) → Spells (arena l tab ends) (at cs) i u → at zs i ≡ cap (size u)
+pub known-size : (l tab ends cs zs : List ℕ) → Sized l tab ends cs zs → SizesKnown (arena l tab ends) (at zs) true → (i : ℕ) (u : Term) → Spells (arena l tab ends) (at cs) i u → at zs i ≡ cap (size u)
 known-size l tab ends cs zs y k i u p =
     let h = spells-within (arena l tab ends) p in
     let w = y .measured i h (k i h) in

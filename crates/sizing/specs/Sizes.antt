@@ -40,12 +40,12 @@ pub record SizeAt (A : Arena) (c z : ℕ → ℕ) (i r : ℕ) : Type 0 where
   pub gives : (r ≡ 0 → ⊥) → (u : Term) × Spells A c i u × (r ≡ cap (size u))
 
 -- every size is known, or this one is not
-abbrev pub Known : Arena → (ℕ → ℕ) → Bool → Type 0
-Known A z true = (i : ℕ) → i < A .nodes → z i ≡ 0 → ⊥
-Known A z false = (i : ℕ) × (i < A .nodes) × (z i ≡ 0)
+abbrev pub SizesKnown : Arena → (ℕ → ℕ) → Bool → Type 0
+SizesKnown A z true = (i : ℕ) → i < A .nodes → z i ≡ 0 → ⊥
+SizesKnown A z false = (i : ℕ) × (i < A .nodes) × (z i ≡ 0)
 
 -- what `measure` leaves: sizes that are right, each unknown one with an unknown one among its arguments, and whether every one is known
 pub record SizedTo (l tab ends cs zs : List ℕ) (r : Bool) : Type 0 where
   pub sized : Sized l tab ends cs zs
   pub descends : Descends (arena l tab ends) (at cs) (Unknown (at zs))
-  pub known : Known (arena l tab ends) (at zs) r
+  pub known : SizesKnown (arena l tab ends) (at zs) r

@@ -11,7 +11,7 @@ use lib.Seq.{take-take, drop-drop}
 use Rattle.terms.specs.Term.{Term, Pair, term-bytes}
 use Rattle.terms.specs.Flat.{Wf}
 use Rattle.redex.specs.Stored.{Layout, RuleAt, Stored}
-use Rattle.store.specs.Slots.{ShortAt, SlotAs, SameSlot, Holds, OnlySlot, RightIs, Dropped, Room}
+use Rattle.store.specs.Slots.{ShortAt, SlotAs, SameSlot, SlotHolds, OnlySlot, RightIs, Dropped, SlotRoom}
 
 -- a part of a front
 pub part-in : (a m n : ℕ) (d : List ℕ) → a + m ≤ n → take m (drop a (take n d)) ≡ take m (drop a d)
@@ -23,7 +23,7 @@ part-in (suc a) m (suc n) (x ∷ d) h = part-in a m n d (omega arith)
 pub short-at : (tab b l : List ℕ) (n k : ℕ) → Layout tab b l n → k < n → ShortAt l k
 short-at tab b l n k h j = record { left = h .short (2 * k) (omega arith); right = h .short (2 * k + 1) (omega arith) }
 
-pub room-at : (tab b l : List ℕ) (n k : ℕ) → Layout tab b l n → k < n → Room b l k
+pub room-at : (tab b l : List ℕ) (n k : ℕ) → Layout tab b l n → k < n → SlotRoom b l k
 room-at tab b l n k h j = let s = h .slots in let t = h .lengths in record { slots = omega arith; lengths = omega arith }
 
 -- Slots that stay as they were.
@@ -64,7 +64,7 @@ rule-as {tab} {b} {l} {b′} {l′} {j} {k} {p} s a r =
 
 -- A pair that was put into a slot; another right side.
 pub rule-put : {tab b l : List ℕ} {k : ℕ} {left right : List ℕ} (p : Pair) → Wf 16 tab (p .left) → Wf 16 tab (p .right) → left ≡ term-bytes (p .left) → right ≡ term-bytes (p .right) →
-    Holds b l k left right → RuleAt tab b l k p
+    SlotHolds b l k left right → RuleAt tab b l k p
 rule-put {tab} {b} {l} {k} p v w e f h = record {
   left-wf = v;
   right-wf = w;
@@ -182,7 +182,7 @@ stored-right tab b l b′ l′ right n before p after u y m o r w e h =
     (stored-same tab b l b′ l′ 0 n before y (omega arith) (λ i j f. o .others i (λ g. omega arith)) (s .0))
     (subst (λ j. Stored tab b′ l′ j (q ∷ after)) c (stored-cons tab b′ l′ k q after z x))
 
--- Room and lengths.
+-- SlotRoom and lengths.
 halves : (i : ℕ) → ((j : ℕ) × (i ≡ 2 * j)) ⊎ ((j : ℕ) × (i ≡ 2 * j + 1))
 halves zero = inl (0, refl)
 halves (suc i) = ⊎-elim (λ (h : (j : ℕ) × (i ≡ 2 * j)). inr (h .0, let e = h .1 in omega arith)) (λ (h : (j : ℕ) × (i ≡ 2 * j + 1)). inl (suc (h .0), let e = h .1 in omega arith)) (halves i)
@@ -201,7 +201,7 @@ layout-of tab b l n s t f h = record {
 pub short-as : {b l b′ l′ : List ℕ} {j k : ℕ} → SlotAs b l j b′ l′ k → ShortAt l j → ShortAt l′ k
 short-as a s = let m = s .left in let n = s .right in record { left = omega (arith, a .left-length); right = omega (arith, a .right-length) }
 
-pub short-put : {b l : List ℕ} {k : ℕ} {left right : List ℕ} → Holds b l k left right → length left ≤ 120 → length right ≤ 120 → ShortAt l k
+pub short-put : {b l : List ℕ} {k : ℕ} {left right : List ℕ} → SlotHolds b l k left right → length left ≤ 120 → length right ≤ 120 → ShortAt l k
 short-put h m n = record { left = omega (arith, h .left-length); right = omega (arith, h .right-length) }
 
 pub short-right : {b l : List ℕ} {k : ℕ} {right b′ l′ : List ℕ} → ShortAt l k → RightIs b l k right b′ l′ → length right ≤ 120 → ShortAt l′ k
@@ -219,7 +219,7 @@ module _ (tab b l b′ l′ : List ℕ) (k : ℕ) (o : OnlySlot b l k b′ l′)
       go i q (yes e) = subst (λ z. ShortAt l′ z) (sym e) s
       go i q (no e) = short-as (o .others i e) (short-at tab b l n i y q)
 
-  pub layout-more : (n : ℕ) → Layout tab b l n → n ≡ k → Room b l k → k < 33 → Layout tab b′ l′ (n + 1)
+  pub layout-more : (n : ℕ) → Layout tab b l n → n ≡ k → SlotRoom b l k → k < 33 → Layout tab b′ l′ (n + 1)
   layout-more n y m r f =
       let v = r .slots in
       let w = r .lengths in

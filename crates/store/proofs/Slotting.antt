@@ -8,7 +8,7 @@ use native.Mathlib.Decide.{decLt}
 use native.Mathlib.Numerals.{add-one}
 use lib.ListN.{length, getD, drop, take, set, length-set, length-append, length-drop, List·getD-append}
 use lib.Seq.{getD-set-same, getD-set-other, take-suc, take-suc-set, drop-set-lt, getD-drop, take-append-le, drop-append-le, drop-drop, take-all}
-use Rattle.store.specs.Slots.{patched, SlotAs, Holds, OnlySlot, Room, RightIs, Dropped}
+use Rattle.store.specs.Slots.{patched, SlotAs, SlotHolds, OnlySlot, SlotRoom, RightIs, Dropped}
 use Rattle.store.proofs.Patching.{length-patched, patched-here, patched-before, patched-after, whole-slot}
 
 -- slot i where slot k was written: the bytes from `at` on, at most 240 from the slot's begin
@@ -37,7 +37,7 @@ module _ (l : List ℕ) (k x y : ℕ) (room : 2 * (k + 1) ≤ length l) where
   pub both-length : length both ≡ length l
   both-length = length-set (set l (2 * k) x) (2 * k + 1) y ∙ length-set l (2 * k) x
 
-module _ (b l : List ℕ) (k : ℕ) (room : Room b l k) where
+module _ (b l : List ℕ) (k : ℕ) (room : SlotRoom b l k) where
   -- whole slots
   pub one-slot : (p b′ : List ℕ) (x y : ℕ) → length p ≤ 240 → b′ ≡ patched (240 * k) p b → OnlySlot b l k b′ (both l k x y (room .lengths))
   one-slot p b′ x y h e =
@@ -56,7 +56,7 @@ module _ (b l : List ℕ) (k : ℕ) (room : Room b l k) where
     length-first : length b₁ ≡ length b
     length-first = let s = room .slots in ap length e ∙ length-patched (240 * k) left b (omega arith)
 
-    pub put-holds : Holds b₂ (both l k (length left) (length right) (room .lengths)) k left right
+    pub put-holds : SlotHolds b₂ (both l k (length left) (length right) (room .lengths)) k left right
     put-holds =
         let s = room .slots in
         let m = length-first in
@@ -112,7 +112,7 @@ module _ (b l : List ℕ) (k : ℕ) (room : Room b l k) where
         }
 
   -- a slot from another store, or from this one
-  module _ (c m : List ℕ) (j : ℕ) (given : Room c m j) (p b′ : List ℕ) (q : p ≡ take 240 (drop (240 * j) c)) (e : b′ ≡ patched (240 * k) p b) where
+  module _ (c m : List ℕ) (j : ℕ) (given : SlotRoom c m j) (p b′ : List ℕ) (q : p ≡ take 240 (drop (240 * j) c)) (e : b′ ≡ patched (240 * k) p b) where
     whole : length p ≡ 240
     whole = ap length q ∙ whole-slot c j (given .slots)
 
@@ -183,7 +183,7 @@ shifted-length : (d d′ : List ℕ) (by : ℕ) → by ≤ length d → d′ ≡
 shifted-length d d′ by h e =
     ap length e ∙ length-append (drop by d) (drop (length d - by) d) ∙ omega (arith, length-drop by d, length-drop (length d - by) d)
 
-pub dropped : (b l b′ l′ : List ℕ) → Room b l 0 → b′ ≡ drop 240 b ++ drop (length b - 240) b → l′ ≡ drop 2 l ++ drop (length l - 2) l → Dropped b l b′ l′
+pub dropped : (b l b′ l′ : List ℕ) → SlotRoom b l 0 → b′ ≡ drop 240 b ++ drop (length b - 240) b → l′ ≡ drop 2 l ++ drop (length l - 2) l → Dropped b l b′ l′
 dropped b l b′ l′ r e f =
     let s = r .slots in
     let t = r .lengths in

@@ -18,7 +18,7 @@ abbrev pub SameSlot : List ℕ → List ℕ → List ℕ → List ℕ → ℕ �
 SameSlot b l b′ l′ i = SlotAs b l i b′ l′ i
 
 -- slot k holds these two sides
-pub record Holds (b l : List ℕ) (k : ℕ) (left right : List ℕ) : Type 0 where
+pub record SlotHolds (b l : List ℕ) (k : ℕ) (left right : List ℕ) : Type 0 where
   pub left-length : getD l (2 * k) 0 ≡ length left
   pub right-length : getD l (2 * k + 1) 0 ≡ length right
   pub left-bytes : take (length left) (drop (240 * k) b) ≡ left
@@ -36,7 +36,7 @@ pub record OnlySlot (b l : List ℕ) (k : ℕ) (b′ l′ : List ℕ) : Type 0 w
   pub others : (i : ℕ) → (i ≡ k → ⊥) → SameSlot b l b′ l′ i
 
 -- room for slot k
-pub record Room (b l : List ℕ) (k : ℕ) : Type 0 where
+pub record SlotRoom (b l : List ℕ) (k : ℕ) : Type 0 where
   pub slots : 240 * (k + 1) ≤ length b
   pub lengths : 2 * (k + 1) ≤ length l
 
@@ -51,4 +51,4 @@ pub record RightIs (b l : List ℕ) (k : ℕ) (right b′ l′ : List ℕ) : Typ
 pub record Dropped (b l b′ l′ : List ℕ) : Type 0 where
   pub same-bytes : length b′ ≡ length b
   pub same-lengths : length l′ ≡ length l
-  pub moved : (i : ℕ) → Room b l (suc i) → SlotAs b l (suc i) b′ l′ i
+  pub moved : (i : ℕ) → SlotRoom b l (suc i) → SlotAs b l (suc i) b′ l′ i

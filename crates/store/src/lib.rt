@@ -3,7 +3,7 @@ ghost use mathlib.Core.Path.{_≡_};
 ghost use mathlib.Core.List.{_++_};
 ghost use Prim.Native.Nat.{_+_, _-_, _*_, _≤_};
 ghost use lib.ListN.{length, getD, drop, take};
-ghost use Rattle.store.specs.Slots.{patched, SlotAs, Holds, OnlySlot, Room, RightIs, Dropped};
+ghost use Rattle.store.specs.Slots.{patched, SlotAs, SlotHolds, OnlySlot, SlotRoom, RightIs, Dropped};
 
 // All of p into d from `at` on.
 pub fn paste(d: &mut [u8], at: usize, p: &[u8])
@@ -15,9 +15,9 @@ pub fn paste(d: &mut [u8], at: usize, p: &[u8])
 
 // A pair into slot k.
 pub fn put(bytes: &mut [u8], lens: &mut [u8], k: usize, left: &[u8], right: &[u8])
-    requires { ⌜ Room (now bytes) (now lens) k ⌝ }
+    requires { ⌜ SlotRoom (now bytes) (now lens) k ⌝ }
     requires { ⌜ (length (now left) ≤ 120) × (length (now right) ≤ 120) ⌝ }
-    ensures { λ _. ⌜ Holds (now (bytes .exit)) (now (lens .exit)) k (now (left .entry)) (now (right .entry)) ⌝ }
+    ensures { λ _. ⌜ SlotHolds (now (bytes .exit)) (now (lens .exit)) k (now (left .entry)) (now (right .entry)) ⌝ }
     ensures { λ _. ⌜ OnlySlot (now (bytes .entry)) (now (lens .entry)) k (now (bytes .exit)) (now (lens .exit)) ⌝ }
 {
     paste(bytes, 240 * k, left);
@@ -28,7 +28,7 @@ pub fn put(bytes: &mut [u8], lens: &mut [u8], k: usize, left: &[u8], right: &[u8
 
 // Another right side into slot k.
 pub fn put_right(bytes: &mut [u8], lens: &mut [u8], k: usize, right: &[u8])
-    requires { ⌜ Room (now bytes) (now lens) k ⌝ }
+    requires { ⌜ SlotRoom (now bytes) (now lens) k ⌝ }
     requires { ⌜ length (now right) ≤ 120 ⌝ }
     ensures { λ _. ⌜ RightIs (now (bytes .entry)) (now (lens .entry)) k (now (right .entry)) (now (bytes .exit)) (now (lens .exit)) ⌝ }
     ensures { λ _. ⌜ OnlySlot (now (bytes .entry)) (now (lens .entry)) k (now (bytes .exit)) (now (lens .exit)) ⌝ }
@@ -39,8 +39,8 @@ pub fn put_right(bytes: &mut [u8], lens: &mut [u8], k: usize, right: &[u8])
 
 // Slot j of one store into slot k of another.
 pub fn copy_slot(from: &[u8], sizes: &[u8], j: usize, to: &mut [u8], lens: &mut [u8], k: usize)
-    requires { ⌜ Room (now from) (now sizes) j ⌝ }
-    requires { ⌜ Room (now to) (now lens) k ⌝ }
+    requires { ⌜ SlotRoom (now from) (now sizes) j ⌝ }
+    requires { ⌜ SlotRoom (now to) (now lens) k ⌝ }
     ensures { λ _. ⌜ SlotAs (now (from .entry)) (now (sizes .entry)) j (now (to .exit)) (now (lens .exit)) k ⌝ }
     ensures { λ _. ⌜ OnlySlot (now (to .entry)) (now (lens .entry)) k (now (to .exit)) (now (lens .exit)) ⌝ }
 {
@@ -52,8 +52,8 @@ pub fn copy_slot(from: &[u8], sizes: &[u8], j: usize, to: &mut [u8], lens: &mut 
 
 // Slot j into slot k of the same store.
 pub fn move_slot(bytes: &mut [u8], lens: &mut [u8], j: usize, k: usize)
-    requires { ⌜ Room (now bytes) (now lens) j ⌝ }
-    requires { ⌜ Room (now bytes) (now lens) k ⌝ }
+    requires { ⌜ SlotRoom (now bytes) (now lens) j ⌝ }
+    requires { ⌜ SlotRoom (now bytes) (now lens) k ⌝ }
     ensures { λ _. ⌜ SlotAs (now (bytes .entry)) (now (lens .entry)) j (now (bytes .exit)) (now (lens .exit)) k ⌝ }
     ensures { λ _. ⌜ OnlySlot (now (bytes .entry)) (now (lens .entry)) k (now (bytes .exit)) (now (lens .exit)) ⌝ }
 {
@@ -78,7 +78,7 @@ pub fn shift(d: &mut [u8], by: usize)
 
 // The first slot is dropped, and every other takes the place before it.
 pub fn drop_first(bytes: &mut [u8], lens: &mut [u8])
-    requires { ⌜ Room (now bytes) (now lens) 0 ⌝ }
+    requires { ⌜ SlotRoom (now bytes) (now lens) 0 ⌝ }
     ensures { λ _. ⌜ Dropped (now (bytes .entry)) (now (lens .entry)) (now (bytes .exit)) (now (lens .exit)) ⌝ }
 {
     shift(bytes, 240);
@@ -87,7 +87,7 @@ pub fn drop_first(bytes: &mut [u8], lens: &mut [u8])
 
 // The left side of slot k to the front of out; its length.
 pub fn get_left(bytes: &[u8], lens: &[u8], k: usize, out: &mut [u8]) -> usize
-    requires { ⌜ Room (now bytes) (now lens) k ⌝ }
+    requires { ⌜ SlotRoom (now bytes) (now lens) k ⌝ }
     requires { ⌜ (getD (now lens) (2 * k) 0 ≤ 120) × (120 ≤ length (now out)) ⌝ }
     ensures { λ r. ⌜ r ≡ getD (now (lens .entry)) (2 * k) 0 ⌝ }
     ensures { λ r. ⌜ now (out .exit) ≡ patched 0 (take r (drop (240 * k) (now (bytes .entry)))) (now (out .entry)) ⌝ }
@@ -99,7 +99,7 @@ pub fn get_left(bytes: &[u8], lens: &[u8], k: usize, out: &mut [u8]) -> usize
 }
 
 pub fn get_right(bytes: &[u8], lens: &[u8], k: usize, out: &mut [u8]) -> usize
-    requires { ⌜ Room (now bytes) (now lens) k ⌝ }
+    requires { ⌜ SlotRoom (now bytes) (now lens) k ⌝ }
     requires { ⌜ (getD (now lens) (2 * k + 1) 0 ≤ 120) × (120 ≤ length (now out)) ⌝ }
     ensures { λ r. ⌜ r ≡ getD (now (lens .entry)) (2 * k + 1) 0 ⌝ }
     ensures { λ r. ⌜ now (out .exit) ≡ patched 0 (take r (drop (240 * k + 120) (now (bytes .entry)))) (now (out .entry)) ⌝ }

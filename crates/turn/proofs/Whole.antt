@@ -25,8 +25,8 @@ use Rattle.collapse.specs.Sifting.{origins-bytes}
 use Rattle.engine.specs.State.{Whole, Represents}
 use Rattle.engine.specs.Steps.{TakenState}
 use Rattle.joining.specs.declared.Walk.{Walk}
-use Rattle.joining.specs.Joins.{compared, Walked, Room, SlotWalk}
-use Rattle.scan.specs.Walk.{rule-at, no-rule, Finds, Scanned}
+use Rattle.joining.specs.Joins.{compared, Walked, FormsRoom, SlotWalk}
+use Rattle.scan.specs.Walk.{rule-at, no-rule, Finds, ScanIs}
 use Rattle.making.specs.Made.{Outcome, Stops, without-taken, TurnWith, SettledTurn, MakesTurn}
 use Rattle.turn.specs.Turns.{Shown, TurnedIs, Buffers, WaitingTurn, Given, ScanTurn, WholeTurn}
 use Rattle.making.proofs.Keeping.{held-of}
@@ -73,7 +73,7 @@ oldest-origin tab st s c cs R e =
     (front-of (st .origins) (origin-bytes (c .origin)) (origins-bytes cs) (6 * (st .waits)) (omega (arith, origin-bytes-length (c .origin))) h)
 
 -- the buffers behind a walk, and the forms that stand in them, cut out
-module _ {L R L′ R′ : List ℕ} {u : ℕ} {w : Walk} (room : Room L R L′ R′ u w) where
+module _ {L R L′ R′ : List ℕ} {u : ℕ} {w : Walk} (room : FormsRoom L R L′ R′ u w) where
   buffers-kept : Buffers L R L′ R′
   buffers-kept = record { left-kept = room .left-kept; right-kept = room .right-kept }
 
@@ -155,7 +155,7 @@ numbered-by : (count : ℕ) (ns : List ℕ) (rs : List Rule) → take count ns �
 numbered-by count ns rs e k l = sym (getD-take count ns k 0 l) ∙ ap (λ z. getD z k 0) e ∙ List·getD-map (λ (r : Rule). r .number) rs k no-rule
 
 module _ (st : Whole) (tab inputs sizes : List ℕ) (number : ℕ) (L R L′ R′ : List ℕ) (u : ℕ) (w : Walk) (none : st .waits ≡ 0)
-    (W : Scanned tab (st .rules) (st .lens) (st .numbers) (st .count) inputs sizes number L R L′ R′ u w) where
+    (W : ScanIs tab (st .rules) (st .lens) (st .numbers) (st .count) inputs sizes number L R L′ R′ u w) where
   idle : (s : RunState) → Represents tab st s → s .waiting ≡ []
   idle s Re = nothing (s .waiting) (sym (Re .waits) ∙ none)
 

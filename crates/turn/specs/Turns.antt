@@ -10,7 +10,7 @@ use Rattle.rewriting.specs.Rewrite.{Paid, goes-on}
 use Rattle.redex.specs.Stored.{Sides, Stored}
 use Rattle.completion.specs.Turn.{State as RunState, turn}
 use Rattle.engine.specs.State.{Whole, Represents}
-use Rattle.making.specs.Made.{Outcome, Kept, Safe, TurnWith}
+use Rattle.making.specs.Made.{Outcome, RulesKept, TurnSafe, TurnWith}
 
 -- the two forms that stand in the buffers
 abbrev pub Shown : List ℕ → List ℕ → List ℕ → ℕ → ℕ → Pair → Type 0
@@ -26,8 +26,8 @@ pub record Buffers (L R L′ R′ : List ℕ) : Type 0 where
 
 -- `turn_waiting`
 pub record WaitingTurn (st : Whole) (tab L R L′ R′ : List ℕ) (u : ℕ) (o : Outcome) : Type 0 where
-  pub safe : Safe (st .entries) o
-  pub stays : (o .verdict ≡ goes-on → ⊥) → Kept st (o .state)
+  pub safe : TurnSafe (st .entries) o
+  pub stays : (o .verdict ≡ goes-on → ⊥) → RulesKept st (o .state)
   pub buffers : Buffers L R L′ R′
   pub answer : (P : Problem) → rank-of (P .symbols) ≡ rank tab → (s : RunState) → Represents tab st s → TurnedIs tab s L′ R′ o (turn P s (suc u))
 
@@ -39,13 +39,13 @@ pub record Given (tab inputs lens : List ℕ) (count : ℕ) (P : Problem) : Type
 
 -- `turn_scan`, where nothing waits, and `turn`
 pub record ScanTurn (st : Whole) (tab inputs lens : List ℕ) (count : ℕ) (L R L′ R′ : List ℕ) (u : ℕ) (o : Outcome) : Type 0 where
-  pub safe : Safe (st .entries) o
-  pub stays : (o .verdict ≡ goes-on → ⊥) → Kept st (o .state)
+  pub safe : TurnSafe (st .entries) o
+  pub stays : (o .verdict ≡ goes-on → ⊥) → RulesKept st (o .state)
   pub buffers : Buffers L R L′ R′
   pub answer : (P : Problem) → Given tab inputs lens count P → (s : RunState) → Represents tab st s → TurnedIs tab s L′ R′ o (turn P s (suc u))
 
 pub record WholeTurn (st : Whole) (tab inputs lens : List ℕ) (count : ℕ) (L R L′ R′ : List ℕ) (o : Outcome) : Type 0 where
-  pub safe : Safe (st .entries) o
-  pub stays : (o .verdict ≡ goes-on → ⊥) → Kept st (o .state)
+  pub safe : TurnSafe (st .entries) o
+  pub stays : (o .verdict ≡ goes-on → ⊥) → RulesKept st (o .state)
   pub buffers : Buffers L R L′ R′
   pub answer : (P : Problem) → Given tab inputs lens count P → (s : RunState) → Represents tab st s → TurnedIs tab s L′ R′ o (turn P s (st .units))

@@ -5,7 +5,7 @@ ghost use lib.ListN.{length, take};
 ghost use Rattle.redex.specs.Stored.{Layout};
 ghost use Rattle.engine.specs.State.{whole, Fine};
 ghost use Rattle.joining.specs.Joins.{SlotWalk};
-ghost use Rattle.scan.specs.Walk.{Scanned};
+ghost use Rattle.scan.specs.Walk.{ScanIs};
 ghost use Rattle.making.specs.Made.{outcome};
 ghost use Rattle.turn.specs.Turns.{WaitingTurn, ScanTurn, WholeTurn};
 use engine::State;
@@ -108,7 +108,7 @@ fn walk_scan(
     requires { ⌜ Layout (now table) (now rules) (st .lens) (st .count) × (st .count ≤ length (st .numbers)) ⌝ }
     requires { ⌜ Layout (now table) (now inputs) (now sizes) number ⌝ }
     requires { ⌜ (120 ≤ length (now left)) × (120 ≤ length (now right)) ⌝ }
-    ensures { λ r. ⌜ Scanned (now (table .entry)) (now (rules .entry)) (st .lens) (st .numbers) (st .count) (now (inputs .entry)) (now (sizes .entry)) number (now (left .entry)) (now (right .entry)) (now (left .exit)) (now (right .exit)) units r ⌝ }
+    ensures { λ r. ⌜ ScanIs (now (table .entry)) (now (rules .entry)) (st .lens) (st .numbers) (st .count) (now (inputs .entry)) (now (sizes .entry)) number (now (left .entry)) (now (right .entry)) (now (left .exit)) (now (right .exit)) units r ⌝ }
 {
     let lens = st.lens;
     let numbers = st.numbers;

@@ -48,18 +48,18 @@ end-node l tab i k r h e g =
     g ∙ ap (λ m. i + 1 + skip tab (drop (i + 1) l) m) (sym z) ∙ skip-turn tab l i 1 k h (λ q. omega arith) e
 
 -- what the loop from the last node to the first keeps
-pub record Ended (l tab ends₀ ends : List ℕ) (i : ℕ) : Type 0 where
+pub record EndsSoFar (l tab ends₀ ends : List ℕ) (i : ℕ) : Type 0 where
   pub within : i ≤ length l
   pub long : length ends ≡ length ends₀
   pub later : EndsFrom l tab ends i
 
-pub ended-start : (l tab ends : List ℕ) → Ended l tab ends ends (length l)
+pub ended-start : (l tab ends : List ℕ) → EndsSoFar l tab ends ends (length l)
 ended-start l tab ends = record { within = omega arith; long = refl; later = record { each = λ i a b. absurd (omega arith) } }
 
-pub ended-later : (l tab ends₀ ends : List ℕ) (i : ℕ) → Ended l tab ends₀ ends i → 0 < i → EndsFrom l tab ends (i - 1 + 1)
+pub ended-later : (l tab ends₀ ends : List ℕ) (i : ℕ) → EndsSoFar l tab ends₀ ends i → 0 < i → EndsFrom l tab ends (i - 1 + 1)
 ended-later l tab ends₀ ends i f h = record { each = λ j a b. f .later .each j (omega arith) b }
 
-pub ended-less : (l tab ends₀ ends : List ℕ) (i v : ℕ) → Ended l tab ends₀ ends i → 0 < i → length l ≤ length ends₀ → EndAt l tab (i - 1) v → Ended l tab ends₀ (set ends (i - 1) v) (i - 1)
+pub ended-less : (l tab ends₀ ends : List ℕ) (i v : ℕ) → EndsSoFar l tab ends₀ ends i → 0 < i → length l ≤ length ends₀ → EndAt l tab (i - 1) v → EndsSoFar l tab ends₀ (set ends (i - 1) v) (i - 1)
 ended-less l tab ends₀ ends i v f h k e =
     record {
       within = omega (arith, f .within);
@@ -71,5 +71,5 @@ ended-less l tab ends₀ ends i v f h k e =
       };
     }
 
-pub ended-all : (l tab ends₀ ends : List ℕ) (i : ℕ) → Ended l tab ends₀ ends i → i ≤ 0 → (length ends ≡ length ends₀) × Each (EndAt l tab) ends (length l)
+pub ended-all : (l tab ends₀ ends : List ℕ) (i : ℕ) → EndsSoFar l tab ends₀ ends i → i ≤ 0 → (length ends ≡ length ends₀) × Each (EndAt l tab) ends (length l)
 ended-all l tab ends₀ ends i f h = (f .long, λ j k. f .later .each j (omega arith) k)

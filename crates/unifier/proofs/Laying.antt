@@ -1,5 +1,5 @@
 -- Whether bytes are those of terms one after the other: a walk from the last byte to the first, counting the terms that follow. Assumes nothing.
--- Read first: specs/Result (Formed, Tested), terms/proofs/Flats (unique).
+-- Read first: specs/Result (Formed, IsTerms), terms/proofs/Flats (unique).
 use mathlib.Core.Path.{_≡_, refl, sym, ap, _∙_}
 use mathlib.Core.Bool.{true, false, false≢true}
 use mathlib.Core.List.{List, _∷_, _++_, append-assoc}
@@ -17,7 +17,7 @@ use Rattle.terms.proofs.Flats.{unique, wf-subterm-in}
 use Rattle.terms.proofs.Places.{size-pos, place}
 use Rattle.terms.proofs.Positions.{subterm-is}
 use Rattle.terms.proofs.Scans.{owes-symbol}
-use Rattle.unifier.specs.Result.{Formed, Tested}
+use Rattle.unifier.specs.Result.{Formed, IsTerms}
 
 -- the first k of some terms, and the others
 record Split (tab : List ℕ) (k : ℕ) (ts : Terms) : Type 0 where
@@ -129,7 +129,7 @@ module _ (l tab : List ℕ) (i have : ℕ) (f : Forest l tab i have) (h : 0 < i)
       let m = g .more z (f .ts) (f .wf) (f .number) in
       record { within = omega (arith, f .within, g .most); ts = m .0; wf = m .1; number = m .2; bytes = here ∙ m .3 }
 
-  pub forest-bad : r ≡ 0 → Tested l tab false
+  pub forest-bad : r ≡ 0 → IsTerms l tab false
   forest-bad z = record {
     sound = λ e. absurd (false≢true e);
     complete = λ ts w e.
@@ -140,6 +140,6 @@ module _ (l tab : List ℕ) (i have : ℕ) (f : Forest l tab i have) (h : 0 < i)
         absurd (g .none z (f .ts) (f .wf) (f .number) (s .0) (a .after) (wf-subterm-in 32 tab ts (i - 1) (s .0) w (s .1)) b);
   }
 
-pub forest-done : (l tab : List ℕ) (i have : ℕ) → Forest l tab i have → i ≤ 0 → Tested l tab true
+pub forest-done : (l tab : List ℕ) (i have : ℕ) → Forest l tab i have → i ≤ 0 → IsTerms l tab true
 forest-done l tab zero have f h = record { sound = λ e. (f .ts, (f .wf, f .bytes)); complete = λ ts w e. refl }
 forest-done l tab (suc i) have f h = absurd (omega arith)

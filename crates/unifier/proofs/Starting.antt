@@ -16,17 +16,17 @@ use Rattle.terms.proofs.Scans.{owes-symbol}
 use Rattle.terms.proofs.Flats.{skip-term, wf-subterm-in}
 use Rattle.terms.proofs.Bytes.{length-bytes, length-bytes-all, around-in}
 use Rattle.terms.proofs.Subst.{Subst}
-use Rattle.classes.specs.Arena.{Spells, free, made, SpellsAll, none, more, same, Whole, Joins, Classes}
+use Rattle.classes.specs.Arena.{Spells, free, made, SpellsAll, none, more, same, NodesSpell, Joins, Classes}
 use Rattle.classes.specs.Steps.{at, Each, arena, Ready, joined}
-use Rattle.unifier.specs.Result.{Laid, LaidOut, EndAt, FirstLike, FirstClass, Firsts, Begun}
+use Rattle.unifier.specs.Result.{Laid, LaidOut, EndAt, FirstLike, FirstClass, Firsts, Joined}
 use Rattle.classes.proofs.Arena.{spells-within, spells-one, unfree}
-use Rattle.classes.proofs.Filled.{Filled, filled-start, filled-more}
+use Rattle.classes.proofs.Filled.{FilledTo, filled-start, filled-more}
 use Rattle.classes.proofs.Joining.{join-ready, join-classes, join-joins}
 use Rattle.unifier.proofs.Firsts.{firsts-start, firsts-more}
 
 -- what the loop of `fill_class` keeps
 pub record Classing (l class₀ class firsts : List ℕ) (i : ℕ) : Type 0 where
-  pub filled : Filled (FirstClass l) class₀ class i
+  pub filled : FilledTo (FirstClass l) class₀ class i
   pub seen : Firsts l firsts i
 
 pub classing-start : (l class firsts : List ℕ) → length firsts ≡ 256 → ((b : ℕ) → at firsts b ≡ 0) → Classing l class class firsts 0
@@ -154,7 +154,7 @@ module _ (l tab ends : List ℕ) (f : Each (EndAt l tab) ends (length l)) where
     laid-length : length l ≡ sizes ts
     laid-length = ap length (d .bytes) ∙ length-bytes-all ts
 
-    laid-whole : Whole (arena l tab ends)
+    laid-whole : NodesSpell (arena l tab ends)
     laid-whole i h = insides ts (d .wf) 0 [] laid-all i (omega arith) (omega (arith, laid-length))
 
     -- a node stands for the subterm that begins there
@@ -174,7 +174,7 @@ module _ (l tab : List ℕ) (n₁ n₂ : ℕ) (o : LaidOut l tab) (h : n₁ < le
   begin-ready : length l ≤ 600 → length l ≤ length ends → length l ≤ length cs → Ready l tab ends cs
   begin-ready a p q = record { small = a; ended = p; classed = q; whole = laid-whole l tab ends f (o .0) (o .1); within = first-within l tab ends cs g }
 
-  pub begun : length l ≤ 600 → length l ≤ length ends → length l ≤ length cs → (ds : List ℕ) → ds ≡ joined l cs n₁ n₂ → Begun l tab n₁ n₂ ends ds
+  pub begun : length l ≤ 600 → length l ≤ length ends → length l ≤ length cs → (ds : List ℕ) → ds ≡ joined l cs n₁ n₂ → Joined l tab n₁ n₂ ends ds
   begun a p q ds e =
       let y = begin-ready a p q in
       record {

@@ -15,8 +15,8 @@ use Rattle.terms.proofs.Rename.{rename}
 use Rattle.unify.specs.Unify.{Binding, mgu, under}
 use Rattle.classes.specs.Arena.{Arena, Spells, same, Never, Descends}
 use Rattle.classes.specs.Steps.{at, Each, arena, ClosedTo}
-use Rattle.sizing.specs.Sizes.{Sized, Unknown, Known, SizedTo}
-use Rattle.unifier.specs.Result.{EndAt, Begun, Solved, Outcome, Decided}
+use Rattle.sizing.specs.Sizes.{Sized, Unknown, SizesKnown, SizedTo}
+use Rattle.unifier.specs.Result.{EndAt, Joined, Solved, SolvedIf, Decided}
 use Rattle.unify.proofs.Correct.{Mgu, unifier, mgu-right, mgu-none}
 use Rattle.unify.proofs.Unique.{most-general, mgu-unique, mgu-unique-pair}
 use Rattle.classes.proofs.Arena.{unifies-joins, solution, solution-mgu, image, never-circle}
@@ -77,18 +77,18 @@ pub solved-decided : (l tab : List ℕ) (n₁ n₂ : ℕ) (ends cs zs : List ℕ
 solved-decided l tab n₁ n₂ ends cs zs k ts d s t p q =
     some-there l tab n₁ n₂ ends cs zs k s t (laid-at l tab ends (k .ended) ts d n₁ s p) (laid-at l tab ends (k .ended) ts d n₂ t q) (mgu s t) refl
 
-pub outcome-solved : (l tab : List ℕ) (n₁ n₂ : ℕ) (ends cs zs : List ℕ) (r : Bool) → Outcome l tab n₁ n₂ ends cs zs r → r ≡ true → Solved l tab n₁ n₂ ends cs zs
-outcome-solved l tab n₁ n₂ ends cs zs r o e = subst (λ k. Outcome l tab n₁ n₂ ends cs zs k) e o
+pub outcome-solved : (l tab : List ℕ) (n₁ n₂ : ℕ) (ends cs zs : List ℕ) (r : Bool) → SolvedIf l tab n₁ n₂ ends cs zs r → r ≡ true → Solved l tab n₁ n₂ ends cs zs
+outcome-solved l tab n₁ n₂ ends cs zs r o e = subst (λ k. SolvedIf l tab n₁ n₂ ends cs zs k) e o
 
-module _ (l tab : List ℕ) (n₁ n₂ : ℕ) (h : n₁ < length l) (h′ : n₂ < length l) (ends cs : List ℕ) (g : Begun l tab n₁ n₂ ends cs) (ds : List ℕ) where
-  pub begun-never : (zs : List ℕ) (r : Bool) → ClosedTo (arena l tab ends) (at cs) (at ds) r → r ≡ false → Decided l tab n₁ n₂ false × Outcome l tab n₁ n₂ ends ds zs false
+module _ (l tab : List ℕ) (n₁ n₂ : ℕ) (h : n₁ < length l) (h′ : n₂ < length l) (ends cs : List ℕ) (g : Joined l tab n₁ n₂ ends cs) (ds : List ℕ) where
+  pub begun-never : (zs : List ℕ) (r : Bool) → ClosedTo (arena l tab ends) (at cs) (at ds) r → r ≡ false → Decided l tab n₁ n₂ false × SolvedIf l tab n₁ n₂ ends ds zs false
   begun-never zs r n e = (never (subst (λ x. ClosedTo (arena l tab ends) (at cs) (at ds) x) e n), tt)
     where
       never : ClosedTo (arena l tab ends) (at cs) (at ds) false → Decided l tab n₁ n₂ false
       never n = never-decided l tab n₁ n₂ ends (g .ended) (n n₁ n₂ (g .classes))
 
   module _ (u : ClosedTo (arena l tab ends) (at cs) (at ds) true) (zs : List ℕ) (y : Sized l tab ends ds zs) (q : Descends (arena l tab ends) (at ds) (Unknown (at zs))) where
-    begun-solved : Known (arena l tab ends) (at zs) true → Solved l tab n₁ n₂ ends ds zs
+    begun-solved : SizesKnown (arena l tab ends) (at zs) true → Solved l tab n₁ n₂ ends ds zs
     begun-solved w =
         record {
           ended = g .ended;
@@ -99,13 +99,13 @@ module _ (l tab : List ℕ) (n₁ n₂ : ℕ) (h : n₁ < length l) (h′ : n₂
           known = w;
         }
 
-    circle : Known (arena l tab ends) (at zs) false → Never (arena l tab ends) n₁ n₂
+    circle : SizesKnown (arena l tab ends) (at zs) false → Never (arena l tab ends) n₁ n₂
     circle (i, b, e) = never-circle (arena l tab ends) n₁ n₂ (at ds) (y .ready .whole) (u .0 .classes n₁ n₂ (g .classes)) (Unknown (at zs)) q i b e
 
-    begun-outcome : (r : Bool) → Known (arena l tab ends) (at zs) r → Decided l tab n₁ n₂ r × Outcome l tab n₁ n₂ ends ds zs r
+    begun-outcome : (r : Bool) → SizesKnown (arena l tab ends) (at zs) r → Decided l tab n₁ n₂ r × SolvedIf l tab n₁ n₂ ends ds zs r
     begun-outcome true w = let k = begun-solved w in (solved-decided l tab n₁ n₂ ends ds zs k, k)
     begun-outcome false w = (never-decided l tab n₁ n₂ ends (g .ended) (circle w), tt)
 
   -- from what the calls answer
-  pub begun-answer : (b : Bool) → ClosedTo (arena l tab ends) (at cs) (at ds) b → b ≡ true → (zs : List ℕ) (r : Bool) → SizedTo l tab ends ds zs r → Decided l tab n₁ n₂ r × Outcome l tab n₁ n₂ ends ds zs r
+  pub begun-answer : (b : Bool) → ClosedTo (arena l tab ends) (at cs) (at ds) b → b ≡ true → (zs : List ℕ) (r : Bool) → SizedTo l tab ends ds zs r → Decided l tab n₁ n₂ r × SolvedIf l tab n₁ n₂ ends ds zs r
   begun-answer b u e zs r w = begun-outcome (subst (λ x. ClosedTo (arena l tab ends) (at cs) (at ds) x) e u) zs (w .sized) (w .descends) r (w .known)

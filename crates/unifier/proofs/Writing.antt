@@ -1,5 +1,5 @@
 -- The terms that nodes spell are written byte by byte: a root's byte, then its arguments, then the other terms. Assumes nothing.
--- Read first: specs/Written (put, Room, Writes), classes/specs/Arena (SpellsAll), classes/proofs/Arena.
+-- Read first: specs/Written (put, RoomFor, WritesTerms), classes/specs/Arena (SpellsAll), classes/proofs/Arena.
 use mathlib.Core.Path.{_≡_, refl, sym, ap, ap₂, subst, subst₂, _∙_}
 use mathlib.Core.List.{List, [], _∷_, _++_}
 use Prim.Native.Nat.{ℕ, zero, suc, _+_, _-_, _≤_, _<_}
@@ -13,7 +13,7 @@ use Rattle.terms.proofs.Scans.{owes-other}
 use Rattle.terms.proofs.Bytes.{length-bytes-all}
 use Rattle.classes.specs.Arena.{free, made, SpellsAll, none, more}
 use Rattle.classes.specs.Steps.{at, arena, Ready}
-use Rattle.unifier.specs.Written.{put, Room, Writes}
+use Rattle.unifier.specs.Written.{put, RoomFor, WritesTerms}
 use Rattle.classes.proofs.Arena.{spells-ones}
 
 pub put-append : (to : ℕ) (xs ys d : List ℕ) → put to (xs ++ ys) d ≡ put (to + length xs) ys (put to xs d)
@@ -55,7 +55,7 @@ first l tab ends cs p k us (more {ts = vs} (made {f = f} {ts = ts} h e q r) s) =
       number = omega arith;
     }
 
-pub writes-none : (l tab ends cs : List ℕ) (p k to : ℕ) (d : List ℕ) → Ready l tab ends cs → k ≡ 0 → Writes (arena l tab ends) (at cs) p k to d to d
+pub writes-none : (l tab ends cs : List ℕ) (p k to : ℕ) (d : List ℕ) → Ready l tab ends cs → k ≡ 0 → WritesTerms (arena l tab ends) (at cs) p k to d to d
 unfolding put terms-bytes sizes
 writes-none l tab ends cs p zero to d y e = record { ends = λ us s. nothing us s; bytes = λ us s. same-bytes us s; long = refl }
   where
@@ -70,7 +70,7 @@ first-at : (l tab ends cs : List ℕ) (p k : ℕ) → (k ≡ 0 → ⊥) → (us 
 first-at l tab ends cs p zero z us s = absurd (z refl)
 first-at l tab ends cs p (suc k) z us s = let e : suc k - 1 ≡ k = omega arith in rw e (first l tab ends cs p k us s)
 
-module _ (l tab ends cs : List ℕ) (p k to : ℕ) (d : List ℕ) (y : Ready l tab ends cs) (w : Room (arena l tab ends) (at cs) p k to d) (z : k ≡ 0 → ⊥) where
+module _ (l tab ends cs : List ℕ) (p k to : ℕ) (d : List ℕ) (y : Ready l tab ends cs) (w : RoomFor (arena l tab ends) (at cs) p k to d) (z : k ≡ 0 → ⊥) where
   abbrev F : First l tab ends cs p (k - 1) (w .0)
   F = first-at l tab ends cs p k z (w .0) (w .1)
 
@@ -94,11 +94,11 @@ module _ (l tab ends cs : List ℕ) (p k to : ℕ) (d : List ℕ) (y : Ready l t
     first-args =
         subst₂ (λ x m. SpellsAll (arena l tab ends) (at cs) x m (F .ts)) (ap suc (sym er) ∙ sym (add-one r)) (ap (λ x. owes tab (at l x)) (sym er) ∙ sym en) (F .args)
 
-    pub room-first : Room (arena l tab ends) (at cs) (r + 1) n (to + 1) (set d to (at l r))
+    pub room-first : RoomFor (arena l tab ends) (at cs) (r + 1) n (to + 1) (set d to (at l r))
     room-first =
         (F .ts, first-args, omega (arith, F .number, w .2, length-set d to (at l r)))
 
-    module _ (next : ℕ) (e : List ℕ) (g : Writes (arena l tab ends) (at cs) (r + 1) n (to + 1) (set d to (at l r)) next e) where
+    module _ (next : ℕ) (e : List ℕ) (g : WritesTerms (arena l tab ends) (at cs) (r + 1) n (to + 1) (set d to (at l r)) next e) where
       next-is : next ≡ to + 1 + sizes (F .ts)
       next-is = g .ends (F .ts) first-args
 
@@ -111,11 +111,11 @@ module _ (l tab ends cs : List ℕ) (p k to : ℕ) (d : List ℕ) (y : Ready l t
       rest-args : (q : ℕ) → q ≡ at ends p → SpellsAll (arena l tab ends) (at cs) q (k - 1) (F .vs)
       rest-args q eq = subst (λ x. SpellsAll (arena l tab ends) (at cs) x (k - 1) (F .vs)) (sym eq) (F .rest)
 
-      pub room-second : (q : ℕ) → q ≡ at ends p → Room (arena l tab ends) (at cs) q (k - 1) next e
+      pub room-second : (q : ℕ) → q ≡ at ends p → RoomFor (arena l tab ends) (at cs) q (k - 1) next e
       room-second q eq =
           (F .vs, rest-args q eq, omega (arith, next-is, next-long, F .number, w .2))
 
-      module _ (q : ℕ) (eq : q ≡ at ends p) (r′ : ℕ) (e′ : List ℕ) (h : Writes (arena l tab ends) (at cs) q (k - 1) next e r′ e′) where
+      module _ (q : ℕ) (eq : q ≡ at ends p) (r′ : ℕ) (e′ : List ℕ) (h : WritesTerms (arena l tab ends) (at cs) q (k - 1) next e r′ e′) where
         sizes-one : (us : Terms) → SpellsAll (arena l tab ends) (at cs) p k us → us ≡ w .0
         sizes-one us s = spells-ones (arena l tab ends) s (w .1)
 
@@ -132,7 +132,7 @@ module _ (l tab ends cs : List ℕ) (p k to : ℕ) (d : List ℕ) (y : Ready l t
             here : next ≡ suc to + length (terms-bytes (F .ts))
             here = omega (arith, next-is, length-bytes-all (F .ts))
 
-        pub writes-all : Writes (arena l tab ends) (at cs) p k to d r′ e′
+        pub writes-all : WritesTerms (arena l tab ends) (at cs) p k to d r′ e′
         writes-all =
             record {
               ends = λ us s. ends-at ∙ ap (λ x. to + sizes x) (sym (sizes-one us s));

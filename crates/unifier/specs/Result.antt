@@ -10,9 +10,9 @@ use Rattle.terms.specs.Term.{Term, Terms, term-bytes, terms-bytes, subterm-in}
 use Rattle.terms.specs.Scan.{skip, count}
 use Rattle.terms.specs.Flat.{Wf, Wfs}
 use Rattle.unify.specs.Unify.{mgu}
-use Rattle.classes.specs.Arena.{Classes, Closed}
+use Rattle.classes.specs.Arena.{Classes, AllClosed}
 use Rattle.classes.specs.Steps.{at, Each, arena, Ready}
-use Rattle.sizing.specs.Sizes.{Sized, Known}
+use Rattle.sizing.specs.Sizes.{Sized, SizesKnown}
 
 -- the arena holds the terms ts, one after the other
 pub record Laid (l tab : List ℕ) (ts : Terms) : Type 0 where
@@ -29,7 +29,7 @@ pub record Formed (tab : List ℕ) (b have r : ℕ) : Type 0 where
   pub none : r ≡ 0 → (ts : Terms) → Wfs 32 tab ts → count ts ≡ have → (u : Term) (rest : List ℕ) → Wf 32 tab u → b ∷ terms-bytes ts ≡ term-bytes u ++ rest → ⊥
 
 -- whether the bytes are those of terms with variables below 32
-pub record Tested (l tab : List ℕ) (r : Bool) : Type 0 where
+pub record IsTerms (l tab : List ℕ) (r : Bool) : Type 0 where
   pub sound : r ≡ true → (ts : Terms) × (Wfs 32 tab ts × (l ≡ terms-bytes ts))
   pub complete : (ts : Terms) → Wfs 32 tab ts → l ≡ terms-bytes ts → r ≡ true
 
@@ -57,7 +57,7 @@ pub record Firsts (l firsts : List ℕ) (i : ℕ) : Type 0 where
   pub some : (b : ℕ) → 128 ≤ b → (at firsts b ≡ 0 → ⊥) → (at firsts b ≤ i) × (at l (at firsts b - 1) ≡ b) × ((j : ℕ) → j + 1 < at firsts b → at l j ≡ b → ⊥)
 
 -- the classes when the terms at nodes n₁ and n₂ have been joined
-pub record Begun (l tab : List ℕ) (n₁ n₂ : ℕ) (ends cs : List ℕ) : Type 0 where
+pub record Joined (l tab : List ℕ) (n₁ n₂ : ℕ) (ends cs : List ℕ) : Type 0 where
   pub ended : Each (EndAt l tab) ends (length l)
   pub ready : Ready l tab ends cs
   pub classes : Classes (arena l tab ends) n₁ n₂ (at cs)
@@ -68,13 +68,13 @@ pub record Solved (l tab : List ℕ) (n₁ n₂ : ℕ) (ends cs zs : List ℕ) :
   pub ended : Each (EndAt l tab) ends (length l)
   pub sized : Sized l tab ends cs zs
   pub classes : Classes (arena l tab ends) n₁ n₂ (at cs)
-  pub closed : Closed (arena l tab ends) (at cs)
+  pub closed : AllClosed (arena l tab ends) (at cs)
   pub started : at cs n₁ ≡ at cs n₂
-  pub known : Known (arena l tab ends) (at zs) true
+  pub known : SizesKnown (arena l tab ends) (at zs) true
 
-abbrev pub Outcome : List ℕ → List ℕ → ℕ → ℕ → List ℕ → List ℕ → List ℕ → Bool → Type 0
-Outcome l tab n₁ n₂ ends cs zs true = Solved l tab n₁ n₂ ends cs zs
-Outcome l tab n₁ n₂ ends cs zs false = Unit {0}
+abbrev pub SolvedIf : List ℕ → List ℕ → ℕ → ℕ → List ℕ → List ℕ → List ℕ → Bool → Type 0
+SolvedIf l tab n₁ n₂ ends cs zs true = Solved l tab n₁ n₂ ends cs zs
+SolvedIf l tab n₁ n₂ ends cs zs false = Unit {0}
 
 -- the answer is whether the terms at n₁ and n₂ have a unifier
 abbrev pub Decided : List ℕ → List ℕ → ℕ → ℕ → Bool → Type 0

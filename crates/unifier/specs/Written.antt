@@ -12,11 +12,11 @@ unfoldable pub put : ℕ → List ℕ → List ℕ → List ℕ
 put to bs d = sets d to bs
 
 -- there is room for the k terms that are spelt from node p on
-abbrev pub Room : Arena → (ℕ → ℕ) → ℕ → ℕ → ℕ → List ℕ → Type 0
-Room A c p k to d = (us : Terms) × SpellsAll A c p k us × (to + sizes us ≤ length d)
+abbrev pub RoomFor : Arena → (ℕ → ℕ) → ℕ → ℕ → ℕ → List ℕ → Type 0
+RoomFor A c p k to d = (us : Terms) × SpellsAll A c p k us × (to + sizes us ≤ length d)
 
 -- they were written into d, which is now e, and r is where they end
-pub record Writes (A : Arena) (c : ℕ → ℕ) (p k to : ℕ) (d : List ℕ) (r : ℕ) (e : List ℕ) : Type 0 where
+pub record WritesTerms (A : Arena) (c : ℕ → ℕ) (p k to : ℕ) (d : List ℕ) (r : ℕ) (e : List ℕ) : Type 0 where
   pub ends : (us : Terms) → SpellsAll A c p k us → r ≡ to + sizes us
   pub bytes : (us : Terms) → SpellsAll A c p k us → e ≡ put to (terms-bytes us) d
   pub long : length e ≡ length d

@@ -4,8 +4,8 @@ mod start;
 ghost use Prim.Native.Nat.{_<_, _≤_};
 ghost use lib.ListN.{length};
 ghost use Rattle.classes.specs.Steps.{at, arena, Ready};
-ghost use Rattle.unifier.specs.Result.{LaidOut, Outcome, Decided, Formed, Tested};
-ghost use Rattle.unifier.specs.Written.{Room, Writes};
+ghost use Rattle.unifier.specs.Result.{LaidOut, SolvedIf, Decided, Formed, IsTerms};
+ghost use Rattle.unifier.specs.Written.{RoomFor, WritesTerms};
 
 // Whether the terms at nodes a and b have a unifier; then the classes and sizes of the most general one are left behind.
 pub fn unify(
@@ -20,7 +20,7 @@ pub fn unify(
     requires { ⌜ (length (now nodes) ≤ 600) × (length (now nodes) ≤ length (now ends)) × (length (now nodes) ≤ length (now class)) × (length (now nodes) ≤ length (now sizes)) ⌝ }
     requires { ⌜ LaidOut (now nodes) (now table) × (a < length (now nodes)) × (b < length (now nodes)) ⌝ }
     ensures { λ r. ⌜ Decided (now (nodes .entry)) (now (table .entry)) a b r ⌝ }
-    ensures { λ r. ⌜ Outcome (now (nodes .entry)) (now (table .entry)) a b (now (ends .exit)) (now (class .exit)) (now (sizes .exit)) r ⌝ }
+    ensures { λ r. ⌜ SolvedIf (now (nodes .entry)) (now (table .entry)) a b (now (ends .exit)) (now (class .exit)) (now (sizes .exit)) r ⌝ }
 {
     start::begin(nodes, table, a, b, ends, class);
     if classes::close(nodes, table, ends, class) {
@@ -53,7 +53,7 @@ fn formed(table: &[u8], b: u8, have: usize) -> usize
 // Whether the bytes are those of terms, one after the other, with variables below 32: a walk from the last byte to the first.
 pub fn laid_out(nodes: &[u8], table: &[u8]) -> bool
     requires { ⌜ length (now nodes) ≤ 600 ⌝ }
-    ensures { λ r. ⌜ Tested (now (nodes .entry)) (now (table .entry)) r ⌝ }
+    ensures { λ r. ⌜ IsTerms (now (nodes .entry)) (now (table .entry)) r ⌝ }
 {
     let mut have = 0;
     let mut i = nodes.len();
@@ -67,7 +67,7 @@ pub fn laid_out(nodes: &[u8], table: &[u8]) -> bool
     true
 }
 
-// Writes the instances of k terms from node p on, and answers where they end.
+// WritesTerms the instances of k terms from node p on, and answers where they end.
 pub fn write(
     nodes: &[u8],
     table: &[u8],
@@ -79,8 +79,8 @@ pub fn write(
     to: usize,
 ) -> usize
     requires { ⌜ Ready (now nodes) (now table) (now ends) (now class) ⌝ }
-    requires { ⌜ Room (arena (now nodes) (now table) (now ends)) (at (now class)) p k to (now out) ⌝ }
-    ensures { λ r. ⌜ Writes (arena (now (nodes .entry)) (now (table .entry)) (now (ends .entry))) (at (now (class .entry))) p k to (now (out .entry)) r (now (out .exit)) ⌝ }
+    requires { ⌜ RoomFor (arena (now nodes) (now table) (now ends)) (at (now class)) p k to (now out) ⌝ }
+    ensures { λ r. ⌜ WritesTerms (arena (now (nodes .entry)) (now (table .entry)) (now (ends .entry))) (at (now (class .entry))) p k to (now (out .entry)) r (now (out .exit)) ⌝ }
 {
     if k == 0 {
         return to;

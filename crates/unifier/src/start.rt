@@ -4,7 +4,7 @@ ghost use Prim.Native.Nat.{_+_, _<_, _≤_};
 ghost use lib.ListN.{length, drop};
 ghost use Rattle.terms.specs.Scan.{skip};
 ghost use Rattle.classes.specs.Steps.{Each};
-ghost use Rattle.unifier.specs.Result.{LaidOut, EndAt, EndsFrom, FirstClass, Firsts, Begun};
+ghost use Rattle.unifier.specs.Result.{LaidOut, EndAt, EndsFrom, FirstClass, Firsts, Joined};
 
 // Where k subterms end that stand one after the other from p on, by the ends of the nodes there.
 fn hop(nodes: &[u8], table: &[u8], ends: &[u16], p: usize, k: usize) -> usize
@@ -74,7 +74,7 @@ fn fill_class(nodes: &[u8], class: &mut [u16])
 pub fn begin(nodes: &[u8], table: &[u8], a: usize, b: usize, ends: &mut [u16], class: &mut [u16])
     requires { ⌜ (length (now nodes) ≤ 600) × (length (now nodes) ≤ length (now ends)) × (length (now nodes) ≤ length (now class)) ⌝ }
     requires { ⌜ LaidOut (now nodes) (now table) × (a < length (now nodes)) × (b < length (now nodes)) ⌝ }
-    ensures { λ r. ⌜ Begun (now (nodes .entry)) (now (table .entry)) a b (now (ends .exit)) (now (class .exit)) ⌝ }
+    ensures { λ r. ⌜ Joined (now (nodes .entry)) (now (table .entry)) a b (now (ends .exit)) (now (class .exit)) ⌝ }
 {
     fill_ends(nodes, table, ends);
     fill_class(nodes, class);

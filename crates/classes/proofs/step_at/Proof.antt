@@ -1,6 +1,6 @@
 -- `step_at`: its own root (`root-closed`) and a variable are closed, another symbol at the root is a clash (`ready-clash`), else the arguments decide
 -- (`ready-step`). Assumes nothing.
--- Read first: specs/Steps (StepAt), proofs/Walks.
+-- Read first: specs/Steps (StepIs), proofs/Walks.
 use Rattle.classes.proofs.Walks.{root-closed, ready-within, ready-clash, ready-arguments, ready-step}
 use native.Mathlib.Omega.{arith}
 use borrow.Author.Needs.{needs}

@@ -1,5 +1,5 @@
 -- `put_run`: the two parts of the run that are put are its first m bytes and the others, by `run-holds`. Assumes nothing.
--- Read first: `put_run` in src/lib.rt, store/specs/Slots (Holds, OnlySlot), proofs/Placing.
+-- Read first: `put_run` in src/lib.rt, store/specs/Slots (SlotHolds, OnlySlot), proofs/Placing.
 use Rattle.inputs.proofs.Placing.{run-holds}
 use borrow.Author.Needs.{needs}
 use Rattle.inputs.proofs.put_run.Statement.{statement}

@@ -1,5 +1,5 @@
 -- `make_rule`: a lemma for each return: an end of `place`, or what `with_rule` answers. Assumes nothing.
--- Read first: specs/Made (Makes, WithRule), orient/specs/Oriented (Placed), proofs/Parts.
+-- Read first: specs/Made (Makes, WithRule), orient/specs/Oriented (RulePlaced), proofs/Parts.
 use mathlib.Core.Path.{refl}
 use Rattle.making.proofs.Keeping.{stops}
 use Rattle.making.proofs.Parts.{one-slot, makes-unplaced, makes-with}

@@ -1,6 +1,6 @@
 -- `contract`: the invariant is that what is in the buffer and the pieces from i on are all pieces; the right side's rest falls. Assumes nothing.
--- Read first: specs/Pieces (pieces, Put), proofs/Filling (Filled).
-use Rattle.matching.proofs.Filling.{Filled, fill-start, fill-on, fill-over, fill-done}
+-- Read first: specs/Pieces (pieces, Put), proofs/Filling (PutSoFar).
+use Rattle.matching.proofs.Filling.{PutSoFar, fill-start, fill-on, fill-over, fill-done}
 use lib.ListN.{length}
 use Prim.Native.Nat.{_-_}
 use borrow.Author.Needs.{needs}
@@ -12,7 +12,7 @@ use Rattle.matching.proofs.put_piece.Reads as put-piece-reads
 use Rattle.matching.proofs.put_run.Reads as put-run-reads
 
 abbrev Inv-loop : tie.InvT-loop
-Inv-loop out₀ most right t end binds i₀ w₀ out i w = Filled t binds right out₀ out most i w
+Inv-loop out₀ most right t end binds i₀ w₀ out i w = PutSoFar t binds right out₀ out most i w
 
 abbrev μ-loop : tie.MeasureT-loop
 μ-loop out₀ most right t end binds i₀ w₀ out i w = length right - i

@@ -1,5 +1,5 @@
 -- `leave`: beyond `len` (`leave-long`), or the end that the cell says (`leave-done`). Assumes nothing.
--- Read first: specs/Settled (Left), proofs/Settling.
+-- Read first: specs/Settled (LeftNormal), proofs/Settling.
 use Rattle.normaliser.proofs.Settling.{leave-long, leave-done}
 use borrow.Author.Needs.{needs}
 use Rattle.normaliser.proofs.leave.Statement.{statement}

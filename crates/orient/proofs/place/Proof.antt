@@ -1,5 +1,5 @@
 -- `place`: a lemma for each return: too many variables (22), left above right, right above left, neither above (20). Assumes nothing.
--- Read first: specs/Oriented (Placed, OrientedIs), proofs/Placing.
+-- Read first: specs/Oriented (RulePlaced, OrientedIs), proofs/Placing.
 use Rattle.orient.proofs.Placing.{swap-in, place-many, place-left, place-right, place-neither}
 use native.Mathlib.Omega.{arith}
 use borrow.Author.Needs.{needs}

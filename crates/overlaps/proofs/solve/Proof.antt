@@ -1,5 +1,5 @@
 -- `solve`: parts of its buffers as long as the nodes are enough for `solve_in`, whose answer it passes on. Assumes nothing.
--- Read first: specs/Answer (Solves), proofs/Solving.
+-- Read first: specs/Answer (SolvesAt), proofs/Solving.
 use Rattle.overlaps.proofs.Solving.{part-long}
 use borrow.Author.Needs.{needs}
 use Rattle.overlaps.proofs.solve.Statement.{statement}

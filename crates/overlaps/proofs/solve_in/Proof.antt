@@ -1,6 +1,6 @@
 -- `solve_in`: bytes of no terms (`solve-bad`), no unifier (`solve-never`), or by what `place` answers of the instances (`solve-found`,
 -- `solve-large`). Assumes nothing.
--- Read first: specs/Answer (Solves), proofs/Solving.
+-- Read first: specs/Answer (SolvesAt), proofs/Solving.
 use Rattle.overlaps.proofs.Solving.{tested-out, tested-low, solve-bad, solve-never, solve-found, solve-large}
 use Rattle.unifier.proofs.Verdict.{outcome-solved}
 use native.Mathlib.Omega.{arith}

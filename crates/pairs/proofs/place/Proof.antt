@@ -1,5 +1,5 @@
 -- `place`: a lemma for each return: the peak, the left or the right side too large, or the pair written. Assumes nothing.
--- Read first: specs/Placed (Placed), proofs/Placing.
+-- Read first: specs/Placed (PairPlaced), proofs/Placing.
 use Rattle.pairs.proofs.Placing.{pair-small, place-peak, place-left, place-right, place-found}
 use native.Mathlib.Omega.{arith}
 use borrow.Author.Needs.{needs}

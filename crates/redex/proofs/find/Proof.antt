@@ -1,5 +1,5 @@
 -- `find`: the invariant is that the rules from k on decide the step as all do; the rules to come fall. Assumes nothing.
--- Read first: specs/Step (Found), proofs/Choosing (Searching).
+-- Read first: specs/Step (FoundRule), proofs/Choosing (Searching).
 use Rattle.redex.proofs.Choosing.{Searching, search-start, search-end, search-on, search-hit, layout-front}
 use native.Mathlib.Omega.{arith}
 use Prim.Native.Nat.{_-_}

@@ -1,5 +1,5 @@
 -- `ended`: what a stopped turn leaves, and the units paid, which `paid` answers. Assumes nothing.
--- Read first: specs/Runs (Ends), `ended` in src/lib.rt.
+-- Read first: specs/Runs (EndedWith), `ended` in src/lib.rt.
 use borrow.Author.Needs.{needs}
 use Rattle.run.proofs.ended.Statement.{statement}
 use Rattle.run.proofs.ended.Tie as tie

@@ -1,5 +1,5 @@
 -- `scan`: all rules, then the input equations, are the definition's `scan`, by `all-parts` and `scanned`. Assumes nothing.
--- Read first: specs/Walk (Scanned), proofs/Going, proofs/Inputs.
+-- Read first: specs/Walk (ScanIs), proofs/Going, proofs/Inputs.
 use Rattle.rewriting.specs.Rewrite.{end-number}
 use Rattle.scan.proofs.Inputs.{all-parts, rules-walk, inputs-walk, scanned}
 use Rattle.scan.proofs.Going.{going-start, going-on, going-stop, going-then, still-fits}

@@ -5,7 +5,7 @@ use Rattle.redex.proofs.Choosing.{layout-below}
 use Rattle.rewriting.specs.Rewrite.{end-number}
 use Rattle.scan.proofs.Inputs.{inputs-more, inputs-over, input-walk}
 use Rattle.scan.proofs.Going.{Going, going-start, going-on, going-stop, going-end, still-fits}
-use Rattle.scan.specs.Walk.{Given, of-inputs}
+use Rattle.scan.specs.Walk.{InSlots, of-inputs}
 use borrow.Author.Needs.{needs}
 use Rattle.scan.proofs.scan_inputs.Statement.{statement}
 use Rattle.scan.proofs.scan_inputs.Tie as tie
@@ -17,7 +17,7 @@ use Rattle.joining.proofs.stopped.Reads as stopped-reads
 
 abbrev Inv-loop : tie.InvT-loop
 Inv-loop rules lens count table inputs sizes number left₀ right₀ units u₀ k₀ left right u k =
-    Going (Given table rules lens count inputs sizes number) (of-inputs 0) left₀ right₀ left right units (of-inputs k) u
+    Going (InSlots table rules lens count inputs sizes number) (of-inputs 0) left₀ right₀ left right units (of-inputs k) u
 
 abbrev μ-loop : tie.MeasureT-loop
 μ-loop rules lens count table inputs sizes number left₀ right₀ units u₀ k₀ left right u k =

@@ -1,17 +1,17 @@
 -- `clear`: the invariant is that the first i entries are 0; n - i falls. Assumes nothing.
--- Read first: classes/specs/Steps (Each), classes/proofs/Filled.
+-- Read first: classes/specs/Steps (Each), classes/proofs/FilledTo.
 use borrow.Author.Needs.{needs}
 use Prim.Native.Nat.{_-_}
 use mathlib.Core.Path.{_≡_, refl}
 use native.Mathlib.Omega.{arith}
-use Rattle.classes.proofs.Filled.{Filled, filled-start, filled-more, filled-end}
+use Rattle.classes.proofs.Filled.{FilledTo, filled-start, filled-more, filled-end}
 use Rattle.sizing.proofs.clear.Statement.{statement}
 use Rattle.sizing.proofs.clear.Tie as tie
 use Rattle.sizing.proofs.clear.Reads as reads
 use Rattle.sizing.proofs.clear.Lts as lts
 
 abbrev Inv-loop : tie.InvT-loop
-Inv-loop sizes₀ n i₀ sizes i = Filled (λ j b. b ≡ 0) sizes₀ sizes i
+Inv-loop sizes₀ n i₀ sizes i = FilledTo (λ j b. b ≡ 0) sizes₀ sizes i
 
 abbrev μ-loop : tie.MeasureT-loop
 μ-loop sizes₀ n i₀ sizes i = n - i

@@ -1,5 +1,5 @@
 -- `put`: two pastes and two lengths make slot k hold the pair, and no other slot changes: `put-holds`, `put-only`. Assumes nothing.
--- Read first: specs/Slots (Holds, OnlySlot), proofs/Slotting.
+-- Read first: specs/Slots (SlotHolds, OnlySlot), proofs/Slotting.
 use Rattle.store.proofs.Slotting.{put-holds, put-only}
 use lib.ListN.{length-set}
 use native.Mathlib.Omega.{arith}

@@ -1,5 +1,5 @@
 -- `turn_scan`: the scan stops (`scan-stopped`), or finds a pair of which a rule is made (`scan-made`). Assumes nothing.
--- Read first: specs/Turns (ScanTurn), scan/specs/Walk (Scanned), proofs/Whole.
+-- Read first: specs/Turns (ScanTurn), scan/specs/Walk (ScanIs), proofs/Whole.
 use lib.ListN.{length}
 use mathlib.Core.Path.{_≡_, refl}
 use native.Mathlib.Omega.{arith}

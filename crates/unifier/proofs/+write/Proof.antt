@@ -1,6 +1,6 @@
 -- `write` calls itself for the arguments of a root and for the other terms; the room behind `to` falls, since each call writes a byte. Assumes
 -- nothing.
--- Read first: specs/Written (Room, Writes), proofs/Writing.
+-- Read first: specs/Written (RoomFor, WritesTerms), proofs/Writing.
 use borrow.Author.Needs.{needs}
 use Prim.Native.Nat.{ℕ, _<_, _-_}
 use native.Mathlib.Omega.{arith}

@@ -1,5 +1,5 @@
 -- `laid_out`: the invariant is that the bytes from i on are those of `have` terms; i falls. Assumes nothing.
--- Read first: specs/Result (Tested), proofs/Laying (Forest).
+-- Read first: specs/Result (IsTerms), proofs/Laying (Forest).
 use native.Mathlib.Omega.{arith}
 use Rattle.unifier.proofs.Laying.{Forest, forest-start, forest-more, forest-bad, forest-done}
 use borrow.Author.Needs.{needs}

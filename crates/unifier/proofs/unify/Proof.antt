@@ -1,6 +1,6 @@
 -- `unify`: the two terms are joined and the classes closed; a clash, or a size that stays unknown, means no unifier, else it is solved. Assumes
 -- nothing.
--- Read first: specs/Result (Begun, Decided, Outcome), proofs/Verdict.
+-- Read first: specs/Result (Joined, Decided, SolvedIf), proofs/Verdict.
 use Rattle.unifier.proofs.Verdict.{begun-never, begun-answer}
 use borrow.Author.Needs.{needs}
 use Rattle.unifier.proofs.unify.Statement.{statement}

@@ -1,5 +1,5 @@
 -- `State::begin`: two pastes and the numbered origins are the first state, by `begin-done`. Assumes nothing.
--- Read first: specs/Steps (Begun), proofs/Beginning.
+-- Read first: specs/Steps (FirstState), proofs/Beginning.
 use mathlib.Core.Path.{_≡_}
 use lib.ListN.{length}
 use Rattle.engine.proofs.Beginning.{begin-done}

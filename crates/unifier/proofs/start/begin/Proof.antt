@@ -1,5 +1,5 @@
 -- `begin`: from right ends and first classes, with two of them joined, unification can go on (`begun`). Assumes nothing.
--- Read first: specs/Result (Begun), proofs/Starting.
+-- Read first: specs/Result (Joined), proofs/Starting.
 use Rattle.unifier.proofs.Starting.{begin-requires, begun}
 use native.Mathlib.Omega.{arith}
 use borrow.Author.Needs.{needs}

@@ -1,6 +1,6 @@
 -- `fill_ends`: from the last node to the first; the invariant is that the nodes from i on have their ends, and i falls. Assumes nothing.
--- Read first: specs/Result (EndAt, EndsFrom), proofs/Ending (Ended).
-use Rattle.unifier.proofs.Ending.{Ended, end-node, ended-start, ended-later, ended-less, ended-all}
+-- Read first: specs/Result (EndAt, EndsFrom), proofs/Ending (EndsSoFar).
+use Rattle.unifier.proofs.Ending.{EndsSoFar, end-node, ended-start, ended-later, ended-less, ended-all}
 use native.Mathlib.Omega.{arith}
 use borrow.Author.Needs.{needs}
 use Rattle.unifier.proofs.start.fill_ends.Statement.{statement}
@@ -11,7 +11,7 @@ use Rattle.terms.proofs.owed_by.Reads as owed-by-reads
 use Rattle.unifier.proofs.start.hop.Reads as hop-reads
 
 abbrev Inv-loop : tie.InvT-loop
-Inv-loop nodes table ends₀ i₀ ends i = Ended nodes table ends₀ ends i
+Inv-loop nodes table ends₀ i₀ ends i = EndsSoFar nodes table ends₀ ends i
 
 abbrev μ-loop : tie.MeasureT-loop
 μ-loop nodes table ends₀ i₀ ends i = i
