@@ -1,21 +1,19 @@
 -- Bytes that begin with those of terms: their first byte, their first term and what is behind it. Assumes nothing.
 -- Read first: specs/Flat, proofs/Flats.
 use mathlib.Core.Path.{_≡_, refl, ap, sym, _∙_}
-use mathlib.Core.Bool.{Bool, true}
 use mathlib.Core.List.{List, [], _∷_, _++_, append-assoc}
 use mathlib.Core.Option.{some}
 use Prim.Native.Nat.{ℕ, _+_, _-_, _<_, _≤_}
 use native.Mathlib.Omega.{arith}
 use native.Mathlib.Nat.{zero-add}
 use lib.ListN.{length, getD, take, drop, length-drop}
-use lib.Seq.{take-all, take-at, drop-at}
-use Rattle.terms.specs.Term.{Term, var, node, Terms, nil, cons, term-bytes, terms-bytes, size, same, subterm-at}
+use lib.Seq.{take-all, drop-at}
+use Rattle.terms.specs.Term.{Term, var, node, Terms, nil, cons, term-bytes, terms-bytes, size, subterm-at}
 use Rattle.terms.specs.Scan.{count, owes, skip}
-use Rattle.terms.specs.Flat.{Wf, Starts, StartAll, IsSame}
+use Rattle.terms.specs.Flat.{Wf, Starts, StartAll}
 use Rattle.terms.proofs.Bytes.{length-bytes, around}
-use Rattle.terms.proofs.Shape.{dec-agree, same-dec}
 use Rattle.terms.proofs.Scans.{owes-symbol}
-use Rattle.terms.proofs.Flats.{skip-term, unique, wf-subterm}
+use Rattle.terms.proofs.Flats.{skip-term, wf-subterm}
 
 -- what the walk says of bytes, said of a term
 pub ends-term : (tab t : List ℕ) (at r : ℕ) → r ≡ at + skip tab (drop at t) 1 → (x : Term) → Starts tab (drop at t) x → r ≡ at + size x
@@ -27,20 +25,6 @@ IsEnd tab s e = (x : Term) → Starts tab (drop 0 s) x → e ≡ 0 + size x
 
 pub ended : (tab s : List ℕ) (e : ℕ) (x : Term) → IsEnd tab s e → Starts tab s x → e ≡ size x
 ended tab s e x h b = h x b ∙ zero-add (size x)
-
-part-term : (tab s : List ℕ) (e : ℕ) (x : Term) → Starts tab s x → e ≡ size x → take (e - 0) (drop 0 s) ≡ term-bytes x
-part-term tab s e x b h =
-    let n : length (term-bytes x) ≡ e - 0 = omega (arith, length-bytes x) in
-    rw (b .bytes) (take-at (term-bytes x) (b .rest) (e - 0) n)
-
-pub same-terms : (tab s t : List ℕ) (e f : ℕ) (r : Bool) → IsEnd tab s e → IsEnd tab t f →
-    (r ≡ true → take (e - 0) (drop 0 s) ≡ take (f - 0) (drop 0 t)) × (take (e - 0) (drop 0 s) ≡ take (f - 0) (drop 0 t) → r ≡ true) → IsSame tab s t r
-same-terms tab s t e f r p q h x y b d =
-    let u = part-term tab s e x b (ended tab s e x p b) in
-    let v = part-term tab t f y d (ended tab t f y q d) in
-    dec-agree r (same x y)
-    (λ k. unique 32 tab x y [] [] (b .wf) (d .wf) (ap (λ (l : List ℕ). l ++ []) (sym u ∙ h .0 k ∙ v)) .0, λ k. h .1 (u ∙ ap term-bytes k ∙ sym v))
-    (same-dec x y)
 
 -- the part of l from e on, as the code's &l[e..] is
 abbrev pub from : List ℕ → ℕ → List ℕ
