@@ -8,10 +8,9 @@ use native.Mathlib.Omega.{arith}
 use lib.ListN.{length, getD, List·getD-eq-default}
 use borrow.Author.Tests.{lt-ltb, le-ltb, eq-eqb, ne-eqb}
 use Rattle.terms.specs.Base.{if_then_else_}
-use Rattle.terms.specs.Term.{Term, var, node, Terms, nil, cons, term-bytes, size, same}
+use Rattle.terms.specs.Term.{Term, node, Terms, nil, cons, size, same}
 use Rattle.terms.specs.Scan.{count, owes}
 use Rattle.terms.specs.Flat.{Starts, StartAll, IsSame}
-use Rattle.terms.proofs.Shape.{dec-agree, dec-false, same-dec}
 use Rattle.terms.proofs.Starts.{from, head-var, head-node, first, none-left, starts-some, IsEnd, ended}
 use Rattle.order.specs.Order.{same-length, above, some-reaches, comparison}
 use Rattle.order.specs.Walk.{rank, all-above, walked, IsAbove, IsSome, IsAll, IsWalk, IsCompared}
@@ -62,22 +61,6 @@ module _ (tab : List ℕ) (f : ℕ) (ss : Terms) (g : ℕ) (ts : Terms) where
   fast-same : f ≡ g → count ss ≡ count ts → above (rank tab) (node f ss) (node g ts) ≡ walked tab (node f ss) (node g ts) ss ts
   unfolding step? if_then_else_
   fast-same e n = sym (step-agrees (rank tab) (node f ss) (node g ts)) ∙ rw (eq-eqb f g e) (walk-is tab (node f ss) (node g ts) ss ts n)
-
--- `same_by_root` returns
-same-root : (tab s t : List ℕ) (x : Term) → Starts tab s x → Starts tab t x → getD s 0 0 ≡ getD t 0 0
-unfolding term-bytes
-same-root tab s t (var a) b d = ap (λ (l : List ℕ). getD l 0 0) (b .bytes) ∙ sym (ap (λ (l : List ℕ). getD l 0 0) (d .bytes))
-same-root tab s t (node f ts) b d = ap (λ (l : List ℕ). getD l 0 0) (b .bytes) ∙ sym (ap (λ (l : List ℕ). getD l 0 0) (d .bytes))
-
-module _ (tab s t : List ℕ) where
-  pub same-no-left : length s ≡ 0 → IsSame tab s t false
-  same-no-left h x y b d = absurd (starts-some tab s x b h)
-
-  pub same-no-right : length t ≡ 0 → IsSame tab s t false
-  same-no-right h x y b d = absurd (starts-some tab t y d h)
-
-  pub roots-differ : (getD s 0 0 ≡ getD t 0 0 → ⊥) → IsSame tab s t false
-  roots-differ h x y b d = dec-agree false (same x y) (dec-false (λ e. h (same-root tab s t y (rw e at b) d))) (same-dec x y)
 
 -- `above` returns
 module _ (tab s t : List ℕ) where
