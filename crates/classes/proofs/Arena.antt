@@ -1,4 +1,4 @@
--- AllClosed classes whose nodes all spell terms give a most general unifier, and its instances are those terms. Assumes nothing. Two symbols in one
+-- Closed classes whose nodes all spell terms give a most general unifier, and its instances are those terms. Assumes nothing. Two symbols in one
 -- class (clash), or classes that go round in a circle (occurs check), leave no unifier.
 -- Read first: specs/Arena.
 use mathlib.Core.Path.{_≡_, refl, sym, ap, ap₂, subst, _∙_}

@@ -1,4 +1,4 @@
--- Two terms in one arena of n nodes: byte i is the byte of node i, arity f the arguments of symbol f, end i the node after the subterm of node i.
+-- Terms in an arena of n nodes: byte i is the byte of node i, arity f the arguments of symbol f, end i the node after the subterm of node i.
 -- The arguments of node i are at suc i, end (suc i), end (end (suc i)) .. Classes of nodes are given by a function c to their roots.
 -- Assumes nothing.
 use mathlib.Core.Path.{_≡_}

@@ -6,7 +6,7 @@ ghost use lib.ListN.{length};
 ghost use Rattle.classes.specs.Steps.{at, arena, Ready, SpellsSome, Apart, StepIs, key, relabelled, joined, ClosedTo};
 
 pub enum Step {
-    // The classes are closed.
+    // Nothing is to be joined here.
     Done,
     // Two symbols meet in a class.
     Clash,

@@ -16,7 +16,7 @@ use Rattle.rewriting.proofs.Finite.{lhs, rhs}
 use Rattle.rewriting.proofs.Covers.{sides-at, all-places-cover}
 use Rattle.rewriting.proofs.Holds.{reached-star}
 use Rattle.problem.specs.Problem.{ok, Equation, Problem, parse}
-use Rattle.completion.specs.Delivery.{Delivered, delivered-rules}
+use Rattle.rewriting.specs.Rewrite.{complete}
 use Rattle.completion.specs.Turn.{Origin, scanned-input, candidates, run}
 use Rattle.completion.proofs.Words.{equation-sides}
 use Rattle.completion.proofs.Ends.{SameForm, SameAt, SameCandidate, Certified}
@@ -43,8 +43,7 @@ inputs-join rules origin k (e ∷ es) (of-cons j h) zero lt = renamed-joins (Of 
 inputs-join rules origin k (e ∷ es) (of-cons j h) (suc i) lt = inputs-join rules origin (suc k) es h i (omega arith)
 
 -- A run that ends complete leaves a certificate for its rules.
-pub run-certificate : (bytes : List ℕ) (P : Problem) → parse bytes ≡ ok P → Delivered P → Certificate (P .symbols) (P .equations) (delivered-rules P)
-unfolding Delivered delivered-rules
+pub run-certificate : (bytes : List ℕ) (P : Problem) → parse bytes ≡ ok P → run P .end ≡ complete → Certificate (P .symbols) (P .equations) (run P .state .rules)
 run-certificate bytes P read d =
     let given : OverEquations (P .symbols) (P .equations) = accepts bytes P read .equations-over in
     let rules : List Rule = run P .state .rules in

@@ -5,10 +5,11 @@ use mathlib.Core.Path.{_≡_}
 use mathlib.Core.List.{List}
 use Prim.Native.Nat.{ℕ}
 use Rattle.problem.specs.Problem.{ok, Problem, parse}
-use Rattle.completion.specs.Delivery.{Delivered, delivered-rules}
+use Rattle.rewriting.specs.Rewrite.{complete}
+use Rattle.completion.specs.Turn.{run}
 use Rattle.completion.specs.Settles.{Settles}
 use Rattle.completion.proofs.Certificate.{certificate-settles}
 use Rattle.completion.proofs.AtEnd.{run-certificate}
 
-pub delivered : (bytes : List ℕ) (P : Problem) → parse bytes ≡ ok P → Delivered P → Settles (P .symbols) (P .equations) (delivered-rules P)
-delivered bytes P e d = certificate-settles (P .symbols) (P .equations) (delivered-rules P) (run-certificate bytes P e d)
+pub delivered : (bytes : List ℕ) (P : Problem) → parse bytes ≡ ok P → run P .end ≡ complete → Settles (P .symbols) (P .equations) (run P .state .rules)
+delivered bytes P e d = certificate-settles (P .symbols) (P .equations) (run P .state .rules) (run-certificate bytes P e d)

@@ -19,7 +19,6 @@ use Rattle.problem.specs.Problem.{ok, Problem, parse}
 use Rattle.problem.proofs.Reading.{from-bind, ok-injective}
 use Rattle.completion.specs.Turn.{Entry, run}
 use Rattle.completion.specs.Calls.{rule-field, entry-field, forms-field, result-fields, result-bytes, complete-call}
-use Rattle.completion.specs.Delivery.{Delivered, delivered-rules}
 use Rattle.completion.specs.Promise.{fields-of, one-byte, end-in, rules-in, Promise, Delivers}
 use Rattle.completion.proofs.Limits.{RuleFits, Accepted, Limits}
 use Rattle.completion.proofs.OverRun.{OverRule, run-over}
@@ -80,8 +79,8 @@ module _ (bytes : List ℕ) (P : Problem) (read : parse bytes ≡ ok P) where
   fields-read = fields-are (result-fields (run P)) (every-map (λ f h. let l : length (f .contents) ≤ 242 = h .length-fits in omega arith) (fields-fit P accepted))
 
   -- "which is so exactly when the turns defined above end with 0 for that problem"
-  pub end-read : (end-in (result-fields (run P)) ≡ some 0) ↔ Delivered P
-  unfolding result-fields end-in one-byte if_then_else_ number-bytes Delivered
+  pub end-read : (end-in (result-fields (run P)) ≡ some 0) ↔ (run P .end ≡ complete)
+  unfolding result-fields end-in one-byte if_then_else_ number-bytes
   end-read = end-zero (run P .end)
 
   -- the rules read back are the live rules: the same numbers, in the same order
@@ -94,13 +93,12 @@ module _ (bytes : List ℕ) (P : Problem) (read : parse bytes ≡ ok P) where
       (no-rules (P .symbols) (accepted .symbols-few) _ (every-append (entries-other (run P .state .log)) (forms-other (run P .end)))))
 
   pub run-promise : Promise P (result-bytes (run P))
-  unfolding delivered-rules
   run-promise =
       record {
         fields = result-fields (run P);
         are-fields = fields-read;
         exactly = end-read;
-        rules = delivered-rules P;
+        rules = run P .state .rules;
         are-rules = rules-read;
         are-live = refl;
         settle = λ h. delivered bytes P read (end-read .0 h);

@@ -1,15 +1,13 @@
--- Document 01, "What demand 3 says": the words of the delivery theorem. Nothing here is computed and no limit of the engine applies. Assumes nothing.
+-- Document 01, "What demand 3 says": the words of the delivery theorem. No limit of the engine applies. Assumes nothing.
 use mathlib.Core.Path.{_≡_}
 use mathlib.Core.List.{List, List·Memᴰ}
 use mathlib.Core.Logic.{_⊎_}
 use mathlib.Core.Option.{some}
 use Prim.Native.Nat.{ℕ, suc}
 use Rattle.terms.specs.Term.{Term, Pair, subst-term, subterm-at, replace-at}
-use Rattle.problem.specs.Problem.{Symbol, Equation, Problem}
+use Rattle.problem.specs.Problem.{Symbol, Equation}
 use Rattle.problem.specs.Over.{Over}
 use Rattle.rewriting.specs.Overlap.{Rule}
-use Rattle.rewriting.specs.Rewrite.{complete}
-use Rattle.completion.specs.Turn.{run}
 
 -- "Instance of a rule or equation: each variable replaced by such a term, the same one in both sides."
 pub record Instance (Σ : List Symbol) (e : Pair) (s t : Term) : Type 0 where
@@ -54,11 +52,3 @@ Ends Σ rules = (chain : ℕ → Term) → ((n : ℕ) → Over Σ (chain n)) →
 -- "Last term: reached by finitely many steps, none included, and no step leads from it."
 unfoldable pub Last : List Symbol → List Rule → Term → Term → Type 0
 Last Σ rules s t = Many (Step Σ rules) s t × ((u : Term) → Step Σ rules t u → ⊥)
-
--- "A rule set is delivered as complete when complete accepts a problem and field 10 of the result it writes holds 0, which is so exactly when
--- the turns defined above end with 0 for that problem. Its rules .. are the live rules, each once, as those turns leave them."
-unfoldable pub Delivered : Problem → Type 0
-Delivered P = run P .end ≡ complete
-
-unfoldable pub delivered-rules : Problem → List Rule
-delivered-rules P = run P .state .rules

@@ -1,5 +1,5 @@
 -- Document 01, "What demand 3 says": the promise of complete "about the bytes it takes and leaves". A result's bytes are read back, field by field
--- and term by term; nothing here asks how they were made. Assumes nothing.
+-- and term by term, by functions that know nothing of the run. Assumes nothing.
 use mathlib.Core.Path.{_≡_}
 use mathlib.Core.List.{List, [], _∷_}
 use mathlib.Core.Logic.{_↔_}
@@ -11,7 +11,8 @@ use Rattle.terms.specs.Base.{if_then_else_, number-from, Tagged}
 use Rattle.problem.specs.Problem.{Reading, ok, refused, _>>=_, refuse-if, read-field, read-term, Symbol, Problem, parse}
 use Rattle.problem.specs.Stops.{cut-field, wrong-term}
 use Rattle.rewriting.specs.Overlap.{Rule}
-use Rattle.completion.specs.Delivery.{Delivered, delivered-rules}
+use Rattle.rewriting.specs.Rewrite.{complete}
+use Rattle.completion.specs.Turn.{run}
 use Rattle.completion.specs.Settles.{Settles}
 
 -- "Fields, same form": the fields that bytes are, front to back. The first number bounds how many; one more than the bytes always suffices.
@@ -38,7 +39,8 @@ end-in (f ∷ fs) =
     let later : Option ℕ = end-in fs in
     if eqb (f .tag) 0x10 then one-byte (f .contents) else later
 
--- "12, once a rule: number in two bytes, left, right": terms over the problem's symbols, and nothing behind them
+-- "12, once a rule: number in two bytes, left, right": terms over the problem's symbols, and nothing behind them. What does not read so is refused;
+-- with which number and place says nothing.
 unfoldable pub rule-of : List Symbol → List ℕ → Reading Rule
 rule-of Σ [] = refused cut-field 0
 rule-of Σ (high ∷ []) = refused cut-field 0
@@ -60,12 +62,12 @@ pub record Promise (P : Problem) (result : List ℕ) : Type 0 where
   pub fields : List Tagged
   pub are-fields : fields-of result ≡ ok fields
   -- "field 10 of the result it writes holds 0, which is so exactly when the turns defined above end with 0 for that problem"
-  pub exactly : (end-in fields ≡ some 0) ↔ Delivered P
+  pub exactly : (end-in fields ≡ some 0) ↔ (run P .end ≡ complete)
   -- "Its rules are the fields 12, each rewriting its left side to its right"; "its symbols .. are those of the problem's tag 01"
   pub rules : List Rule
   pub are-rules : rules-in (P .symbols) fields ≡ ok rules
   -- "and are the live rules, each once, as those turns leave them"
-  pub are-live : rules ≡ delivered-rules P
+  pub are-live : rules ≡ run P .state .rules
   -- "A rule set is delivered as complete when complete accepts a problem and field 10 of the result it writes holds 0";
   -- "the buyer's equations are its fields of tag 03"
   pub settle : end-in fields ≡ some 0 → Settles (P .symbols) (P .equations) rules

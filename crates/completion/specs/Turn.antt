@@ -12,24 +12,26 @@ use Rattle.order.specs.Order.{above}
 use Rattle.rewriting.specs.Overlap.{Rule, Overlap, overlap, Place, all-places}
 use Rattle.rewriting.specs.Rewrite.{step, End, complete, neither-above, spent, too-large, rules-full, log-full, done, stop, Paying, return, end-with, _>>=_, end-if, pay, hold, normalise, normalise-pair}
 
--- "kind (1 waiting input, 2 waiting from a removed rule, 3 input at the scan, 4 overlap), first number (input, removed rule, input, inner rule),
--- second (outer rule), position"
+-- Where a pair came from: "1 waiting input, 2 waiting from a removed rule, 3 input at the scan, 4 overlap", with the numbers and the position that
+-- an entry has of it.
 pub data Origin : Type 0 where
   waiting-input : ℕ → Origin
   removed-rule : ℕ → Origin
   scanned-input : ℕ → Origin
   overlapping : ℕ → ℕ → ℕ → Origin
 
+-- an equation that waits or is taken, with where it came from
 pub record Candidate : Type 0 where
   pub origin : Origin
   pub sides : Pair
 
--- a log entry; `made` is the "rule made (0 if settled)"
+-- a log entry; `made` is the "rule made .. (0 if settled)"
 pub record Entry : Type 0 where
   pub origin : Origin
   pub made : ℕ
 
--- "The state is the live rules (numbered 1, 2, .. as made, numbers never reused), the waiting list, the log and the units."
+-- "The state is the live rules (numbered 1, 2, .. as made, numbers never reused, places reused), the waiting list (at first the equations in order),
+-- the log and the units." Places are the representation's.
 -- The rules stand ascending and the waiting list oldest first. The units that are left go beside the state, as `Paying` hands them on.
 pub record State : Type 0 where
   pub rules : List Rule
@@ -126,7 +128,8 @@ normalise-rights before (old ∷ rules) new = do
   let old′ : Rule = record { number = old .number; sides = record { left = old .sides .left; right = r } }
   normalise-rights (before ++ (old′ ∷ [])) rules new
 
--- Steps 4 to 7.
+-- Steps 4 to 7. "The taken pair has at most 16 different variables, else 22." "The upper side becomes a new rule's left side." "Each older rule,
+-- ascending, whose left side the new rule rewrites is removed .. Over 32 live: 23."
 unfoldable pub make-rule : Problem → State → Taken → Paying State
 make-rule P s t = do
   _ ← end-if (ltb 16 (length (pair-variables (t .pair .sides)))) too-large

@@ -5,7 +5,7 @@ ghost use Rattle.naming.specs.Names.{renamed-bytes};
 ghost use Rattle.store.specs.Slots.{SlotRoom, SlotHolds, OnlySlot};
 ghost use Rattle.inputs.specs.Inputs.{KnownBytes, SideEnd, PutSides, PutEquation, Filled};
 
-// The end of the side that starts at `at`; it ends before a byte that is no node, and after 120 bytes.
+// The end of the side that starts at `at`; at the latest it ends before a byte above the last variable's, and after 120 bytes.
 fn side_end(problem: &[u8], table: &[u8], at: usize) -> usize
     requires { ⌜ (at ≤ length (now problem)) × (length (now problem) ≤ 65536) ⌝ }
     ensures { λ r. ⌜ SideEnd (now (table .entry)) (now (problem .entry)) at r ⌝ }

@@ -1,5 +1,5 @@
 -- The tests of sizes in `place`, a lemma for each return: the peak, the left side or the right side too large, or the pair. Assumes nothing.
--- Read first: specs/PairPlaced (PairPlaced, PlacedIf), sizing/specs/Sizes (Sized, SizesKnown), sizing/proofs/Sizing (known-size).
+-- Read first: specs/Placed (PairPlaced, PlacedIf), sizing/specs/Sizes (Sized, SizesKnown), sizing/proofs/Sizing (known-size).
 use mathlib.Core.Path.{_≡_, refl}
 use mathlib.Core.Bool.{true, false}
 use mathlib.Core.List.{List}

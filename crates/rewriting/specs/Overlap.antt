@@ -22,7 +22,7 @@ unfoldable pub apart : Term → Term
 apart t = subst-term (λ x. var (16 + x)) t
 
 -- "Inner rule l1 to r1, outer rule l2 to r2, .. l1 and the subterm of l2 at p unifiable with most general unifier m.
--- The peak is l2 under m. The pair: left, the peak with the subterm at p replaced by r1 under m; right, r2 under m."
+-- .. The peak is l2 under m. The pair: left, the peak with the subterm at p replaced by r1 under m; right, r2 under m."
 -- (p is a position of l2 and not of the peak, so r1 is put into l2 before m.)
 unfoldable pub overlap-by : Pair → Pair → ℕ → Option (List Binding) → Option Overlap
 overlap-by inner outer p none = none

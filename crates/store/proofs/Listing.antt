@@ -182,7 +182,7 @@ stored-right tab b l b′ l′ right n before p after u y m o r w e h =
     (stored-same tab b l b′ l′ 0 n before y (omega arith) (λ i j f. o .others i (λ g. omega arith)) (s .0))
     (subst (λ j. Stored tab b′ l′ j (q ∷ after)) c (stored-cons tab b′ l′ k q after z x))
 
--- SlotRoom and lengths.
+-- Room and lengths.
 halves : (i : ℕ) → ((j : ℕ) × (i ≡ 2 * j)) ⊎ ((j : ℕ) × (i ≡ 2 * j + 1))
 halves zero = inl (0, refl)
 halves (suc i) = ⊎-elim (λ (h : (j : ℕ) × (i ≡ 2 * j)). inr (h .0, let e = h .1 in omega arith)) (λ (h : (j : ℕ) × (i ≡ 2 * j + 1)). inl (suc (h .0), let e = h .1 in omega arith)) (halves i)

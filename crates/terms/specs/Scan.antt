@@ -27,7 +27,7 @@ skip tab [] n = 0
 skip tab (b ∷ l) zero = 0
 skip tab (b ∷ l) (suc n) = suc (skip tab l (owes tab b + n))
 
--- "Symbol n is byte n. Variable n (0 to 15) is byte 80 + n.", over the symbols of the table
+-- "Symbol n (0 to 15) is byte n. Variable n (0 to 15) is byte 80 + n.", over the symbols of the table
 unfoldable pub is-node : List ℕ → ℕ → Bool
 is-node tab b = ltb (b + b) (length tab) || leb 0x80 b && leb b 0x8f
 

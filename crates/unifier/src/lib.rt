@@ -1,4 +1,4 @@
-// Unification of two terms that stand one after the other in an arena of bytes, by classes of nodes.
+// Unification of the terms at two nodes of an arena of bytes, by classes of nodes.
 mod start;
 
 ghost use Prim.Native.Nat.{_<_, _≤_};
@@ -67,7 +67,7 @@ pub fn laid_out(nodes: &[u8], table: &[u8]) -> bool
     true
 }
 
-// WritesTerms the instances of k terms from node p on, and answers where they end.
+// Writes the instances of k terms from node p on, and answers where they end.
 pub fn write(
     nodes: &[u8],
     table: &[u8],

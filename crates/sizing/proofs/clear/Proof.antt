@@ -1,5 +1,5 @@
 -- `clear`: the invariant is that the first i entries are 0; n - i falls. Assumes nothing.
--- Read first: classes/specs/Steps (Each), classes/proofs/FilledTo.
+-- Read first: classes/specs/Steps (Each), classes/proofs/Filled (FilledTo).
 use borrow.Author.Needs.{needs}
 use Prim.Native.Nat.{_-_}
 use mathlib.Core.Path.{_≡_, refl}
