@@ -1,9 +1,9 @@
-/* The proved calls, from C. Each takes a problem: `problem_bytes` bytes at `problem` (document 01, "The problem's fields"). It reads no others,
+/* The proved calls, from C. Each takes a problem: `problem_bytes` bytes at `problem` (docs/FORMAT.md). It reads no others,
  * changes none of them, keeps no pointer, and calls nothing of C.
  *
  * A pointer must be valid for as many bytes as its length says, and a result buffer may not overlap the problem.
  *
- * An answer is one number: a kind in the bits from 48 up, document 01's number in bits 32 to 47, and a value in bits 0 to 31.
+ * An answer is one number: a kind in the bits from 48 up, the number of a refusal or an end (docs/FORMAT.md) in bits 32 to 47, and a value in bits 0 to 31.
  */
 #ifndef VIGILBARN_H
 #define VIGILBARN_H
@@ -20,7 +20,7 @@ static inline unsigned vb_kind(uint64_t answer) { return (unsigned)(answer >> 48
 static inline unsigned vb_number(uint64_t answer) { return (unsigned)((answer >> 32) & 0xffff); }
 static inline uint32_t vb_value(uint64_t answer) { return (uint32_t)answer; }
 
-/* Completion of the problem's equations: the result's fields (document 01, "The result and settle").
+/* Completion of the problem's equations: the result's fields (docs/FORMAT.md).
  * kind 0: refused; number 1 to 11, value the place. The result is left as it was.
  * kind 1: written; value the count of result bytes, the others are left as they were.
  * A result buffer under 16,384 bytes is refused with number 1 at place 0. Where field 10 of the result holds 0, the rules in its fields 12 settle
