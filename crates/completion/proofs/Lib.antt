@@ -12,6 +12,7 @@ pub mod AtEnd
 pub mod Certificate
 pub mod Over
 pub mod OverRun
+pub mod Renamed
 pub mod Patch
 pub mod Replacements
 pub mod Deliver

@@ -21,6 +21,10 @@ use Rattle.completion.specs.Turn.{run}
 use Rattle.completion.proofs.Over.{OverPair, OverEquations, over-renamed, over-overlap, over-star}
 use Rattle.completion.proofs.Closed.{Closed, run-has}
 
+-- A side above another has its variables.
+pub above-brings : (rank : ℕ → ℕ) (l r : Term) → above rank l r ≡ true → Brings l r
+above-brings rank l r e x i = above-vars rank (above-dec rank l r .0 e) i
+
 module _ (Σ : List Symbol) where
   -- a rule over the symbols, whose right side has no variable of its own
   pub record OverRule (e : Pair) : Type 0 where
@@ -38,9 +42,6 @@ module _ (Σ : List Symbol) where
 
   reached-over : (rules : List Rule) → OverRules rules → (t u : Term) → Reached rules t u → Over Σ t → Over Σ u
   reached-over rules h t u s o = over-star Σ (Of (sides-of rules)) (λ l r i. of-over rules h l r i .1) (of-brings rules h) (reached-star s) o
-
-  above-brings : (rank : ℕ → ℕ) (l r : Term) → above rank l r ≡ true → Brings l r
-  above-brings rank l r e x i = above-vars rank (above-dec rank l r .0 e) i
 
   renamed-rule : (rank : ℕ → ℕ) (e : Pair) → OverPair Σ e → above rank (e .left) (e .right) ≡ true → OverRule (renamed e)
   unfolding renamed
