@@ -8,6 +8,7 @@ pub mod Sound
 pub mod Order
 pub mod Matching
 pub mod Stepping
+pub mod Earliest
 pub mod Finite
 pub mod Checked
 pub mod Overlaps
