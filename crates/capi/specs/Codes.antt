@@ -1,6 +1,11 @@
--- The calls' answers as one number for C: a kind times 2 ^ 48, document 01's number times 2 ^ 32, and below it a value of 32 bits. Assumes nothing.
-use Prim.Native.Nat.{ℕ, _+_, _*_, _%_}
+-- The calls' answers as one number for C: a kind times 2 ^ 48, document 01's number times 2 ^ 32, and below it a value of 32 bits; an answer taken
+-- apart; and demand 3 of the bytes that C takes and leaves. Assumes nothing.
+use mathlib.Core.Path.{_≡_}
+use mathlib.Core.List.{List}
+use Prim.Native.Nat.{ℕ, _+_, _*_, _/_, _%_}
+use lib.ListN.{take}
 use Rattle.problem.specs.Problem.{Reading, ok, refused}
+use Rattle.completion.specs.Promise.{Delivers}
 use Rattle.calls.specs.Answers.{Returned, bytes-written, none-common, number-only, number-and-place, Part}
 
 unfoldable pub code : ℕ → ℕ → ℕ → ℕ
@@ -21,3 +26,22 @@ unify-code (number-and-place n at) = code 0 n at
 -- subterm: the part's first byte times 2 ^ 32, and how many bytes it has
 unfoldable pub part-code : Part → ℕ
 part-code p = p .start % 4_294_967_296 * 4_294_967_296 + p .bytes % 4_294_967_296
+
+-- An answer's kind, number and value, and a part's first byte, as include/vigilbarn.h unpacks them: a shift to the right is a quotient by a power
+-- of 2, the low bits are the remainder. The count of a part's bytes is the answer's value.
+unfoldable pub kind-in : ℕ → ℕ
+kind-in r = r / 281_474_976_710_656
+
+unfoldable pub number-in : ℕ → ℕ
+number-in r = r / 4_294_967_296 % 65_536
+
+unfoldable pub value-in : ℕ → ℕ
+value-in r = r % 4_294_967_296
+
+unfoldable pub start-in : ℕ → ℕ
+start-in r = r / 4_294_967_296
+
+-- Demand 3 for C, of the problem's bytes, the result's at exit and the answer: where its kind is 1, as many of the result's bytes as its value says
+-- deliver.
+unfoldable pub CodeDelivers : List ℕ → List ℕ → ℕ → Type 0
+CodeDelivers problem result r = kind-in r ≡ 1 → Delivers problem (take (value-in r) result)

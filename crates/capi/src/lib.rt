@@ -5,7 +5,7 @@ ghost use lib.ListN.{length};
 ghost use Rattle.completion.specs.Calls.{complete-call, compare-call, unify-call, after-complete, after-unify};
 ghost use Rattle.complete.specs.Answer.{counted};
 ghost use Rattle.calls.specs.Answers.{unify-returns, subterm-part};
-ghost use Rattle.capi.specs.Codes.{code, answer-code, unify-code, part-code};
+ghost use Rattle.capi.specs.Codes.{code, answer-code, unify-code, part-code, CodeDelivers};
 
 fn code(kind: u64, number: u8, value: usize) -> u64
     requires { ⌜ kind ≤ 3 ⌝ }
@@ -50,10 +50,12 @@ pub extern "C" fn vb_subterm(problem: &[u8], position: usize) -> u64
     start as u64 % 4294967296 * 4294967296 + bytes as u64 % 4294967296
 }
 
+// The third promise is demand 3, of the bytes that C is left: of as many as the answer's value says, where its kind is 1.
 #[no_mangle]
 pub extern "C" fn vb_complete(problem: &[u8], result: &mut [u8]) -> u64
     ensures { λ r. ⌜ r ≡ answer-code (counted (complete-call (now (problem .entry)) (length (now (result .entry))))) ⌝ }
     ensures { λ r. ⌜ now (result .exit) ≡ after-complete (complete-call (now (problem .entry)) (length (now (result .entry)))) (now (result .entry)) ⌝ }
+    ensures delivery { λ r. ⌜ CodeDelivers (now (problem .entry)) (now (result .exit)) r ⌝ }
 {
     match complete::complete(problem, result) {
         complete::Completed::Written(n) => code(1, 0, n),

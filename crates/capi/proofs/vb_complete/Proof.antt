@@ -1,8 +1,10 @@
--- `vb_complete`: the code of each answer is that of what `complete::complete` told; the buffer is as that call leaves it. Assumes nothing.
--- Read first: specs/Codes (answer-code), complete/specs/Answer (told, counted).
+-- `vb_complete`: the code of each answer is that of what `complete::complete` told; the buffer is as that call leaves it; demand 3 follows from that
+-- call's (`code-delivers`). Assumes nothing.
+-- Read first: specs/Codes (answer-code, CodeDelivers), complete/specs/Answer (told, counted, Delivery), proofs/Delivering.
 use mathlib.Core.Path.{ap, _∙_}
 use Rattle.complete.specs.Answer.{told}
 use Rattle.capi.specs.Codes.{answer-code}
+use Rattle.capi.proofs.Delivering.{code-delivers}
 use borrow.Author.Needs.{needs}
 use Rattle.capi.proofs.vb_complete.Statement.{statement}
 use Rattle.capi.proofs.vb_complete.Tie as tie
@@ -32,7 +34,9 @@ same-length c = search needs
 returns : tie.Need-returns
 unfolding told answer-code
 returns c =
-    (c .code .ensures ∙ ap answer-code (rw (c .before .before .n .given .1) at (c .before .before .before .before .before .before .complete .ensures .0)), c .before .before .before .before .before .before .complete .ensures .1 .0)
+    let q = c .before .before .before .before .before .before .complete .ensures in
+    let a = c .code .ensures ∙ ap answer-code (rw (c .before .before .n .given .1) at (q .0)) in
+    (a, (q .1 .0, code-delivers _ _ _ _ _ (q .0) (q .1 .1) a))
 
 same-length-2 : tie.Need-same-length-2
 same-length-2 c = search needs
@@ -40,7 +44,9 @@ same-length-2 c = search needs
 returns-2 : tie.Need-returns-2
 unfolding told answer-code
 returns-2 c =
-    (c .code2 .ensures ∙ ap answer-code (rw (c .before .before .number .given .1) at (c .before .before .before .before .before .before .complete .ensures .0)), c .before .before .before .before .before .before .complete .ensures .1 .0)
+    let q = c .before .before .before .before .before .before .complete .ensures in
+    let a = c .code2 .ensures ∙ ap answer-code (rw (c .before .before .number .given .1) at (q .0)) in
+    (a, (q .1 .0, code-delivers _ _ _ _ _ (q .0) (q .1 .1) a))
 
 pub vb-complete-spec : {M : Type 1} → statement M
 vb-complete-spec =
