@@ -74,7 +74,7 @@ pub fn unify(problem: &[u8], result: &mut [u8]) -> Unified
 {
     if result.len() < 16384 {
         return Unified::Refused {
-            number: 1,
+            number: problem::SHORT_BUFFER,
             place: 0,
         };
     }

@@ -70,19 +70,24 @@ fn write_empty(budget: usize, result: &mut [u8]) -> usize
     write_nothing(rewriting::COMPLETE, 1, result)
 }
 
-// An accepted problem, whose table ends at `behind`: its run, and the result's bytes. The bytes of the rules, of the waiting equations and of
-// the log stand here.
-fn accepted(problem: &[u8], behind: usize, count: usize, budget: usize, result: &mut [u8]) -> usize
-    requires { ⌜ (3 ≤ behind) × (behind ≤ length (now problem)) × (length (now problem) ≤ 65536) ⌝ }
+// An accepted problem: its run, and the result's bytes. The bytes of the rules, of the waiting equations and of the log stand here.
+fn accepted(
+    problem: &[u8],
+    table_end: usize,
+    count: usize,
+    budget: usize,
+    result: &mut [u8],
+) -> usize
+    requires { ⌜ (3 ≤ table_end) × (table_end ≤ length (now problem)) × (length (now problem) ≤ 65536) ⌝ }
     requires { ⌜ (count ≤ 16) × (budget ≤ 1000000) × (13726 ≤ length (now result)) ⌝ }
-    ensures { λ r. ⌜ WritesProblem (now (problem .entry)) behind budget count (now (result .entry)) (now (result .exit)) r ⌝ }
+    ensures { λ r. ⌜ WritesProblem (now (problem .entry)) table_end budget count (now (result .entry)) (now (result .exit)) r ⌝ }
 {
     if count == 0 {
         return write_empty(budget, result);
     }
     let mut slots = [0u8; 3840];
     let mut lens = [0u8; 32];
-    inputs::fill(problem, behind, count, &mut slots, &mut lens);
+    inputs::fill(problem, table_end, count, &mut slots, &mut lens);
     let mut rules = [0u8; 7920];
     let mut waiting = [0u8; 7920];
     let mut log = [0u8; 5632];
@@ -90,7 +95,7 @@ fn accepted(problem: &[u8], behind: usize, count: usize, budget: usize, result: 
         &slots,
         &lens,
         count,
-        &problem[3..behind],
+        &problem[3..table_end],
         budget as u32,
         &mut rules,
         &mut waiting,
@@ -109,7 +114,7 @@ pub fn complete(problem: &[u8], result: &mut [u8]) -> Completed
 {
     if result.len() < 16384 {
         return Completed::Refused {
-            number: 1,
+            number: problem::SHORT_BUFFER,
             place: 0,
         };
     }

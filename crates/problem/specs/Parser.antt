@@ -6,7 +6,7 @@ use lib.Dec.{ltb}
 use lib.ListN.{length, take, drop, getD}
 use Rattle.terms.specs.Base.{member}
 use Rattle.terms.specs.Term.{Term}
-use Rattle.problem.specs.Stops.{wrong-symbol, same-rank}
+use Rattle.problem.specs.Stops.{wrong-arity-or-rank, same-rank}
 use Rattle.problem.specs.Problem.{Reading, ok, refused, _>>=_, refuse-if, Field, due, Symbol, symbol-field, budget-field, read-side, Equation, equation-field, equation-fields, Problem, parse}
 use Rattle.problem.specs.declared.Input.{Input}
 use Rattle.problem.specs.declared.Input.the-variants.{Fine, Refused as Bad}
@@ -37,8 +37,8 @@ unfoldable pub check-symbols : List ℕ → ℕ → List ℕ → Reading (Unit {
 check-symbols seen at [] = ok tt
 check-symbols seen at (arity ∷ []) = ok tt
 check-symbols seen at (arity ∷ rank ∷ l) = do
-  _ ← refuse-if (ltb 4 arity) wrong-symbol at
-  _ ← refuse-if (ltb 15 rank) wrong-symbol (at + 1)
+  _ ← refuse-if (ltb 4 arity) wrong-arity-or-rank at
+  _ ← refuse-if (ltb 15 rank) wrong-arity-or-rank (at + 1)
   _ ← refuse-if (member rank seen) same-rank (at + 1)
   check-symbols (rank ∷ seen) (at + 2) l
 

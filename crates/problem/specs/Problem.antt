@@ -6,7 +6,7 @@ use lib.Dec.{eqb, ltb, leb}
 use lib.ListN.{length, take, drop, getD}
 use Rattle.terms.specs.Base.{if_then_else_, number-from, member}
 use Rattle.terms.specs.Term.{Term, var, node, Terms, nil, cons, size, Pair}
-use Rattle.problem.specs.Stops.{long-problem, cut-field, wrong-tag, wrong-symbols, wrong-symbol, same-rank, wrong-budget, many-equations, wrong-term, large-side, not-one-equation}
+use Rattle.problem.specs.Stops.{long-problem, cut-field, wrong-tag, wrong-symbol-field, wrong-arity-or-rank, same-rank, wrong-budget, many-equations, wrong-term, large-side, not-one-equation}
 
 -- What was read, or the refusal's number and place.
 pub data Reading (A : Type 0) : Type 0 where
@@ -65,8 +65,8 @@ unfoldable pub read-symbols : List ℕ → ℕ → List ℕ → Reading (List Sy
 read-symbols ranks at [] = ok []
 read-symbols ranks at (arity ∷ []) = ok []
 read-symbols ranks at (arity ∷ rank ∷ bytes) = do
-  _ ← refuse-if (ltb 4 arity) wrong-symbol at
-  _ ← refuse-if (ltb 15 rank) wrong-symbol (at + 1)
+  _ ← refuse-if (ltb 4 arity) wrong-arity-or-rank at
+  _ ← refuse-if (ltb 15 rank) wrong-arity-or-rank (at + 1)
   _ ← refuse-if (member rank ranks) same-rank (at + 1)
   Σ ← read-symbols (rank ∷ ranks) (at + 2) bytes
   ok (record { arity = arity; rank = rank } ∷ Σ)
@@ -75,7 +75,7 @@ read-symbols ranks at (arity ∷ rank ∷ bytes) = do
 unfoldable pub symbol-field : Field → Reading (List Symbol)
 symbol-field f = do
   let n = length (f .contents)
-  _ ← refuse-if (eqb n 0 || eqb (n % 2) 1 || ltb 32 n) wrong-symbols (f .first)
+  _ ← refuse-if (eqb n 0 || eqb (n % 2) 1 || ltb 32 n) wrong-symbol-field (f .first)
   read-symbols [] (f .first + 3) (f .contents)
 
 -- "the budget, four bytes, high byte first, 0 to 1,000,000"; 8: "budget field not 4 bytes, or above 1,000,000"

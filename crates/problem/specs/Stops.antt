@@ -19,12 +19,12 @@ abbrev pub wrong-tag : ℕ
 wrong-tag = 4
 
 -- "symbol field's length 0, odd or over 32"
-abbrev pub wrong-symbols : ℕ
-wrong-symbols = 5
+abbrev pub wrong-symbol-field : ℕ
+wrong-symbol-field = 5
 
 -- "arity above 4 or rank above 15"
-abbrev pub wrong-symbol : ℕ
-wrong-symbol = 6
+abbrev pub wrong-arity-or-rank : ℕ
+wrong-arity-or-rank = 6
 
 -- "rank equal to an earlier symbol's"
 abbrev pub same-rank : ℕ

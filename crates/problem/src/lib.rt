@@ -6,6 +6,44 @@ ghost use Rattle.terms.specs.Base.{member};
 ghost use Rattle.problem.specs.Parser.{IsDue, ranks, IsTable, IsSymbols, IsBudget, Table, IsSide, IsEquation, IsField, IsFields, IsParsed, parsed-of};
 ghost use Rattle.problem.specs.Problem.{parse};
 
+// The numbers of document 01's refusals, as specs/Stops names them.
+
+// Result buffer under 16,384 bytes (complete, unify).
+pub const SHORT_BUFFER: u8 = 1;
+
+// Problem over 8,192 bytes.
+pub const LONG_PROBLEM: u8 = 2;
+
+// Field's header or contents pass the end.
+pub const CUT_FIELD: u8 = 3;
+
+// Tag not the one due, or the problem ends where tag 01 or 02 is due.
+pub const WRONG_TAG: u8 = 4;
+
+// Symbol field's length 0, odd or over 32.
+pub const WRONG_SYMBOL_FIELD: u8 = 5;
+
+// Arity above 4 or rank above 15.
+pub const WRONG_ARITY_OR_RANK: u8 = 6;
+
+// Rank equal to an earlier symbol's.
+pub const SAME_RANK: u8 = 7;
+
+// Budget field not 4 bytes, or above 1,000,000.
+pub const WRONG_BUDGET: u8 = 8;
+
+// Seventeenth equation field.
+pub const MANY_EQUATIONS: u8 = 9;
+
+// Byte that is no symbol and no variable; field ends inside a term; byte after the right term.
+pub const WRONG_TERM: u8 = 10;
+
+// Side over 120 nodes.
+pub const LARGE_SIDE: u8 = 11;
+
+// Compare, unify, subterm: equation fields are not exactly one.
+pub const NOT_ONE_EQUATION: u8 = 12;
+
 // What was read, or a refusal with its number and its place.
 pub enum Read {
     Value(usize),
@@ -18,27 +56,27 @@ pub fn due(problem: &[u8], at: usize, tag: u8) -> Read
 {
     if at >= problem.len() {
         return Read::Refused {
-            number: 4,
+            number: WRONG_TAG,
             place: at,
         };
     }
     let left = problem.len() - at;
     if left < 3 {
         return Read::Refused {
-            number: 3,
+            number: CUT_FIELD,
             place: at,
         };
     }
     let n = terms::wide(problem[at + 1]) * 256 + terms::wide(problem[at + 2]);
     if left - 3 < n {
         return Read::Refused {
-            number: 3,
+            number: CUT_FIELD,
             place: at,
         };
     }
     if problem[at] != tag {
         return Read::Refused {
-            number: 4,
+            number: WRONG_TAG,
             place: at,
         };
     }
@@ -69,20 +107,20 @@ fn check_table(table: &[u8]) -> Read
     while k + k + 1 < table.len() {
         if table[k + k] > 4 {
             return Read::Refused {
-                number: 6,
+                number: WRONG_ARITY_OR_RANK,
                 place: k + k + 3,
             };
         }
         let rank = table[k + k + 1];
         if rank > 15 {
             return Read::Refused {
-                number: 6,
+                number: WRONG_ARITY_OR_RANK,
                 place: k + k + 4,
             };
         }
         if rank_seen(table, k, rank) {
             return Read::Refused {
-                number: 7,
+                number: SAME_RANK,
                 place: k + k + 4,
             };
         }
@@ -95,25 +133,25 @@ fn check_table(table: &[u8]) -> Read
 fn symbols(problem: &[u8]) -> Read
     ensures { λ r. ⌜ IsSymbols (now (problem .entry)) r ⌝ }
 {
-    match due(problem, 0, 1) {
+    match due(problem, 0, 0x01) {
         Read::Refused { number, place } => Read::Refused { number, place },
         Read::Value(e) => {
             let n = e - 3;
             if n == 0 {
                 return Read::Refused {
-                    number: 5,
+                    number: WRONG_SYMBOL_FIELD,
                     place: 0,
                 };
             }
             if n % 2 == 1 {
                 return Read::Refused {
-                    number: 5,
+                    number: WRONG_SYMBOL_FIELD,
                     place: 0,
                 };
             }
             if n > 32 {
                 return Read::Refused {
-                    number: 5,
+                    number: WRONG_SYMBOL_FIELD,
                     place: 0,
                 };
             }
@@ -130,12 +168,12 @@ fn budget(problem: &[u8], at: usize) -> Read
     requires { ⌜ (at ≤ length (now problem)) × (length (now problem) ≤ 8192) ⌝ }
     ensures { λ r. ⌜ IsBudget (now (problem .entry)) at r ⌝ }
 {
-    match due(problem, at, 2) {
+    match due(problem, at, 0x02) {
         Read::Refused { number, place } => Read::Refused { number, place },
         Read::Value(e) => {
             if e - at != 7 {
                 return Read::Refused {
-                    number: 8,
+                    number: WRONG_BUDGET,
                     place: at,
                 };
             }
@@ -144,7 +182,7 @@ fn budget(problem: &[u8], at: usize) -> Read
             let n = b * 256 + terms::wide(problem[at + 6]);
             if n > 1_000_000 {
                 return Read::Refused {
-                    number: 8,
+                    number: WRONG_BUDGET,
                     place: at,
                 };
             }
@@ -160,11 +198,14 @@ fn side(t: &[u8], table: &[u8], at: usize) -> Read
     ensures { λ r. ⌜ IsSide (now (table .entry)) (now (t .entry)) at r ⌝ }
 {
     match terms::checked_end(t, table, at) {
-        terms::Ends::Bad(place) => Read::Refused { number: 10, place },
+        terms::Ends::Bad(place) => Read::Refused {
+            number: WRONG_TERM,
+            place,
+        },
         terms::Ends::At(e) => {
             if e - at > 120 {
                 return Read::Refused {
-                    number: 11,
+                    number: LARGE_SIDE,
                     place: at,
                 };
             }
@@ -186,7 +227,7 @@ fn equation(problem: &[u8], table: &[u8], at: usize, end: usize) -> Read
             Read::Value(last) => {
                 if last < end {
                     return Read::Refused {
-                        number: 10,
+                        number: WRONG_TERM,
                         place: last,
                     };
                 }
@@ -202,12 +243,12 @@ fn equation_field(problem: &[u8], table: &[u8], at: usize, count: usize) -> Read
     requires { ⌜ (at < length (now problem)) × (length (now problem) ≤ 8192) × (count ≤ 16) ⌝ }
     ensures { λ r. ⌜ IsField (now (table .entry)) (now (problem .entry)) at count r ⌝ }
 {
-    match due(problem, at, 3) {
+    match due(problem, at, 0x03) {
         Read::Refused { number, place } => Read::Refused { number, place },
         Read::Value(end) => {
             if count == 16 {
                 return Read::Refused {
-                    number: 9,
+                    number: MANY_EQUATIONS,
                     place: at,
                 };
             }
@@ -259,7 +300,7 @@ pub fn parse(problem: &[u8]) -> Input
 {
     if problem.len() > 8192 {
         return Input::Refused {
-            number: 2,
+            number: LONG_PROBLEM,
             place: 8192,
         };
     }

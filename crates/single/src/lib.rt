@@ -14,11 +14,11 @@ fn single(problem: &[u8]) -> problem::Read
         } => {
             if count == 0 {
                 return problem::Read::Refused {
-                    number: 12,
+                    number: problem::NOT_ONE_EQUATION,
                     place: problem.len(),
                 };
             }
-            match problem::due(problem, table_end + 7, 3) {
+            match problem::due(problem, table_end + 7, 0x03) {
                 problem::Read::Refused { number, place } => problem::Read::Refused {
                     number,
                     place,
@@ -28,7 +28,7 @@ fn single(problem: &[u8]) -> problem::Read
                         return problem::Read::Value(table_end);
                     }
                     problem::Read::Refused {
-                        number: 12,
+                        number: problem::NOT_ONE_EQUATION,
                         place: second,
                     }
                 }
