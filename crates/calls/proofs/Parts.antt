@@ -1,5 +1,5 @@
 -- The part that `subterm` hands back: a lemma for each return of `subterm_bounds`. Assumes nothing.
--- Read first: specs/Answers (PartAt, subterm-part), single/specs/Places (SidesAt).
+-- Read first: completion/specs/Calls (subterm-part), specs/Answers (PartAt), single/specs/Places (SidesAt).
 use mathlib.Core.Path.{_≡_, refl, ap, ap₂, sym, _∙_}
 use mathlib.Core.List.{List}
 use mathlib.Core.Option.{Option, none, some}
@@ -15,30 +15,25 @@ use Rattle.terms.proofs.Places.{size-pos}
 use Rattle.terms.proofs.Positions.{subterm-below, subterm-is}
 use Rattle.terms.proofs.Starts.{starts-inside}
 use Rattle.problem.specs.Problem.{refused}
-use Rattle.completion.specs.Calls.{Single, parse-single, part-at, subterm-call}
+use Rattle.completion.specs.Calls.{Single, parse-single, Part, part-of, subterm-part, subterm-call}
 use Rattle.single.specs.Places.{table, left-side, SidesAt}
 use Rattle.single.proofs.Singles.{left-starts}
-use Rattle.calls.specs.Answers.{Part, part-of, subterm-part, subterm-refused, PartAt}
+use Rattle.calls.specs.Answers.{subterm-refused, PartAt}
 
 -- `subterm_bounds`
 module _ (l : List ℕ) (p : ℕ) where
   pub bounds-unread : (n q : ℕ) → parse-single l ≡ refused n q → PartAt l p 0 0
-  unfolding subterm-call subterm-part subterm-refused
+  unfolding subterm-part subterm-refused
   bounds-unread n q h =
       record {
         start = rw (h, subterm-part) refl;
         bytes = rw (h, subterm-part) refl;
-        is = rw (h, subterm-call) refl;
         only = rw (h, subterm-refused) refl;
         low = omega arith;
         within = omega arith;
       }
 
   module _ (e a b c : ℕ) (S : Single) (A : SidesAt l e a b c S) where
-    call-is : subterm-call l p ≡ part-at l (S .equation .first) p (subterm-at (left-side S) p)
-    unfolding subterm-call
-    call-is = rw (A .single .is, subterm-call) refl
-
     part-is : subterm-part l p ≡ part-of (S .equation .first) p (subterm-at (left-side S) p)
     unfolding subterm-part
     part-is = rw (A .single .is, subterm-part) refl
@@ -48,13 +43,12 @@ module _ (l : List ℕ) (p : ℕ) where
     refusal-is = rw (A .single .is, subterm-refused) refl
 
     pub bounds-past : b - a ≤ p → PartAt l p 0 0
-    unfolding part-at part-of
+    unfolding part-of
     bounds-past h =
         let n : subterm-at (left-side S) p ≡ none = go (subterm-at (left-side S) p) refl in
         record {
           start = sym (ap (λ (x : Part). x .start) (part-is ∙ ap (part-of (S .equation .first) p) n));
           bytes = sym (ap (λ (x : Part). x .bytes) (part-is ∙ ap (part-of (S .equation .first) p) n));
-          is = sym (call-is ∙ ap (part-at l (S .equation .first) p) n);
           only = sym (refusal-is ∙ le-leb (size (left-side S)) p (omega (arith, A .right-is)));
           low = omega arith;
           within = omega arith;
@@ -69,7 +63,7 @@ module _ (l : List ℕ) (p : ℕ) where
       found = (_, subterm-is (left-side S) p (omega (arith, A .right-is)))
 
       pub bounds-inside : (n : ℕ) → ((x : Term) → Starts (table l e) (drop (a + p) l) x → n ≡ a + p + size x) → a + p ≤ n → n ≤ length l → PartAt l p (a + p) n
-      unfolding part-at part-of
+      unfolding part-of
       bounds-inside n q low high =
           let u = found .0 in
           let s : Starts (table l e) (drop (a + p) l) u = rw (drop-drop p a l) at (starts-inside (table l e) (drop a l) (left-side S) p u (left-starts l e a b c S A) (found .1)) in
@@ -79,7 +73,6 @@ module _ (l : List ℕ) (p : ℕ) where
           record {
             start = sym (ap (λ (x : Part). x .start) f ∙ w);
             bytes = z ∙ sym (ap (λ (x : Part). x .bytes) f);
-            is = sym (call-is ∙ rw (found .1, w, z) refl);
             only = ne-eqb (n - (a + p)) 0 (λ y. absurd (omega (arith, size-pos u))) ∙ sym (refusal-is ∙ lt-leb (size (left-side S)) p (omega (arith, A .right-is)));
             low = low;
             within = high;
@@ -87,7 +80,8 @@ module _ (l : List ℕ) (p : ℕ) where
 
 -- `subterm`
 module _ (l : List ℕ) (p a b : ℕ) (k : PartAt l p a b) where
-  pub part-bytes : take (b - a) (drop a l) ≡ take (subterm-part l p .bytes) (drop (subterm-part l p .start) l)
+  pub part-bytes : take (b - a) (drop a l) ≡ subterm-call l p
+  unfolding subterm-call
   part-bytes = ap₂ (λ (n i : ℕ). take n (drop i l)) (k .bytes) (k .start)
 
   pub part-only : eqb (length (take (b - a) (drop a l))) 0 ≡ subterm-refused l p

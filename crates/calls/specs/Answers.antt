@@ -2,15 +2,14 @@
 use mathlib.Core.Path.{_≡_}
 use mathlib.Core.Bool.{Bool, true}
 use mathlib.Core.List.{List}
-use mathlib.Core.Option.{Option, none, some}
 use Prim.Native.Nat.{ℕ, _+_, _-_, _≤_}
 use lib.Dec.{eqb, leb}
-use lib.ListN.{length, take, drop}
+use lib.ListN.{length}
 use denote.Ref.{RefT}
-use Rattle.terms.specs.Term.{Term, size, subterm-at}
+use Rattle.terms.specs.Term.{size}
 use Rattle.problem.specs.Problem.{Reading, ok, refused}
 use Rattle.rewriting.specs.Rewrite.{too-large, end-number}
-use Rattle.completion.specs.Calls.{parse-single, subterm-call, Unified as Common, instance, no-instance, instance-too-large, after-unify}
+use Rattle.completion.specs.Calls.{parse-single, Part, subterm-part, Unified as Common, instance, no-instance, instance-too-large, after-unify}
 use Rattle.instances.specs.declared.Found.{Found}
 use Rattle.instances.specs.declared.Found.the-variants.{Instance as Written, Nothing as None, TooLarge as Large}
 use Rattle.calls.specs.declared.Compared.{Compared}
@@ -57,25 +56,6 @@ pub record Unifies (u : Reading Common) (r : Unified) (d d′ : List ℕ) : Type
   pub told : unified-told r ≡ unify-returns u
   pub leaves : d′ ≡ after-unify u d
 
--- "Subterm takes lent problem bytes and a position in the left side of the only equation; it must hand back that part of the lent bytes."
--- The part's first byte, counted from that of the lent bytes, and how many bytes it has.
-pub record Part : Type 0 where
-  pub start : ℕ
-  pub bytes : ℕ
-
--- The node's own byte stands behind the field's three header bytes and the nodes before it. A refusal has no byte; that its place is then the
--- first one is this project's choice.
-unfoldable pub part-of : ℕ → ℕ → Option Term → Part
-part-of first p none = record { start = 0; bytes = 0 }
-part-of first p (some t) = record { start = first + 3 + p; bytes = size t }
-
-unfoldable pub subterm-part : List ℕ → ℕ → Part
-subterm-part l p =
-    elim (parse-single l) [
-      | ok P ↦ part-of (P .equation .first) p (subterm-at (P .equation .sides .left) p)
-      | refused n place ↦ record { start = 0; bytes = 0 }
-    ]
-
 -- "refused (2 to 12, or a position not below the node count)"
 unfoldable pub subterm-refused : List ℕ → ℕ → Bool
 subterm-refused l p =
@@ -84,17 +64,15 @@ subterm-refused l p =
       | refused n place ↦ true
     ]
 
--- a reference to that part of what another refers to: the same block of memory, so many bytes on
+-- a reference to where that part of what another refers to begins: the same block of memory, so many bytes on; the bytes are `subterm-call`
 pub record IsPart (lent part : RefT (List ℕ)) (q : Part) : Type 0 where
   pub block : part .ptr .0 ≡ lent .ptr .0
   pub place : part .ptr .1 ≡ lent .ptr .1 + q .start
-  pub bytes : part .now ≡ take (q .bytes) (drop (q .start) (lent .now))
 
 -- the part from a to b is the one that `subterm` hands back
 pub record PartAt (l : List ℕ) (p a b : ℕ) : Type 0 where
   pub start : a ≡ subterm-part l p .start
   pub bytes : b - a ≡ subterm-part l p .bytes
-  pub is : take (b - a) (drop a l) ≡ subterm-call l p
   pub only : eqb (b - a) 0 ≡ subterm-refused l p
   pub low : a ≤ b
   pub within : b ≤ length l

@@ -4,8 +4,8 @@ ghost use Prim.Native.Nat.{_≤_};
 ghost use lib.Dec.{eqb};
 ghost use lib.ListN.{length};
 ghost use Rattle.problem.specs.Problem.{ok};
-ghost use Rattle.completion.specs.Calls.{compare-call, subterm-call, unify-call};
-ghost use Rattle.calls.specs.Answers.{told, found-told, unified-told, Unifies, PartAt, IsPart, subterm-part, subterm-refused};
+ghost use Rattle.completion.specs.Calls.{compare-call, subterm-part, subterm-call, unify-call};
+ghost use Rattle.calls.specs.Answers.{told, found-told, unified-told, Unifies, PartAt, IsPart, subterm-refused};
 
 pub enum Compared {
     LeftAbove,

@@ -19,11 +19,11 @@ use Rattle.unify.specs.Unify.{Binding, under, mgu}
 use Rattle.rewriting.specs.Rewrite.{end-number}
 use Rattle.problem.specs.Problem.{Reading, ok, refused, rank-of}
 use Rattle.problem.proofs.Reading.{from-bind, ok-injective}
-use Rattle.completion.specs.Calls.{Single, parse-single, complete-call, compare-call, unify-call, Unified, instance, no-instance, instance-too-large, unified}
+use Rattle.completion.specs.Calls.{Single, parse-single, complete-call, compare-call, unify-call, Unified, instance, no-instance, instance-too-large, unified, Part, part-of, subterm-part}
 use Rattle.completion.proofs.Accepts.{single-fits}
 use Rattle.completion.proofs.Capacity.{complete-writes}
 use Rattle.complete.specs.Answer.{counted}
-use Rattle.calls.specs.Answers.{Returned, bytes-written, none-common, number-only, number-and-place, unify-returns, Part, part-of, subterm-part}
+use Rattle.calls.specs.Answers.{Returned, bytes-written, none-common, number-only, number-and-place, unify-returns}
 use Rattle.capi.specs.Codes.{code, answer-code, unify-code, part-code, kind-in, number-in, value-in, start-in}
 use Rattle.capi.proofs.Refusals.{RefusesWithin, was-refused, single-first, complete-within, compare-within, unify-within}
 

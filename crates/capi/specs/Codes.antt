@@ -5,8 +5,9 @@ use mathlib.Core.List.{List}
 use Prim.Native.Nat.{ℕ, _+_, _*_, _/_, _%_}
 use lib.ListN.{take}
 use Rattle.problem.specs.Problem.{Reading, ok, refused}
+use Rattle.completion.specs.Calls.{Part}
 use Rattle.completion.specs.Promise.{Delivers}
-use Rattle.calls.specs.Answers.{Returned, bytes-written, none-common, number-only, number-and-place, Part}
+use Rattle.calls.specs.Answers.{Returned, bytes-written, none-common, number-only, number-and-place}
 
 unfoldable pub code : ℕ → ℕ → ℕ → ℕ
 code kind number value = kind * 281_474_976_710_656 + number * 4_294_967_296 + value % 4_294_967_296

@@ -2,9 +2,9 @@
 ghost use mathlib.Core.Path.{_≡_};
 ghost use Prim.Native.Nat.{_≤_};
 ghost use lib.ListN.{length};
-ghost use Rattle.completion.specs.Calls.{complete-call, compare-call, unify-call, after-complete, after-unify};
+ghost use Rattle.completion.specs.Calls.{complete-call, compare-call, unify-call, subterm-part, after-complete, after-unify};
 ghost use Rattle.complete.specs.Answer.{counted};
-ghost use Rattle.calls.specs.Answers.{unify-returns, subterm-part};
+ghost use Rattle.calls.specs.Answers.{unify-returns};
 ghost use Rattle.capi.specs.Codes.{code, answer-code, unify-code, part-code, CodeDelivers};
 
 fn code(kind: u64, number: u8, value: usize) -> u64

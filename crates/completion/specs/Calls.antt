@@ -102,18 +102,28 @@ unify-call bytes buffer = do
   let e : Pair = P .equation .sides
   ok (unified (e .left) (mgu (e .left) (e .right)))
 
--- subterm: "that part of the lent bytes", which begins at this position of the left side, the first byte behind the field's header being 0.
--- "An empty part, and only it, means refused (2 to 12, or a position not below the node count)."
-unfoldable pub part-at : List ℕ → ℕ → ℕ → Option Term → List ℕ
-part-at bytes first p none = []
-part-at bytes first p (some t) = take (size t) (drop (first + 3 + p) bytes)
+-- "Subterm takes lent problem bytes and a position in the left side of the only equation; it must hand back that part of the lent bytes."
+-- The part's first byte, counted from that of the lent bytes, and how many bytes it has.
+pub record Part : Type 0 where
+  pub start : ℕ
+  pub bytes : ℕ
 
-unfoldable pub subterm-call : List ℕ → ℕ → List ℕ
-subterm-call bytes p =
-    elim (parse-single bytes) [
-      | ok P ↦ part-at bytes (P .equation .first) p (subterm-at (P .equation .sides .left) p)
-      | refused n at ↦ []
+-- The node's own byte stands behind the field's three header bytes and the nodes before it. A refusal has no byte; that its place is then the
+-- first one is this project's choice.
+unfoldable pub part-of : ℕ → ℕ → Option Term → Part
+part-of first p none = record { start = 0; bytes = 0 }
+part-of first p (some t) = record { start = first + 3 + p; bytes = size t }
+
+unfoldable pub subterm-part : List ℕ → ℕ → Part
+subterm-part l p =
+    elim (parse-single l) [
+      | ok P ↦ part-of (P .equation .first) p (subterm-at (P .equation .sides .left) p)
+      | refused n place ↦ record { start = 0; bytes = 0 }
     ]
+
+-- "An empty part, and only it, means refused (2 to 12, or a position not below the node count)."
+unfoldable pub subterm-call : List ℕ → ℕ → List ℕ
+subterm-call l p = take (subterm-part l p .bytes) (drop (subterm-part l p .start) l)
 
 -- "Left as it was": what the lent result buffer holds after a call that writes these bytes at its front.
 unfoldable pub written : List ℕ → List ℕ → List ℕ

@@ -10,7 +10,7 @@ use Rattle.calls.proofs.subterm.Tie as tie
 returns : tie.Need-returns
 returns c =
     let k = c .before .subterm-bounds .ensures in
-    (k .is, (record { block = refl; place = omega (arith, k .start); bytes = part-bytes _ _ _ _ k }, part-only _ _ _ _ k))
+    (part-bytes _ _ _ _ k, (record { block = refl; place = omega (arith, k .start) }, part-only _ _ _ _ k))
 
 pub subterm-spec : {M : Type 1} → statement M
 subterm-spec =
