@@ -60,7 +60,7 @@ arity-of Σ f = getD Σ f (record { arity = 0; rank = 0 }) .arity
 unfoldable pub rank-of : List Symbol → ℕ → ℕ
 rank-of Σ f = getD Σ f (record { arity = 0; rank = 0 }) .rank
 
--- 6: "arity above 4 or rank above 15", at "that byte"; 7: "rank equal to an earlier symbol's", at "that byte"
+-- 6: "arity above 4 or rank above 15", at "that byte"; 7: "rank equal to an earlier symbol's", at "that byte". No length is odd here: 5 refuses it.
 unfoldable pub read-symbols : List ℕ → ℕ → List ℕ → Reading (List Symbol)
 read-symbols ranks at [] = ok []
 read-symbols ranks at (arity ∷ []) = ok []
@@ -114,7 +114,7 @@ read-terms one (suc n) at bytes = do
   ok (record { part = cons (t .part) (ts .part); end = ts .end; rest = ts .rest })
 
 -- 10: "byte that is no symbol and no variable; field ends inside a term", at "that byte or the field's end".
--- The first number bounds the depth; as many as there are bytes always suffices.
+-- The first number bounds the depth: one more than there are bytes, as `read-side` gives, does not run out.
 unfoldable pub read-term : List Symbol → ℕ → ℕ → List ℕ → Reading (ReadPart Term)
 read-term Σ zero at bytes = refused wrong-term at
 read-term Σ (suc depth) at [] = refused wrong-term at

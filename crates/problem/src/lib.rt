@@ -1,4 +1,4 @@
-// Completion: the problem's bytes, read front to back.
+// The problem's bytes, read front to back.
 ghost use mathlib.Core.Path.{_≡_};
 ghost use Prim.Native.Nat.{_+_, _<_, _≤_};
 ghost use lib.ListN.{length};
