@@ -13,9 +13,9 @@ fn digit(n: u8) -> u8
     ensures { λ r. ⌜ r ≡ hex-digit n ⌝ }
 {
     if n < 10 {
-        return 48 + n;
+        return b'0' + n;
     }
-    87 + n
+    b'a' - 10 + n
 }
 
 fn put_byte(out: &mut [u8], at: usize, b: u8) -> usize
@@ -71,10 +71,10 @@ fn put_decimal(out: &mut [u8], at: usize, n: usize) -> usize
     let mut m = n;
     while m >= 10 {
         left -= 1;
-        out[at + left] = 48 + (m % 10) as u8;
+        out[at + left] = b'0' + (m % 10) as u8;
         m /= 10;
     }
-    out[at] = 48 + m as u8;
+    out[at] = b'0' + m as u8;
     at + w
 }
 
@@ -84,11 +84,11 @@ fn put_line(out: &mut [u8], at: usize, tag: u8, contents: &[u8]) -> usize
     ensures { λ r. ⌜ PutsSome (10 + 2 * length (now (contents .entry))) (now (out .entry)) at 1 (line (tagged tag (now (contents .entry)))) (now (out .exit)) r ⌝ }
 {
     let a = put_hex(out, at, tag);
-    let b = put_byte(out, a, 32);
+    let b = put_byte(out, a, b' ');
     let c = put_decimal(out, b, contents.len());
-    let d = put_byte(out, c, 32);
+    let d = put_byte(out, c, b' ');
     let e = put_hexes(out, d, contents);
-    put_byte(out, e, 10)
+    put_byte(out, e, b'\n')
 }
 
 // The text of a result: a line a field.
@@ -118,13 +118,11 @@ pub fn put_refused(out: &mut [u8], number: usize, place: usize) -> usize
     requires { ⌜ 64 ≤ length (now out) ⌝ }
     ensures { λ r. ⌜ (r ≤ 64) × Refusal number place (now (out .entry)) (now (out .exit)) r ⌝ }
 {
-    let word = [114u8, 101, 102, 117, 115, 101, 100, 32];
-    store::paste(out, 0, &word);
+    store::paste(out, 0, b"refused ");
     let a = put_decimal(out, 8, number);
-    let middle = [32u8, 97, 116, 32];
-    store::paste(out, a, &middle);
+    store::paste(out, a, b" at ");
     let b = put_decimal(out, a + 4, place);
-    put_byte(out, b, 10)
+    put_byte(out, b, b'\n')
 }
 
 // What settle prints for a problem's bytes, at the front of the lent bytes: how many they are.

@@ -14,4 +14,4 @@ returns-2 : tie.Need-returns-2
 returns-2 c = digit-high _ (c .if1 .left)
 
 pub digit-spec : {M : Type 1} → statement M
-digit-spec = tie.close (tie.spec (λ c. search needs) returns (λ c. search needs) returns-2)
+digit-spec = tie.close (tie.spec (λ c. search needs) returns (λ c. search needs) (λ c. search needs) returns-2)
