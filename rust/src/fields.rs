@@ -1,20 +1,32 @@
-//! The fields of a result.
+//! Fields, written and taken apart, and the fields of a result.
 
 use crate::run::{End, Entry, Origin, Outcome};
 use crate::term::Term;
 
 const TAG_END: u8 = 0x10;
 const TAG_UNITS: u8 = 0x11;
-const TAG_RULE: u8 = 0x12;
+/// The tag of a rule.
+pub const TAG_RULE: u8 = 0x12;
 const TAG_ENTRY: u8 = 0x13;
 const TAG_PAIR: u8 = 0x14;
 const TAG_INSTANCE: u8 = 0x15;
 
 /// Appends a field: tag, length in two bytes, contents.
-fn push_field(out: &mut Vec<u8>, tag: u8, contents: &[u8]) {
+pub fn push_field(out: &mut Vec<u8>, tag: u8, contents: &[u8]) {
     out.push(tag);
     out.extend((contents.len() as u16).to_be_bytes());
     out.extend(contents);
+}
+
+/// The tag and the contents of each field, of bytes that are whole fields.
+pub fn split_fields(mut bytes: &[u8]) -> impl Iterator<Item = (u8, &[u8])> {
+    std::iter::from_fn(move || {
+        let tag = *bytes.first()?;
+        let length = u16::from_be_bytes([bytes[1], bytes[2]]) as usize;
+        let (contents, next) = bytes[3..].split_at(length);
+        bytes = next;
+        Some((tag, contents))
+    })
 }
 
 /// The result bytes of a run.

@@ -4,6 +4,8 @@
 //! prefix form, "*(e,x) = x"; every name that is no symbol is a variable,
 //! numbered by first occurrence in its equation.
 
+use crate::fields::push_field;
+
 /// A named signature with equations in byte form.
 #[derive(Clone, Debug, Default)]
 pub struct Theory {
@@ -79,11 +81,4 @@ impl Theory {
         }
         out
     }
-}
-
-/// Appends a field: tag, length in two bytes, contents.
-pub fn push_field(out: &mut Vec<u8>, tag: u8, contents: &[u8]) {
-    out.push(tag);
-    out.extend((contents.len() as u16).to_be_bytes());
-    out.extend(contents);
 }

@@ -1,6 +1,7 @@
 //! The text settle prints: a line a field, or the refusal.
 
 use crate::calls::{complete, CompleteAnswer};
+use crate::fields::split_fields;
 use crate::MIN_RESULT;
 use std::fmt::Write;
 
@@ -13,20 +14,19 @@ pub fn settle_text(problem: &[u8]) -> Vec<u8> {
             let (number, place) = (refusal.number, refusal.place);
             writeln!(text, "refused {number} at {place}").expect("a string takes all");
         }
-        CompleteAnswer::Written(count) => write_fields(&mut text, &result[..count]),
+        CompleteAnswer::Written(count) => {
+            for (tag, contents) in split_fields(&result[..count]) {
+                write_field(&mut text, tag, contents);
+            }
+        }
     }
     text.into_bytes()
 }
 
-fn write_fields(text: &mut String, mut bytes: &[u8]) {
-    while let [tag, high, low, rest @ ..] = bytes {
-        let length = u16::from_be_bytes([*high, *low]) as usize;
-        let (contents, next) = rest.split_at(length);
-        write!(text, "{tag:02x} {length} ").expect("a string takes all");
-        for byte in contents {
-            write!(text, "{byte:02x}").expect("a string takes all");
-        }
-        text.push('\n');
-        bytes = next;
+fn write_field(text: &mut String, tag: u8, contents: &[u8]) {
+    write!(text, "{tag:02x} {} ", contents.len()).expect("a string takes all");
+    for byte in contents {
+        write!(text, "{byte:02x}").expect("a string takes all");
     }
+    text.push('\n');
 }

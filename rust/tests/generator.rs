@@ -1,11 +1,8 @@
 //! The generator: a function of its numbers, and its reach.
 
-mod common;
-
-use common::BUFFER;
 use kb_engine::generate::{self, damage};
 use kb_engine::{compare, complete, subterm, unify};
-use kb_engine::{CompareAnswer, CompleteAnswer, UnifyAnswer};
+use kb_engine::{CompareAnswer, CompleteAnswer, UnifyAnswer, MIN_RESULT};
 use std::collections::BTreeSet;
 
 const COUNT: u64 = 12_000;
@@ -22,7 +19,7 @@ fn problems_depend_on_seed_and_index_only() {
 #[test]
 fn problems_reach_every_answer() {
     let mut seen = BTreeSet::new();
-    let mut result = vec![0; BUFFER];
+    let mut result = vec![0; MIN_RESULT];
     for index in 0..COUNT {
         let problem = generate::problem(1, index);
         seen.insert(match complete(&problem, &mut result) {
@@ -52,7 +49,7 @@ fn problems_reach_every_answer() {
 
 #[test]
 fn damaged_problems_are_answered() {
-    let mut result = vec![0; BUFFER];
+    let mut result = vec![0; MIN_RESULT];
     assert!(damage::exhaustive(damage::exhaustive_count()).is_empty());
     for number in (0..damage::exhaustive_count()).step_by(3) {
         let problem = damage::exhaustive(number);

@@ -5,7 +5,7 @@ mod common;
 use common::literal::{apply, rename, Bytes, Symbols};
 use common::{completed, hex, literal_run};
 use kb_engine::problem::Problem;
-use kb_engine::{compare, generate, unify, CompareAnswer, UnifyAnswer};
+use kb_engine::{compare, generate, unify, CompareAnswer, UnifyAnswer, MIN_RESULT};
 use std::collections::HashMap;
 
 const SEED: u64 = 20;
@@ -75,7 +75,7 @@ fn comparing_follows_the_clauses() {
 
 #[test]
 fn unifying_follows_the_definition() {
-    let mut result = vec![0; common::BUFFER];
+    let mut result = vec![0; MIN_RESULT];
     for bytes in problems(if cfg!(debug_assertions) { 3000 } else { 20000 }) {
         let answer = unify(&bytes, &mut result);
         if let UnifyAnswer::Refused(_) = answer {

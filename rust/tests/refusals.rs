@@ -2,10 +2,11 @@
 
 mod common;
 
-use common::{assert_only_refused, assert_refused, bytes, refusal, BUFFER};
-use kb_engine::notation::{push_field, Theory};
+use common::{assert_only_refused, assert_refused, bytes, refusal};
+use kb_engine::fields::push_field;
+use kb_engine::notation::Theory;
 use kb_engine::{compare, complete, subterm, unify};
-use kb_engine::{CompareAnswer, CompleteAnswer, Order, Refusal, UnifyAnswer};
+use kb_engine::{CompareAnswer, CompleteAnswer, Order, Refusal, UnifyAnswer, MIN_RESULT};
 
 /// c/0, f/1, g/2.
 const SYMBOLS: &[u8] = &[0, 0, 1, 1, 2, 2];
@@ -42,7 +43,7 @@ fn number_1_short_buffer() {
     };
     let good = with_equations(&[&[0x80, 0x80]]);
     for problem in [good.as_slice(), &[], &[9; 9000]] {
-        for length in [0, 1, BUFFER - 1] {
+        for length in [0, 1, MIN_RESULT - 1] {
             let mut result = vec![7; length];
             assert_eq!(
                 complete(problem, &mut result),
@@ -52,7 +53,7 @@ fn number_1_short_buffer() {
             assert!(result.iter().all(|b| *b == 7));
         }
     }
-    let mut result = vec![7; BUFFER];
+    let mut result = vec![7; MIN_RESULT];
     assert!(matches!(
         complete(&good, &mut result),
         CompleteAnswer::Written(_)

@@ -1,7 +1,8 @@
 //! Times the proved library against the Rust engine on fixed problems.
 //!
 //! Each case runs on both engines in turn; the least processor time of
-//! several samples counts. The result buffer has 16,384 bytes and is not cleared in between.
+//! several samples counts. The result buffer has the least length that is
+//! accepted and is not cleared in between.
 //! An argument restricts the table to the cases whose name contains it.
 
 mod cases;
@@ -11,11 +12,12 @@ mod provers;
 use cases::{Call, Case};
 use kb_compare::engines::decode;
 use kb_compare::{Engine, ProvedEngine, RustEngine};
+use kb_engine::fields::{split_fields, TAG_RULE};
+use kb_engine::MIN_RESULT;
 use std::hint::black_box;
 
 const SAMPLES: usize = 9;
 const SAMPLE_SECONDS: f64 = 0.008;
-const RESULT: usize = 16384;
 
 fn call(engine: &dyn Engine, case: &Case, result: &mut [u8]) -> u64 {
     let problem = black_box(case.problem.as_slice());
@@ -60,18 +62,15 @@ fn answer_text(case: &Case, answer: u64, result: &[u8]) -> String {
     }
 }
 
-fn rule_count(mut fields: &[u8]) -> usize {
-    let mut count = 0;
-    while let [tag, high, low, rest @ ..] = fields {
-        count += (*tag == 0x12) as usize;
-        fields = &rest[u16::from_be_bytes([*high, *low]) as usize..];
-    }
-    count
+fn rule_count(result: &[u8]) -> usize {
+    split_fields(result)
+        .filter(|(tag, _)| *tag == TAG_RULE)
+        .count()
 }
 
 fn print_case(case: &Case) {
     let (proved, rust): (&dyn Engine, &dyn Engine) = (&ProvedEngine, &RustEngine);
-    let mut result = vec![0; RESULT];
+    let mut result = vec![0; MIN_RESULT];
     let expected = call(rust, case, &mut result);
     let text = answer_text(case, expected, &result);
     let bytes = result.clone();

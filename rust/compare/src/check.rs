@@ -1,11 +1,10 @@
 //! One problem through both engines: answers, whole buffers, lent bytes.
 
 use crate::engines::Engine;
+use kb_engine::MIN_RESULT;
 
 /// Bytes before and behind a result that no call may touch.
 pub const GUARD: usize = 64;
-/// Fewest result bytes that are accepted.
-pub const RESULT: usize = 16384;
 
 /// Where two engines differ.
 #[derive(Clone, Debug, PartialEq, Eq)]
@@ -142,11 +141,11 @@ fn fill(buffer: &mut Vec<u8>, length: usize, number: u64) {
 fn result_length(number: u64) -> usize {
     match number % 101 {
         50 => 0,
-        51 => 1 + (number / 101 % 16382) as usize,
-        52 => RESULT - 1,
-        53 => RESULT + 1,
-        54 => RESULT + 1000,
-        _ => RESULT,
+        51 => 1 + number as usize / 101 % (MIN_RESULT - 2),
+        52 => MIN_RESULT - 1,
+        53 => MIN_RESULT + 1,
+        54 => MIN_RESULT + 1000,
+        _ => MIN_RESULT,
     }
 }
 

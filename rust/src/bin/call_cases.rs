@@ -4,7 +4,8 @@
 //! A case is a byte that says what is asked, the length of its name, the
 //! length of its problem in two bytes, the name and the problem.
 
-use kb_engine::notation::{push_field, Theory};
+use kb_engine::fields::push_field;
+use kb_engine::notation::Theory;
 use kb_engine::theories::GROUP;
 use std::io::{self, Write};
 

@@ -1,7 +1,7 @@
 //! Problems at the edges of what is accepted.
 
 use super::random::Random;
-use crate::notation::push_field;
+use crate::fields::push_field;
 
 /// c/0, f/1, g/2, with room for one more field each time.
 const SYMBOLS: [u8; 6] = [0, 0, 1, 1, 2, 2];

@@ -1,7 +1,7 @@
 //! Random terms, and problems of one equation for unify and compare.
 
 use super::random::Random;
-use crate::notation::push_field;
+use crate::fields::push_field;
 
 /// Arity and rank by symbol.
 pub type Symbols = Vec<(u8, u8)>;

@@ -4,10 +4,10 @@
 pub mod literal;
 pub mod literal_run;
 
+use kb_engine::fields::split_fields;
 use kb_engine::notation::Theory;
-use kb_engine::{CompareAnswer, CompleteAnswer, Refusal, UnifyAnswer};
+use kb_engine::{CompareAnswer, CompleteAnswer, Refusal, UnifyAnswer, MIN_RESULT};
 
-pub const BUFFER: usize = 16384;
 const FILL: u8 = 0xa5;
 
 /// The fields of a result.
@@ -24,7 +24,7 @@ pub struct Fields {
 
 /// Completes a problem that must be accepted.
 pub fn completed(problem: &[u8]) -> Fields {
-    let mut result = vec![FILL; BUFFER + 7];
+    let mut result = vec![FILL; MIN_RESULT + 7];
     let CompleteAnswer::Written(count) = kb_engine::complete(problem, &mut result) else {
         panic!("refused");
     };
@@ -33,11 +33,8 @@ pub fn completed(problem: &[u8]) -> Fields {
         count,
         ..Fields::default()
     };
-    let mut rest = &result[..count];
-    while !rest.is_empty() {
-        let length = u16::from_be_bytes([rest[1], rest[2]]) as usize;
-        add_field(&mut fields, rest[0], &rest[3..3 + length]);
-        rest = &rest[3 + length..];
+    for (tag, contents) in split_fields(&result[..count]) {
+        add_field(&mut fields, tag, contents);
     }
     fields
 }
@@ -78,7 +75,7 @@ pub fn bytes(hex: &str) -> Vec<u8> {
 
 /// The refusal of complete, which must leave the buffer alone.
 pub fn refusal(problem: &[u8]) -> Option<(u8, usize)> {
-    let mut result = vec![FILL; BUFFER];
+    let mut result = vec![FILL; MIN_RESULT];
     match kb_engine::complete(problem, &mut result) {
         CompleteAnswer::Refused(Refusal { number, place }) => {
             assert!(result.iter().all(|b| *b == FILL));
@@ -91,7 +88,7 @@ pub fn refusal(problem: &[u8]) -> Option<(u8, usize)> {
 /// Asserts that all four calls refuse so.
 pub fn assert_refused(problem: &[u8], number: u8, place: usize) {
     let refusal = Refusal { number, place };
-    let mut result = vec![FILL; BUFFER];
+    let mut result = vec![FILL; MIN_RESULT];
     let complete = kb_engine::complete(problem, &mut result);
     assert_eq!(
         complete,
@@ -105,7 +102,7 @@ pub fn assert_refused(problem: &[u8], number: u8, place: usize) {
 /// Asserts that compare, unify and subterm refuse so.
 pub fn assert_only_refused(problem: &[u8], number: u8, place: usize) {
     let refusal = Refusal { number, place };
-    let mut result = vec![FILL; BUFFER];
+    let mut result = vec![FILL; MIN_RESULT];
     let unify = kb_engine::unify(problem, &mut result);
     assert_eq!(unify, UnifyAnswer::Refused(refusal), "{}", hex(problem));
     assert_eq!(kb_engine::compare(problem), CompareAnswer::Refused(refusal));
@@ -123,7 +120,7 @@ pub fn compared(theory: &Theory) -> u8 {
 
 /// The answer of unify with the bytes written.
 pub fn unified(theory: &Theory) -> (UnifyAnswer, Vec<u8>) {
-    let mut result = vec![FILL; BUFFER + 7];
+    let mut result = vec![FILL; MIN_RESULT + 7];
     let answer = kb_engine::unify(&theory.problem(0), &mut result);
     let count = match answer {
         UnifyAnswer::Written(count) => count,
