@@ -6,6 +6,7 @@
 
 pub mod calls;
 pub mod fields;
+pub mod fixed;
 pub mod generate;
 pub mod matching;
 pub mod normalise;

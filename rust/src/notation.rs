@@ -55,6 +55,12 @@ impl Theory {
         self
     }
 
+    /// Both sides of these equations, numbered from 1, in byte form.
+    pub fn sides(&self, equations: &[usize]) -> Vec<Vec<u8>> {
+        let chosen = equations.iter().map(|i| self.equations[i - 1].clone());
+        chosen.collect()
+    }
+
     fn byte<'t>(&self, name: &'t str, variables: &mut Vec<&'t str>) -> u8 {
         if let Some(symbol) = self.symbols.iter().position(|(n, _, _)| n == name) {
             return symbol as u8;

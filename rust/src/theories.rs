@@ -7,6 +7,19 @@ pub const GROUP: &str = "e/0/0 i/1/2 */2/1";
 /// 0, s, p, +, - with + and - above s and p.
 pub const ARITHMETIC: &str = "0/0/0 s/1/1 p/1/2 +/2/3 -/2/4";
 
+/// A name and its theory.
+type Named = (&'static str, fn() -> Theory);
+
+/// The theories of the source papers.
+pub const PAPERS: [Named; 6] = [
+    ("001 three axioms", fragment_axioms),
+    ("001 printed list", fragment_rules),
+    ("002 group axioms", group_axioms),
+    ("002 ten rules", group_rules),
+    ("003 six rules", arithmetic_axioms),
+    ("003 ten rules", arithmetic_rules),
+];
+
 /// The three group axioms of 002.
 pub fn group_axioms() -> Theory {
     Theory::new(GROUP).equations(&["*(e,x) = x", "*(i(x),x) = e", "*(x,*(y,z)) = *(*(x,y),z)"])

@@ -4,7 +4,7 @@ mod common;
 
 use common::{bytes, hex, rule_sides, run, Fields};
 use kb_engine::notation::Theory;
-use kb_engine::theories::{self, power, GROUP};
+use kb_engine::theories::{self, power, GROUP, PAPERS};
 
 const BUDGET: u32 = 1_000_000;
 
@@ -57,13 +57,10 @@ fn assert_numbers_follow(fields: &Fields) {
 
 #[test]
 fn end_21_at_every_unit() {
+    for (_, theory) in PAPERS {
+        assert_21_at_every_unit(&theory());
+    }
     let list = [
-        theories::group_axioms(),
-        theories::group_rules(),
-        theories::fragment_axioms(),
-        theories::fragment_rules(),
-        theories::arithmetic_axioms(),
-        theories::arithmetic_rules(),
         theories::descents(&[3, 2]),
         theories::many_variables(13),
         theories::monoid("ab", &["aaa=", "bb=", "abab="]),
@@ -77,13 +74,6 @@ fn end_21_at_every_unit() {
 fn budget_0_ends_21() {
     let fields = run(&Theory::new(GROUP), 0);
     assert_eq!((fields.end, fields.units, fields.count), (21, 0, 11));
-}
-
-#[test]
-fn budget_of_a_million_is_spent() {
-    let fields = run(&theories::countdown(15, 1), BUDGET);
-    assert_eq!((fields.end, fields.units), (21, BUDGET));
-    assert_eq!((fields.rules.len(), fields.log.len()), (7, 8));
 }
 
 #[test]
@@ -104,29 +94,6 @@ fn end_22_by_a_step() {
     assert_eq!(run(&grow(7), fields.units).end, 22);
     let less = run(&grow(7), fields.units - 1);
     assert_eq!((less.end, less.units), (21, fields.units - 1));
-}
-
-#[test]
-fn end_22_by_a_step_to_120_and_121_nodes() {
-    let theory = |n: usize| {
-        Theory::new("a/0/0 s/1/1 h/1/2")
-            .equation("h(x) = s(s(x))")
-            .equation(&format!("s(h({})) = a", power("s", n, "x")))
-    };
-    // s(h(s^n(x))) has n + 3 nodes, its next term one more.
-    assert_eq!(end_and_units(&theory(116)), (22, 4));
-    assert_eq!(run(&theory(116), BUDGET).log.len(), 2);
-    assert_eq!(end_and_units(&theory(117)), (22, 3));
-    assert_eq!(run(&theory(117), BUDGET).log.len(), 1);
-}
-
-#[test]
-fn end_22_by_a_peak_that_joins() {
-    let theory = |n: usize| Theory::new("f/1/0").equation(&format!("{} = x", power("f", n, "x")));
-    let fields = run(&theory(60), BUDGET);
-    assert_eq!((fields.end, fields.units, fields.rules.len()), (0, 3, 1));
-    let fields = run(&theory(61), BUDGET);
-    assert_eq!((fields.end, fields.units, fields.rules.len()), (22, 2, 1));
 }
 
 #[test]

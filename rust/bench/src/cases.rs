@@ -1,7 +1,7 @@
 //! The fixed problems of the benchmark.
 
 use kb_engine::notation::Theory;
-use kb_engine::theories::{self, monoid, power};
+use kb_engine::theories::{self, monoid, power, PAPERS};
 
 /// Which call is timed.
 #[derive(Clone, Copy, Debug, PartialEq, Eq)]
@@ -39,15 +39,9 @@ pub fn all() -> Vec<Case> {
 }
 
 fn papers() -> Vec<Case> {
-    let complete = |name, theory| case(name, Call::Complete, theory);
-    vec![
-        complete("001 three axioms", theories::fragment_axioms()),
-        complete("001 printed list", theories::fragment_rules()),
-        complete("002 group axioms", theories::group_axioms()),
-        complete("002 ten rules", theories::group_rules()),
-        complete("003 six rules", theories::arithmetic_axioms()),
-        complete("003 ten rules", theories::arithmetic_rules()),
-    ]
+    PAPERS
+        .map(|(name, theory)| case(name, Call::Complete, theory()))
+        .into()
 }
 
 fn groups() -> Vec<Case> {

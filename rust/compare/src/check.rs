@@ -1,7 +1,7 @@
 //! One problem through both engines: answers, whole buffers, lent bytes.
 
 use crate::engines::Engine;
-use kb_engine::MIN_RESULT;
+use kb_engine::{MAX_NODES, MIN_RESULT};
 
 /// Bytes before and behind a result that no call may touch.
 pub const GUARD: usize = 64;
@@ -26,6 +26,36 @@ pub struct Answers {
     pub compare: u64,
 }
 
+/// How a problem is run.
+pub struct Setting {
+    /// Of the result buffer.
+    pub length: usize,
+    /// Chooses the pattern in the buffers.
+    pub pattern: u64,
+    /// Of subterm.
+    pub positions: Vec<usize>,
+}
+
+impl Setting {
+    /// The least buffer that is accepted, and every position of a term.
+    pub fn whole(pattern: u64) -> Setting {
+        Setting {
+            length: MIN_RESULT,
+            pattern,
+            positions: every_position(),
+        }
+    }
+
+    /// Length, pattern and positions by a problem's number.
+    pub fn varied(number: u64) -> Setting {
+        Setting {
+            length: result_length(number),
+            pattern: number,
+            positions: positions(number),
+        }
+    }
+}
+
 /// Two engines, and buffers that are used again for every problem.
 pub struct Checker<'e> {
     left: &'e dyn Engine,
@@ -44,19 +74,15 @@ impl<'e> Checker<'e> {
         }
     }
 
-    /// Compares the four calls on a problem. `number` varies the pattern in
-    /// the buffers, their length, and the positions of subterm.
-    pub fn problem(&mut self, problem: &[u8], number: u64) -> Result<Answers, Difference> {
-        let length = result_length(number);
-        let complete = self.written("complete", problem, length, number, |e, p, r| {
-            e.complete(p, r)
-        })?;
+    /// Compares the four calls on a problem.
+    pub fn problem(&mut self, problem: &[u8], setting: &Setting) -> Result<Answers, Difference> {
+        let complete = self.written("complete", problem, setting, |e, p, r| e.complete(p, r))?;
         let end = (complete >> 48 == 1).then(|| self.buffers[0][GUARD + 3]);
-        let unify = self.written("unify", problem, length, number, |e, p, r| e.unify(p, r))?;
+        let unify = self.written("unify", problem, setting, |e, p, r| e.unify(p, r))?;
         let compare = self.equal("compare".to_string(), |e| e.compare(problem))?;
-        for position in positions(number) {
+        for position in &setting.positions {
             let call = format!("subterm at {position}");
-            self.equal(call, |e| part(e.subterm(problem, position)))?;
+            self.equal(call, |e| part(e.subterm(problem, *position)))?;
         }
         Ok(Answers {
             complete,
@@ -85,15 +111,15 @@ impl<'e> Checker<'e> {
         &mut self,
         name: &str,
         problem: &[u8],
-        length: usize,
-        number: u64,
+        setting: &Setting,
         call: Call,
     ) -> Result<u64, Difference> {
+        let length = setting.length;
         let lent = problem.to_vec();
         let mut answers = [0; 2];
         for (i, engine) in [self.left, self.right].into_iter().enumerate() {
             let buffer = &mut self.buffers[i];
-            fill(buffer, length + 2 * GUARD, number);
+            fill(buffer, length + 2 * GUARD, setting.pattern);
             answers[i] = call(engine, &lent, &mut buffer[GUARD..GUARD + length]);
         }
         let place = first_difference(&self.buffers[0], &self.buffers[1]);
@@ -122,7 +148,7 @@ fn first_difference(a: &[u8], b: &[u8]) -> Option<usize> {
 }
 
 /// An empty part has no place.
-fn part(answer: u64) -> u64 {
+pub fn part(answer: u64) -> u64 {
     if answer & 0xffff_ffff == 0 {
         0
     } else {
@@ -131,8 +157,8 @@ fn part(answer: u64) -> u64 {
 }
 
 /// Fills with a pattern that differs from problem to problem.
-fn fill(buffer: &mut Vec<u8>, length: usize, number: u64) {
-    let start = (number.wrapping_mul(0x9e37_79b9_7f4a_7c15) >> 56) as u8;
+fn fill(buffer: &mut Vec<u8>, length: usize, pattern: u64) {
+    let start = (pattern.wrapping_mul(0x9e37_79b9_7f4a_7c15) >> 56) as u8;
     buffer.clear();
     buffer.extend((0..length).map(|i| start.wrapping_add((i as u8).wrapping_mul(29))));
 }
@@ -149,10 +175,15 @@ fn result_length(number: u64) -> usize {
     }
 }
 
+/// Every position of a term, and the next.
+fn every_position() -> Vec<usize> {
+    (0..=MAX_NODES + 1).collect()
+}
+
 /// All positions at times, else a few.
 fn positions(number: u64) -> Vec<usize> {
     match number % 23 {
-        0 => (0..=121).collect(),
+        0 => every_position(),
         1 => vec![usize::MAX, 1 << 32, 1 << 31, 8192, 0],
         _ => vec![0, 1, (number / 23 % 121) as usize],
     }

@@ -29,8 +29,35 @@ pub fn decode(answer: u64) -> (u64, u64, u64) {
 /// The independent engine.
 pub struct RustEngine;
 
-fn refused(refusal: Refusal) -> u64 {
+/// A refusal, by any of complete, unify and compare.
+pub fn refused(refusal: Refusal) -> u64 {
     encode(0, refusal.number, refusal.place)
+}
+
+/// An answer of unify.
+pub fn unified(answer: UnifyAnswer) -> u64 {
+    match answer {
+        UnifyAnswer::Refused(refusal) => refused(refusal),
+        UnifyAnswer::Written(count) => encode(1, 0, count),
+        UnifyAnswer::None => encode(2, 0, 0),
+        UnifyAnswer::TooLarge => encode(3, TOO_LARGE, 0),
+    }
+}
+
+/// An answer of compare.
+pub fn compared(answer: CompareAnswer) -> u64 {
+    match answer {
+        CompareAnswer::Refused(refusal) => refused(refusal),
+        CompareAnswer::Compared(order) => encode(1, 0, order as usize),
+    }
+}
+
+/// A part of the problem that subterm hands back.
+pub fn handed_back(start: usize, length: usize) -> u64 {
+    if length == 0 {
+        return 0;
+    }
+    ((start as u64) << 32) | length as u64
 }
 
 impl Engine for RustEngine {
@@ -42,27 +69,16 @@ impl Engine for RustEngine {
     }
 
     fn unify(&self, problem: &[u8], result: &mut [u8]) -> u64 {
-        match kb_engine::unify(problem, result) {
-            UnifyAnswer::Refused(refusal) => refused(refusal),
-            UnifyAnswer::Written(count) => encode(1, 0, count),
-            UnifyAnswer::None => encode(2, 0, 0),
-            UnifyAnswer::TooLarge => encode(3, TOO_LARGE, 0),
-        }
+        unified(kb_engine::unify(problem, result))
     }
 
     fn compare(&self, problem: &[u8]) -> u64 {
-        match kb_engine::compare(problem) {
-            CompareAnswer::Refused(refusal) => refused(refusal),
-            CompareAnswer::Compared(order) => encode(1, 0, order as usize),
-        }
+        compared(kb_engine::compare(problem))
     }
 
     fn subterm(&self, problem: &[u8], position: usize) -> u64 {
         let part = kb_engine::subterm(problem, position);
-        if part.is_empty() {
-            return 0;
-        }
-        let start = part.as_ptr() as usize - problem.as_ptr() as usize;
-        ((start as u64) << 32) | part.len() as u64
+        let start = (part.as_ptr() as usize).wrapping_sub(problem.as_ptr() as usize);
+        handed_back(start, part.len())
     }
 }

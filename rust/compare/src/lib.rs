@@ -1,7 +1,9 @@
-//! The two engines behind one interface, and the comparison of a problem.
+//! The two engines behind one interface, the comparison of a problem, and
+//! the answers to the fixed problems.
 
 pub mod check;
 pub mod engines;
+pub mod fixed;
 #[cfg(not(feature = "selfcheck"))]
 pub mod proved;
 

@@ -1,12 +1,15 @@
 //! Compares the proved library with the Rust engine on many problems.
 //!
-//! kb_compare [count] [seed] [first index]: that many generated problems
-//! (100,000 unless KB_COUNT says otherwise) after all damaged ones. With
-//! KB_TRACE set, each problem is printed before it is run.
+//! kb_compare [count] [seed] [first index]: first the fixed problems, whose
+//! answers are known, then all damaged ones, then that many generated ones
+//! (100,000 unless KB_COUNT says otherwise). With KB_TRACE set, each problem
+//! is printed before it is run.
 
-use kb_compare::check::{Answers, Checker};
+use kb_compare::check::{Answers, Checker, Difference, Setting};
 use kb_compare::engines::decode;
-use kb_compare::{ProvedEngine, RustEngine};
+use kb_compare::fixed::faults;
+use kb_compare::{Engine, ProvedEngine, RustEngine};
+use kb_engine::fixed::{self, Case};
 use kb_engine::generate::{self, damage};
 use std::collections::BTreeMap;
 use std::process::ExitCode;
@@ -35,20 +38,26 @@ fn main() -> ExitCode {
     let mut comparison = Comparison::default();
     let mut checker = Checker::new(&ProvedEngine, &RustEngine);
     let start = Instant::now();
+    let cases = fixed::cases();
+    for (case, number) in cases.iter().zip(0..) {
+        comparison.fixed(&mut checker, case, number);
+    }
+    let wrong = comparison.wrong;
+    println!("{} fixed cases, {wrong} wrong answers", cases.len());
     for number in 0..damage::exhaustive_count() {
         let problem = damage::exhaustive(number);
-        comparison.one(&mut checker, &problem, number as u64, "all damage");
+        comparison.varied(&mut checker, &problem, number as u64, "all damage");
     }
     for index in first..first + count {
         let problem = generate::problem(seed, index);
-        comparison.one(&mut checker, &problem, index, generate::family(index));
+        comparison.varied(&mut checker, &problem, index, generate::family(index));
     }
     comparison.print();
     println!(
         "seed {seed}, from {first}, {:.1} s",
         start.elapsed().as_secs_f64()
     );
-    if comparison.differences > 0 {
+    if comparison.differences + comparison.wrong > 0 {
         return ExitCode::FAILURE;
     }
     ExitCode::SUCCESS
@@ -58,13 +67,41 @@ fn main() -> ExitCode {
 struct Comparison {
     problems: u64,
     differences: usize,
+    /// Answers to fixed cases that are not the ones due.
+    wrong: usize,
     seen: BTreeMap<String, u64>,
     by_family: BTreeMap<&'static str, u64>,
     trace: Option<bool>,
 }
 
 impl Comparison {
-    fn one(&mut self, checker: &mut Checker, problem: &[u8], number: u64, family: &'static str) {
+    /// A case with known answers: no difference, and each engine gives them.
+    fn fixed(&mut self, checker: &mut Checker, case: &Case, number: u64) {
+        let setting = Setting::whole(number);
+        self.one(checker, &case.problem, number, "fixed", &setting);
+        let engines: [(&str, &dyn Engine); 2] = [("proved", &ProvedEngine), ("rust", &RustEngine)];
+        for (name, engine) in engines {
+            for (call, answer) in faults(engine, case) {
+                self.wrong += 1;
+                println!("WRONG in {call} of {}", case.name);
+                println!("  {name} {:?}", decode(answer));
+            }
+        }
+    }
+
+    /// A problem whose number varies how it is run.
+    fn varied(&mut self, checker: &mut Checker, problem: &[u8], number: u64, family: &'static str) {
+        self.one(checker, problem, number, family, &Setting::varied(number));
+    }
+
+    fn one(
+        &mut self,
+        checker: &mut Checker,
+        problem: &[u8],
+        number: u64,
+        family: &'static str,
+        setting: &Setting,
+    ) {
         let trace = *self
             .trace
             .get_or_insert_with(|| std::env::var_os("KB_TRACE").is_some());
@@ -73,25 +110,29 @@ impl Comparison {
         }
         self.problems += 1;
         *self.by_family.entry(family).or_default() += 1;
-        match checker.problem(problem, number) {
+        match checker.problem(problem, setting) {
             Ok(answers) => self.note(&answers),
             Err(difference) => {
-                self.differences += 1;
                 println!("DIFFERENT in {}", difference.call);
                 println!("  {family}, number {number}: {}", hex(problem));
-                println!(
-                    "  proved {:?}, rust {:?}",
-                    decode(difference.left),
-                    decode(difference.right)
-                );
-                if let Some(place) = difference.place {
-                    println!("  buffers differ from result byte {place}");
-                }
-                if self.differences >= MOST_DIFFERENCES {
-                    self.print();
-                    std::process::exit(1);
-                }
+                self.differ(&difference);
             }
+        }
+    }
+
+    fn differ(&mut self, difference: &Difference) {
+        self.differences += 1;
+        println!(
+            "  proved {:?}, rust {:?}",
+            decode(difference.left),
+            decode(difference.right)
+        );
+        if let Some(place) = difference.place {
+            println!("  buffers differ from result byte {place}");
+        }
+        if self.differences >= MOST_DIFFERENCES {
+            self.print();
+            std::process::exit(1);
         }
     }
 

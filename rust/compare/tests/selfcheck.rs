@@ -1,12 +1,16 @@
 //! The comparison finds differences. Runs with the feature `selfcheck`.
 #![cfg(feature = "selfcheck")]
 
-use kb_compare::check::Checker;
+use kb_compare::check::{Checker, Setting};
+use kb_compare::fixed::faults;
 use kb_compare::{Engine, RustEngine};
-use kb_engine::generate;
+use kb_engine::{fixed, generate};
+
+/// Call, answer and result to the answer given instead.
+type Fault = fn(&str, u64, &mut [u8]) -> u64;
 
 /// The Rust engine with one fault.
-struct Faulty(fn(&str, u64, &mut [u8]) -> u64);
+struct Faulty(Fault);
 
 impl Engine for Faulty {
     fn complete(&self, problem: &[u8], result: &mut [u8]) -> u64 {
@@ -28,13 +32,49 @@ impl Engine for Faulty {
     }
 }
 
-fn differences(fault: fn(&str, u64, &mut [u8]) -> u64) -> usize {
+fn differences(fault: Fault) -> usize {
     let faulty = Faulty(fault);
     let mut checker = Checker::new(&faulty, &RustEngine);
     let problems = (0..600).map(|index| (index, generate::problem(5, index)));
     problems
-        .filter(|(i, p)| checker.problem(p, *i).is_err())
+        .filter(|(i, p)| checker.problem(p, &Setting::varied(*i)).is_err())
         .count()
+}
+
+/// Fixed cases with a wrong answer.
+fn wrong(fault: Fault) -> usize {
+    let cases = fixed::cases();
+    let wrong = cases
+        .iter()
+        .filter(|case| !faults(&Faulty(fault), case).is_empty());
+    wrong.count()
+}
+
+#[test]
+fn fixed_cases_find_faults() {
+    assert_eq!(wrong(|_, answer, _| answer), 0);
+    let count = |call: &'static str, least: usize, fault| {
+        let found = wrong(fault);
+        assert!(found >= least, "{call}: {found}");
+    };
+    count("end", 16, |call, answer, result| {
+        if call == "complete" {
+            result[3] ^= 1;
+        }
+        answer
+    });
+    count("place", 6, |call, answer, _| {
+        answer + (call == "complete" && answer >> 48 == 0) as u64
+    });
+    count("compare", 22, |call, answer, _| {
+        answer ^ (call == "compare") as u64
+    });
+    count("unify", 22, |call, answer, _| {
+        answer + (call == "unify") as u64
+    });
+    count("subterm", 6, |call, answer, _| {
+        answer + (call == "subterm" && answer > 0) as u64
+    });
 }
 
 #[test]

@@ -5,6 +5,7 @@
 //! length of its problem in two bytes, the name and the problem.
 
 use kb_engine::fields::push_field;
+use kb_engine::fixed;
 use kb_engine::notation::Theory;
 use kb_engine::theories::GROUP;
 use std::io::{self, Write};
@@ -112,7 +113,7 @@ fn tables(cases: &mut Cases) {
 }
 
 fn budget(cases: &mut Cases, name: &str, budget: u32) {
-    cases.bytes(name, &groups().equation("x = x").problem(budget));
+    cases.bytes(name, &fixed::trivial(1).problem(budget));
 }
 
 fn budgets(cases: &mut Cases) {
@@ -125,15 +126,12 @@ fn budgets(cases: &mut Cases) {
 fn counts(cases: &mut Cases) {
     for count in [0, 1, 2, 16, 17] {
         let name = format!("{count} equation{}", if count == 1 { "" } else { "s" });
-        let equations = vec!["x = x"; count];
-        cases.bytes(&name, &groups().equations(&equations).problem(9));
+        cases.bytes(&name, &fixed::trivial(count).problem(9));
     }
 }
 
-/// i(.. i(x)) on both sides, with so many i on each.
 fn chains(cases: &mut Cases, name: &str, left: usize, right: usize) {
-    let chain = |length| [vec![1; length], vec![0x80]].concat();
-    cases.contents(name, &[chain(left), chain(right)].concat());
+    cases.bytes(name, &fixed::chains(left, right).problem(9));
 }
 
 fn long_sides(cases: &mut Cases) {

@@ -3,7 +3,7 @@
 use super::random::Random;
 use super::terms::{assemble, push_term, symbols, term_end, Symbols};
 use crate::problem::Problem;
-use crate::theories;
+use crate::theories::PAPERS;
 
 const ARITIES: [u8; 8] = [0, 0, 1, 1, 2, 2, 3, 4];
 
@@ -134,15 +134,8 @@ pub fn papers(random: &mut Random) -> Vec<u8> {
 }
 
 fn paper(random: &mut Random) -> (Symbols, Vec<Vec<u8>>) {
-    let list = [
-        theories::group_axioms,
-        theories::group_rules,
-        theories::fragment_axioms,
-        theories::fragment_rules,
-        theories::arithmetic_axioms,
-        theories::arithmetic_rules,
-    ];
-    let bytes = random.pick(&list)().problem(0);
+    let (_, theory) = random.pick(&PAPERS);
+    let bytes = theory().problem(0);
     let problem = Problem::read(&bytes).expect("a fixed theory is well-formed");
     let mut symbols = symbols_of(&problem);
     if random.once_in(3) {
