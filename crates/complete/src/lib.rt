@@ -78,9 +78,9 @@ fn accepted(
     budget: usize,
     result: &mut [u8],
 ) -> usize
-    requires { ⌜ (3 ≤ table_end) × (table_end ≤ length (now problem)) × (length (now problem) ≤ 65536) ⌝ }
+    requires { ⌜ (3 ≤ «table_end») × («table_end» ≤ length (now problem)) × (length (now problem) ≤ 65536) ⌝ }
     requires { ⌜ (count ≤ 16) × (budget ≤ 1000000) × (13726 ≤ length (now result)) ⌝ }
-    ensures { λ r. ⌜ WritesProblem (now (problem .entry)) table_end budget count (now (result .entry)) (now (result .exit)) r ⌝ }
+    ensures { λ r. ⌜ WritesProblem (now (problem .entry)) «table_end» budget count (now (result .entry)) (now (result .exit)) r ⌝ }
 {
     if count == 0 {
         return write_empty(budget, result);
