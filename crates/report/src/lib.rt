@@ -9,6 +9,15 @@ ghost use Rattle.naming.specs.Names.{collect, renamed-bytes};
 ghost use Rattle.report.specs.Fields.{Puts, PutsSome, Lent, tagged, slot-field, slot-fields, low, forms-bytes};
 ghost use Rattle.report.specs.Report.{Reports, OfState};
 
+// The tags of the result's fields. Those of the log, 0x13, stand in the log.
+const END: u8 = 0x10;
+
+const UNITS: u8 = 0x11;
+
+const RULE: u8 = 0x12;
+
+const FORMS: u8 = 0x14;
+
 // A number in so many bytes, high byte first: the place behind it.
 fn put_number(out: &mut [u8], at: usize, width: usize, n: u32) -> usize
     requires { ⌜ at + width ≤ length (now out) ⌝ }
@@ -76,7 +85,7 @@ fn put_rule(
 {
     let n = terms::wide(lens[2 * k]);
     let m = terms::wide(lens[2 * k + 1]);
-    let a = put_head(out, at, 18, 2 + n + m);
+    let a = put_head(out, at, RULE, 2 + n + m);
     let b = put_number(out, a, 2, numbers[k] as u32);
     let c = put_part(out, b, rules, 240 * k, n);
     put_part(out, c, rules, 240 * k + 120, m)
@@ -116,7 +125,7 @@ fn put_forms(out: &mut [u8], at: usize, left: &[u8], right: &[u8]) -> usize
     store::paste(&mut pair, 0, left);
     store::paste(&mut pair, n, right);
     naming::rename_front(&mut pair, e);
-    put_field(out, at, 20, &pair[0..e])
+    put_field(out, at, FORMS, &pair[0..e])
 }
 
 // Whether every byte is below 160: that of a symbol or of a variable below 32.
@@ -168,8 +177,8 @@ pub fn report(
     requires { ⌜ Lent (now rules) (now lens) (now numbers) count (now log) entries (now left) (now right) ⌝ }
     ensures { λ r. ⌜ Reports end units (now (rules .entry)) (now (lens .entry)) (now (numbers .entry)) count (now (log .entry)) entries (now (left .entry)) (now (right .entry)) (now (out .entry)) (now (out .exit)) r ⌝ }
 {
-    let a = put_number_field(out, 0, 16, 1, end as u32);
-    let b = put_number_field(out, a, 17, 4, units);
+    let a = put_number_field(out, 0, END, 1, end as u32);
+    let b = put_number_field(out, a, UNITS, 4, units);
     let c = put_rules(out, b, rules, lens, numbers, count);
     let d = put_part(out, c, log, 0, 11 * entries);
     put_forms_if(out, d, end, left, right)

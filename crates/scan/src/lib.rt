@@ -34,7 +34,12 @@ fn scan_at(
         Met::Nothing => joining::stopped(rewriting::COMPLETE, units),
         Met::TooLarge => joining::stopped(rewriting::TOO_LARGE, units),
         Met::Found(m, n) => {
-            let from = origins::origin(4, numbers[inner], numbers[outer], position);
+            let from = origins::origin(
+                origins::OVERLAPPING,
+                numbers[inner],
+                numbers[outer],
+                position,
+            );
             joining::join_pair(rules, lens, count, table, left, m, right, n, from, units)
         }
     }
@@ -87,7 +92,7 @@ fn scan_inputs(
 {
     let mut u = units;
     for k in 0..number {
-        let from = origins::origin(3, (k + 1) as u16, 0, 0);
+        let from = origins::origin(origins::SCANNED_INPUT, (k + 1) as u16, 0, 0);
         let w = joining::join_slot(
             rules,
             lens,

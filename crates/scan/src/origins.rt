@@ -4,6 +4,11 @@ ghost use mathlib.Core.List.{_∷_, _++_};
 ghost use Prim.Native.Nat.{_<_};
 ghost use Rattle.terms.specs.Base.{number-bytes};
 
+// The kinds of the scan's origins.
+pub const SCANNED_INPUT: u8 = 3;
+
+pub const OVERLAPPING: u8 = 4;
+
 // The kind in one byte, two numbers in two bytes each, and a position in one.
 pub fn origin(kind: u8, first: u16, second: u16, position: usize) -> [u8; 6]
     requires { ⌜ position < 256 ⌝ }
