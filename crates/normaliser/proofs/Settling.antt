@@ -1,4 +1,4 @@
--- The turns of `settle`: normalising the term at hand, with the units left, comes to what was asked; and a lemma for each return. Assumes nothing.
+-- The turns of `normalise_in`: normalising the term at hand, with the units left, comes to what was asked; and a lemma for each return. Assumes nothing.
 -- Read first: specs/Settled (Settled), redex/specs/Step (CellsHold, Rewritten), redex/specs/Marks, proofs/Sequence, proofs/Parts.
 use mathlib.Core.Path.{_≡_, refl, sym, _∙_, ap, ap₂, subst}
 use mathlib.Core.Bool.{Bool, true, false}

@@ -1,4 +1,4 @@
--- The turns of `settle_all`: the terms still to be normalised, behind those that are, come to what all come to; and a lemma for each return. Assumes
+-- The turns of `normalise_all`: the terms still to be normalised, behind those that are, come to what all come to; and a lemma for each return. Assumes
 -- nothing.
 -- Read first: specs/Settled (Settled, SettledAll), proofs/Sequence, proofs/Parts.
 use mathlib.Core.Path.{_≡_, refl, sym, _∙_, ap, ap₂, subst}

@@ -1,4 +1,4 @@
--- `normalise` and `reducible`: `settle` with the limit 120 and nothing behind the term is the definition's; the units paid are those it takes; with
+-- `normalise` and `reducible`: `normalise_in` with the limit 120 and nothing behind the term is the definition's; the units paid are those it takes; with
 -- none it stops exactly where there is a step. Assumes nothing.
 -- Read first: specs/Settled (Settled, Normalised, Reducible), proofs/Sequence, proofs/Loading, redex/proofs/Marking (plain).
 use mathlib.Core.Path.{_≡_, refl, sym, _∙_, ap, subst}

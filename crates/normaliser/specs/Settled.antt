@@ -38,7 +38,7 @@ pub record LeftNormal (c len units : ℕ) (o : Out) : Type 0 where
   pub first : o .verdict ≡ goes-on → 1 ≤ o .end
   pub answer : c / 256 ≤ len → (o .verdict ≡ goes-on) × (o .end ≡ c / 256)
 
--- `settle` and `settle_all`
+-- `normalise_in` and `normalise_all`
 abbrev pub EndsWith : List ℕ → List ℕ → List ℕ → Out → Paid Term → Type 0
 EndsWith tab t post o (done y left) = (o .verdict ≡ goes-on) × (o .units ≡ left) × (o .end ≡ size y) × (take (o .len) t ≡ cells y ++ post) × Wf 32 tab y
 EndsWith tab t post o (stop e left) = (o .verdict ≡ end-number e) × (o .units ≡ left)

@@ -24,7 +24,7 @@ fn leave(c: u16, len: usize, units: u32) -> Out
 }
 
 // Normalises the term at the start of t, of which `len` cells are in use and at most `most` may be.
-fn settle(
+fn normalise_in(
     t: &mut [u16],
     len: usize,
     most: usize,
@@ -50,7 +50,7 @@ fn settle(
         }
         let n = terms::owed_by(table, matching::byte_of(c));
         let m = most - 1;
-        let r = settle_all(&mut t[1..], n, l - 1, m, table, rules, lens, count, u);
+        let r = normalise_all(&mut t[1..], n, l - 1, m, table, rules, lens, count, u);
         if r.verdict != rewriting::GOES_ON {
             return r;
         }
@@ -64,7 +64,7 @@ fn settle(
 }
 
 // Normalises the n terms at the start of t.
-fn settle_all(
+fn normalise_all(
     t: &mut [u16],
     n: usize,
     len: usize,
@@ -85,7 +85,7 @@ fn settle_all(
     let mut u = units;
     while k > 0 {
         let m = most - p;
-        let r = settle(&mut t[p..], l - p, m, table, rules, lens, count, u);
+        let r = normalise_in(&mut t[p..], l - p, m, table, rules, lens, count, u);
         if r.verdict != rewriting::GOES_ON {
             return r;
         }
@@ -135,7 +135,7 @@ pub fn reducible(t: &[u8], table: &[u8], rules: &[u8], lens: &[u8], count: usize
 {
     let mut cells = [0u16; 120];
     load(t, &mut cells);
-    let r = settle(&mut cells, t.len(), 120, table, rules, lens, count, 0);
+    let r = normalise_in(&mut cells, t.len(), 120, table, rules, lens, count, 0);
     r.verdict == rewriting::SPENT
 }
 
@@ -162,7 +162,7 @@ pub fn normalise(
 {
     let mut cells = [0u16; 120];
     load(&t[0..len], &mut cells);
-    let r = settle(&mut cells, len, 120, table, rules, lens, count, units);
+    let r = normalise_in(&mut cells, len, 120, table, rules, lens, count, units);
     let n = r.len;
     unload(&cells[0..n], t);
     Normal {

@@ -1,4 +1,4 @@
--- `normalise`: the bytes are loaded, settled with at most 120 cells, and unloaded; and the units that it took, by `whole`. Assumes nothing.
+-- `normalise`: the bytes are loaded, normalised with at most 120 cells, and unloaded; and the units that it took, by `whole`. Assumes nothing.
 -- Read first: specs/Settled (Normalised), proofs/Whole.
 use Rattle.normaliser.proofs.Whole.{whole}
 use Rattle.matching.proofs.Replacing.{take-less-zero}
@@ -12,7 +12,7 @@ use Rattle.normaliser.proofs.normalise.Tie as tie
 use Rattle.normaliser.proofs.normalise.Reads as reads
 use Rattle.normaliser.proofs.normalise.Lts as lts
 use Rattle.normaliser.proofs.load.Reads as load-reads
-use Rattle.normaliser.proofs.settle.Reads as settle-reads
+use Rattle.normaliser.proofs.normalise_in.Reads as normalise-in-reads
 use Rattle.normaliser.proofs.unload.Reads as unload-reads
 
 returns : tie.Need-returns
@@ -20,7 +20,7 @@ returns c =
     let a = c .before .before .before .before .before .before .before .before .before .before .before .before .before .before .before .before .before .before .before .args in
     let p = c .before .before .before .before .before .before .before .before .before .before .before .before .before .before .before .before .before .before .before .pre .1 in
     let e = take-less-zero (a .len) (a .t .now) in
-    whole _ _ _ _ _ _ _ _ _ _ _ (ap length e ∙ length-take-le (a .len) (a .t .now) (omega arith)) (omega arith) refl (c .before .before .before .before .before .before .before .before .before .before .before .load .ensures) (c .before .before .before .before .before .before .before .before .settle .ensures) _ _ _ e (omega arith) (take-less-zero (c .before .before .before .before .before .before .before .before .settle .result .len) (c .before .before .before .before .before .before .before .before .settle .last .0)) (c .before .before .before .unload .ensures)
+    whole _ _ _ _ _ _ _ _ _ _ _ (ap length e ∙ length-take-le (a .len) (a .t .now) (omega arith)) (omega arith) refl (c .before .before .before .before .before .before .before .before .before .before .before .load .ensures) (c .before .before .before .before .before .before .before .before .normalise-in .ensures) _ _ _ e (omega arith) (take-less-zero (c .before .before .before .before .before .before .before .before .normalise-in .result .len) (c .before .before .before .before .before .before .before .before .normalise-in .last .0)) (c .before .before .before .unload .ensures)
 
 pub normalise-spec : {M : Type 1} → statement M
 normalise-spec =

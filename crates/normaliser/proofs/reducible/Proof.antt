@@ -9,11 +9,11 @@ use Rattle.normaliser.proofs.reducible.Tie as tie
 use Rattle.normaliser.proofs.reducible.Reads as reads
 use Rattle.normaliser.proofs.reducible.Lts as lts
 use Rattle.normaliser.proofs.load.Reads as load-reads
-use Rattle.normaliser.proofs.settle.Reads as settle-reads
+use Rattle.normaliser.proofs.normalise_in.Reads as normalise-in-reads
 
 returns : tie.Need-returns
 unfolding end-number
-returns c = reduces _ _ _ _ _ _ _ _ _ _ _ refl (search needs) refl (c .before .before .before .before .before .load .ensures) (c .before .before .settle .ensures) refl
+returns c = reduces _ _ _ _ _ _ _ _ _ _ _ refl (search needs) refl (c .before .before .before .before .before .load .ensures) (c .before .before .normalise-in .ensures) refl
 
 pub reducible-spec : {M : Type 1} → statement M
 reducible-spec =
