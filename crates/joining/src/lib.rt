@@ -4,8 +4,9 @@ ghost use lib.ListN.{length};
 ghost use Rattle.redex.specs.Stored.{Layout};
 ghost use Rattle.joining.specs.Joins.{Bare, PairWalk, SlotWalk};
 
-// Verdict GOES_ON: a pair with two different normal forms, which stand in the buffers, m and n bytes long; COMPLETE: none so far; SPENT; TOO_LARGE;
-// or another, where the bytes are no term. `units` are left.
+// What became of a pair, or of a walk over pairs. Verdict COMPLETE: the two normal forms are equal, so no pair is found so far, and a walk looks on;
+// GOES_ON: a pair is found, whose two different normal forms stand in the buffers, m and n bytes long; SPENT and TOO_LARGE: the work stopped; or
+// another, where the bytes are no term. `units` are left.
 pub struct Walk {
     pub verdict: u8,
     pub units: u32,
