@@ -75,7 +75,7 @@ unfolding candidates numbered flatMap
 candidates-origins k [] = refl
 candidates-origins k (e ∷ es) = ap (λ z. origin-bytes (waiting-input k) ++ z) (candidates-origins (suc k) es)
 
--- `begin`
+-- `initial`
 module _ (inputs lens : List ℕ) (number : ℕ) (y : Layout [] inputs lens number) (few : number ≤ 16) (d₁ d₂ wb wl : List ℕ)
     (e : wb ≡ patched 0 (take (240 * number - 0) (drop 0 inputs)) d₁) (f : wl ≡ patched 0 (take (2 * number - 0) (drop 0 lens)) d₂) where
   front-bytes : wb ≡ take (240 * number) inputs ++ drop (0 + length (take (240 * number) inputs)) d₁
@@ -123,9 +123,9 @@ module _ (inputs lens : List ℕ) (number : ℕ) (y : Layout [] inputs lens numb
       units = budget;
     }
 
-    begin-represents : (tab : List ℕ) (P : Problem) → Stored tab inputs lens 0 (map (λ e. renamed (e .sides)) (P .equations)) → number ≡ length (P .equations) → Represents tab first-state (initial P)
+    initial-represents : (tab : List ℕ) (P : Problem) → Stored tab inputs lens 0 (map (λ e. renamed (e .sides)) (P .equations)) → number ≡ length (P .equations) → Represents tab first-state (initial P)
     unfolding initial flatMap
-    begin-represents tab P s n =
+    initial-represents tab P s n =
         let ps : List Pair = map (λ e. renamed (e .sides)) (P .equations) in
         let q : length ps ≡ length (P .equations) = length-map (P .equations) (λ (e : Equation). renamed (e .sides)) in
         record {
@@ -142,8 +142,8 @@ module _ (inputs lens : List ℕ) (number : ℕ) (y : Layout [] inputs lens numb
           entries = refl;
         }
 
-    pub begin-done : FirstState inputs lens number budget first-state
-    begin-done = record {
+    pub initial-done : FirstState inputs lens number budget first-state
+    initial-done = record {
       fine = record {
         rules-fit = record { slots = omega arith; lengths = omega arith; few = omega arith; short = λ i h. absurd (omega arith) };
         waiting-fit = layout-of [] wb wl number (omega arith) (omega arith) (omega arith) (λ i h. short-as (same-slot i h) (short-at [] inputs lens number i y h));
@@ -157,5 +157,5 @@ module _ (inputs lens : List ℕ) (number : ℕ) (y : Layout [] inputs lens numb
       };
       units = refl;
       waits = refl;
-      represents = begin-represents;
+      represents = initial-represents;
     }

@@ -1,2 +1,3 @@
 pub mod Changing
 pub mod Beginning
+pub mod Paying

@@ -11,6 +11,20 @@ use Rattle.completion.specs.Calls.{entry-field}
 use Rattle.collapse.specs.Sifting.{pairs-of, origins-bytes}
 use Rattle.engine.specs.declared.State.{State}
 
+-- the state with other units
+abbrev pub with-units : State → ℕ → State
+with-units st u = record {
+  lens = st .lens;
+  numbers = st .numbers;
+  count = st .count;
+  made = st .made;
+  lengths = st .lengths;
+  origins = st .origins;
+  waits = st .waits;
+  entries = st .entries;
+  units = u;
+}
+
 -- the small state with the bytes that lie in lent buffers: those of the rules, of the waiting equations and of the log
 pub record Whole : Type 0 where
   pub rules : List ℕ

@@ -29,9 +29,9 @@ pub record FirstState (inputs lens : List ℕ) (number budget : ℕ) (r : Whole)
   pub waits : r .waits ≡ number
   pub represents : (tab : List ℕ) (P : Problem) → Stored tab inputs lens 0 (map (λ e. renamed (e .sides)) (P .equations)) → number ≡ length (P .equations) → Represents tab r (initial P)
 
--- `begin`, whatever bytes the other two buffers hold
-pub record Begins (inputs lens : List ℕ) (number budget : ℕ) (waiting : List ℕ) (r : State) : Type 0 where
-  pub begun : (rules log : List ℕ) → length rules ≡ 7920 → length log ≡ 5632 → FirstState inputs lens number budget (whole r rules waiting log)
+-- `initial`, whatever bytes the other two buffers hold
+pub record Initial (inputs lens : List ℕ) (number budget : ℕ) (waiting : List ℕ) (r : State) : Type 0 where
+  pub first : (rules log : List ℕ) → length rules ≡ 7920 → length log ≡ 5632 → FirstState inputs lens number budget (whole r rules waiting log)
 
 -- the waiting list without its oldest
 pub record TakenState (st r : Whole) : Type 0 where

@@ -1,13 +1,14 @@
 // The run's state, and the steps of a turn that change it.
 ghost use mathlib.Core.Path.{_≡_};
 ghost use mathlib.Core.List.{[]};
-ghost use Prim.Native.Nat.{_+_, _*_, _<_, _≤_};
+ghost use Prim.Native.Nat.{_+_, _-_, _*_, _<_, _≤_};
 ghost use lib.ListN.{length, take};
 ghost use Rattle.completion.specs.Turn.{waiting-input};
 ghost use Rattle.completion.specs.Calls.{origin-bytes};
 ghost use Rattle.redex.specs.Stored.{Layout};
 ghost use Rattle.store.specs.Slots.{patched};
-ghost use Rattle.engine.specs.Steps.{numbered, entry-bytes, Begins, Takes, Collapses, Orients, Logs};
+ghost use Rattle.engine.specs.State.{with-units};
+ghost use Rattle.engine.specs.Steps.{numbered, entry-bytes, Initial, Takes, Collapses, Orients, Logs};
 
 // Rules and waiting equations stand in slots, oldest first; a rule has its number beside it, a waiting equation its origin in six bytes,
 // and an entry of the log has eleven, as field 13 of the result. The bytes of the slots and of the log lie in lent buffers of 7920, 7920
@@ -21,13 +22,13 @@ pub struct State {
     pub origins: [u8; 198],
     pub waits: usize,
     pub entries: usize,
-    // The units that are left.
+    // The units that are left for the next turn; behind `begin`, for the rest of the turn. What its steps pay is counted beside the state.
     pub units: u32,
 }
 
 impl State {
-    // The first state: the input equations, which stand in the first slots of a store, wait in their order.
-    pub fn begin(
+    // The first state of a run: the input equations, which stand in the first slots of a store, wait in their order.
+    pub fn initial(
         inputs: &[u8],
         lens: &[u8],
         number: usize,
@@ -36,7 +37,7 @@ impl State {
     ) -> State
         requires { ⌜ Layout [] (now inputs) (now lens) number × (number ≤ 16) ⌝ }
         requires { ⌜ length (now waiting) ≡ 7920 ⌝ }
-        ensures { λ r. ⌜ Begins (now (inputs .entry)) (now (lens .entry)) number budget (now (waiting .exit)) r ⌝ }
+        ensures { λ r. ⌜ Initial (now (inputs .entry)) (now (lens .entry)) number budget (now (waiting .exit)) r ⌝ }
     {
         let a = 240 * number;
         let b = 2 * number;
@@ -56,6 +57,15 @@ impl State {
             entries: 0,
             units: budget,
         }
+    }
+
+    // A turn begins: its unit is paid.
+    pub fn begin(mut self) -> State
+        requires { ⌜ 0 < self .units ⌝ }
+        ensures { λ r. ⌜ r ≡ with-units self (self .units - 1) ⌝ }
+    {
+        self.units = self.units - 1;
+        self
     }
 
     // The waiting list without its oldest equation.
@@ -114,7 +124,7 @@ impl State {
         self
     }
 
-    // Step 5: the new rule behind the live ones.
+    // The new rule joins behind the live ones.
     pub fn orient(mut self, rules: &mut [u8], new: &[u8], sizes: &[u8]) -> State
         requires { ⌜ Layout [] (now new) (now sizes) 1 × (length (now rules) ≡ 7920) ⌝ }
         requires { ⌜ (self .count ≤ 31) × (self .made ≤ self .entries) × (self .entries < 512) ⌝ }
@@ -145,6 +155,9 @@ impl State {
     }
 }
 
+// The kind of a waiting input's origin.
+const WAITING_INPUT: u8 = 1;
+
 // The origins of the first n input equations, which are numbered from 1.
 fn number_inputs(origins: &mut [u8], n: usize)
     requires { ⌜ (6 * n ≤ length (now origins)) × (n ≤ 16) ⌝ }
@@ -161,16 +174,17 @@ fn put_input(origins: &mut [u8], i: usize)
     requires { ⌜ (6 * (i + 1) ≤ length (now origins)) × (i < 16) ⌝ }
     ensures { λ _. ⌜ now (origins .exit) ≡ patched (6 * i) (origin-bytes (waiting-input (i + 1))) (now (origins .entry)) ⌝ }
 {
-    let e = [1u8, 0, (i + 1) as u8, 0, 0, 0];
+    let e = [WAITING_INPUT, 0, (i + 1) as u8, 0, 0, 0];
     store::paste(origins, 6 * i, &e);
 }
 
+// The n-th entry: the tag of its field, the length of the contents in two bytes, the origin, and the number of the rule made.
 fn add_entry(log: &mut [u8], n: usize, origin: &[u8], made: u16)
     requires { ⌜ (11 * (n + 1) ≤ length (now log)) × (length (now origin) ≡ 6) ⌝ }
     ensures { λ _. ⌜ now (log .exit) ≡ patched (11 * n) (entry-bytes (now (origin .entry)) made) (now (log .entry)) ⌝ }
 {
     let e = [
-        19u8,
+        0x13u8,
         0,
         8,
         origin[0],

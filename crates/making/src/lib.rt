@@ -61,7 +61,7 @@ fn finish(
     stopped(logged, rewriting::GOES_ON, c.units, 0, 0)
 }
 
-// Steps 5 to 7 with the new rule, alone in its store. A stop leaves the rules and the log as they are.
+// Steps 6 and 7, with the new rule of step 5 alone in its store. A stop leaves the rules and the log as they are.
 fn with_rule(
     st: State,
     rules: &mut [u8],

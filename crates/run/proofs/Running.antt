@@ -11,49 +11,15 @@ use Rattle.rewriting.proofs.Holds.{goes-on≢end}
 use Rattle.completion.specs.Turn.{State as RunState, Finished, turn, run}
 use Rattle.completion.proofs.Turning.{Running, run-begins, run-goes-on, run-ends}
 use Rattle.completion.proofs.Reachable.{turn-less}
-use Rattle.engine.specs.State.{Whole, whole, Fine, Represents}
+use Rattle.engine.specs.State.{with-units, Whole, whole, Fine, Represents}
 use Rattle.engine.specs.declared.State.{State}
 use Rattle.engine.specs.Steps.{FirstState}
+use Rattle.engine.proofs.Paying.{paying, units-represent, units-fine}
 use Rattle.making.specs.Made.{Outcome, outcome}
 use Rattle.turn.specs.Turns.{Given, Shown, TurnedIs, WholeTurn}
-use Rattle.run.specs.Runs.{EndedWith, with-units, RanIs, Runs}
+use Rattle.run.specs.Runs.{EndedWith, RanIs, Runs}
 use Rattle.making.specs.declared.Turned.{Turned}
 use Rattle.run.specs.declared.Ran.{Ran}
-
--- other units
-abbrev pub paying : Whole → ℕ → Whole
-paying st u = record {
-  rules = st .rules;
-  lens = st .lens;
-  numbers = st .numbers;
-  count = st .count;
-  made = st .made;
-  waiting = st .waiting;
-  lengths = st .lengths;
-  origins = st .origins;
-  waits = st .waits;
-  log = st .log;
-  entries = st .entries;
-  units = u;
-}
-
-units-represent : (tab : List ℕ) (st : Whole) (u : ℕ) (s : RunState) → Represents tab st s → Represents tab (paying st u) s
-units-represent tab st u s R =
-    record { rules = R .rules; numbers = R .numbers; count = R .count; made = R .made; waiting = R .waiting; origins = R .origins; waits = R .waits; log = R .log; entries = R .entries }
-
-units-fine : (st : Whole) (u : ℕ) → Fine st → Fine (paying st u)
-units-fine st u F =
-    record {
-      rules-fit = F .rules-fit;
-      waiting-fit = F .waiting-fit;
-      live = F .live;
-      together = F .together;
-      log-few = F .log-few;
-      made-few = F .made-few;
-      rules-room = F .rules-room;
-      waiting-room = F .waiting-room;
-      log-room = F .log-room;
-    }
 
 -- the state stands for one on the way of the run
 pub record OnTheWay (tab : List ℕ) (P : Problem) (st : Whole) : Type 0 where
@@ -128,6 +94,7 @@ run-ended tab inputs lens count budget st I L R L′ R′ t rules waiting log T 
       rules-fit = subst (Layout [] rules (t .state .lens)) (sym (K .count)) fit;
       live = omega (arith, K .count, I .fine .live);
       log-few = omega (arith, K .entries, I .fine .log-few);
+      within = omega (arith, E .paid);
       left-few = subst (λ x. x ≤ 120) (sym (E .m)) (T .safe .left-few);
       right-few = subst (λ x. x ≤ 120) (sym (E .n)) (T .safe .right-few);
       answer = λ P G b.

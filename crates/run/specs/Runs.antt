@@ -8,24 +8,9 @@ use Rattle.rewriting.specs.Rewrite.{neither-above, end-number}
 use Rattle.redex.specs.Stored.{Layout}
 use Rattle.completion.specs.Turn.{Finished, run}
 use Rattle.engine.specs.State.{Whole, Held}
-use Rattle.engine.specs.declared.State.{State}
 use Rattle.making.specs.declared.Turned.{Turned}
 use Rattle.turn.specs.Turns.{Shown, Given}
 use Rattle.run.specs.declared.Ran.{Ran}
-
--- the state with other units
-abbrev pub with-units : State → ℕ → State
-with-units st u = record {
-  lens = st .lens;
-  numbers = st .numbers;
-  count = st .count;
-  made = st .made;
-  lengths = st .lengths;
-  origins = st .origins;
-  waits = st .waits;
-  entries = st .entries;
-  units = u;
-}
 
 -- `ended`
 pub record EndedWith (t : Turned) (budget : ℕ) (left right : List ℕ) (o : Ran) : Type 0 where
@@ -48,6 +33,8 @@ pub record Runs (tab inputs lens : List ℕ) (count budget : ℕ) (o : Ran) (las
   pub rules-fit : Layout [] (last .rules) (last .lens) (last .count)
   pub live : last .count ≤ 32
   pub log-few : last .entries ≤ 512
+  -- "never above the lent budget"
+  pub within : o .paid ≤ budget
   pub left-few : o .m ≤ 120
   pub right-few : o .n ≤ 120
   pub answer : (P : Problem) → Given tab inputs lens count P → budget ≡ P .budget → RanIs tab (run P) o last

@@ -3,8 +3,8 @@ ghost use mathlib.Core.Path.{_≡_};
 ghost use Prim.Native.Nat.{_-_, _≤_};
 ghost use lib.ListN.{length};
 ghost use Rattle.redex.specs.Stored.{Layout};
-ghost use Rattle.engine.specs.State.{whole};
-ghost use Rattle.run.specs.Runs.{with-units, EndedWith, Runs};
+ghost use Rattle.engine.specs.State.{with-units, whole};
+ghost use Rattle.run.specs.Runs.{EndedWith, Runs};
 use engine::State;
 use making::Turned;
 
@@ -71,7 +71,7 @@ pub fn run(
 {
     let mut left = [0u8; 120];
     let mut right = [0u8; 120];
-    let mut st = State::begin(inputs, sizes, number, budget, waiting);
+    let mut st = State::initial(inputs, sizes, number, budget, waiting);
     loop {
         let t = turn::turn(
             st,

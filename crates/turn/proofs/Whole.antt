@@ -22,13 +22,15 @@ use Rattle.completion.proofs.Limits.{candidates-sides}
 use Rattle.completion.proofs.Turning.{turn-unpaid}
 use Rattle.completion.proofs.Result.{origin-bytes-length}
 use Rattle.collapse.specs.Sifting.{origins-bytes}
-use Rattle.engine.specs.State.{Whole, Represents}
+use Rattle.engine.specs.State.{with-units, Whole, whole, Fine, Represents}
+use Rattle.engine.specs.declared.State.{State}
 use Rattle.engine.specs.Steps.{TakenState}
 use Rattle.joining.specs.declared.Walk.{Walk}
 use Rattle.joining.specs.Joins.{compared, Walked, FormsRoom, SlotWalk}
 use Rattle.scan.specs.Walk.{rule-at, no-rule, Finds, ScanIs}
-use Rattle.making.specs.Made.{Outcome, Stops, without-taken, TurnWith, SettledTurn, MakesTurn}
+use Rattle.making.specs.Made.{Outcome, RulesKept, Stops, without-taken, TurnWith, SettledTurn, MakesTurn}
 use Rattle.turn.specs.Turns.{Shown, TurnedIs, Buffers, WaitingTurn, Given, ScanTurn, WholeTurn}
+use Rattle.engine.proofs.Paying.{paying, units-represent, units-fine}
 use Rattle.making.proofs.Keeping.{held-of}
 use Rattle.making.proofs.Parts.{stop-safe}
 use Rattle.turn.proofs.Taking.{waiting-settles, waiting-differs, waiting-stops, scan-found, scan-stops}
@@ -203,21 +205,26 @@ whole-unpaid st tab inputs sizes number L R o z y =
           (y .verdict-is, y .units-are, held-of Re (y .kept), λ g q. absurd (zero≢one (cc)));
     }
 
-module _ (st : Whole) (tab inputs sizes : List ℕ) (number : ℕ) (L R L′ R′ : List ℕ) (o : Outcome) (u : ℕ) (e : suc u ≡ st .units) where
-  pub whole-waiting : WaitingTurn st tab L R L′ R′ u o → WholeTurn st tab inputs sizes number L R L′ R′ o
-  whole-waiting X =
-      record {
-        safe = X .safe;
-        stays = X .stays;
-        buffers = X .buffers;
-        answer = λ P G s Re. subst (λ n. TurnedIs tab s L′ R′ o (turn P s n)) e (X .answer P (G .ranks) s Re);
-      }
+-- a turn that takes, with the inputs that it does not read
+pub takes-whole : {st : Whole} {tab L R L′ R′ : List ℕ} {u : ℕ} {o : Outcome} → WaitingTurn st tab L R L′ R′ u o → (inputs sizes : List ℕ) (number : ℕ) → ScanTurn st tab inputs sizes number L R L′ R′ u o
+takes-whole X inputs sizes number = record { safe = X .safe; stays = X .stays; buffers = X .buffers; answer = λ P G s Re. X .answer P (G .ranks) s Re }
 
-  pub whole-scan : ScanTurn st tab inputs sizes number L R L′ R′ u o → WholeTurn st tab inputs sizes number L R L′ R′ o
-  whole-scan X =
+-- from the turn that has begun to the whole one: the unit that `begin` pays is the definition's
+kept-units : {st r : Whole} {u : ℕ} → RulesKept (paying st u) r → RulesKept st r
+kept-units K = record { rules = K .rules; lens = K .lens; numbers = K .numbers; count = K .count; made = K .made; log = K .log; entries = K .entries }
+
+module _ (st begun : State) (rules waiting log : List ℕ) (B : begun ≡ with-units st (st .units - 1)) where
+  pub begun-fine : Fine (whole st rules waiting log) → Fine (whole begun rules waiting log)
+  begun-fine F = subst (λ x. Fine (whole x rules waiting log)) (sym B) (units-fine (whole st rules waiting log) (st .units - 1) F)
+
+  pub begun-whole : 0 < st .units → (tab inputs sizes : List ℕ) (number : ℕ) (L R L′ R′ : List ℕ) (o : Outcome) → ScanTurn (whole begun rules waiting log) tab inputs sizes number L R L′ R′ (begun .units) o →
+      WholeTurn (whole st rules waiting log) tab inputs sizes number L R L′ R′ o
+  begun-whole some tab inputs sizes number L R L′ R′ o Y =
+      let e : suc (st .units - 1) ≡ st .units = omega arith in
+      let X = subst (λ x. ScanTurn (whole x rules waiting log) tab inputs sizes number L R L′ R′ (x .units) o) B Y in
       record {
         safe = X .safe;
-        stays = X .stays;
+        stays = λ v. kept-units (X .stays v);
         buffers = X .buffers;
-        answer = λ P G s Re. subst (λ n. TurnedIs tab s L′ R′ o (turn P s n)) e (X .answer P G s Re);
+        answer = λ P G s Re. subst (λ n. TurnedIs tab s L′ R′ o (turn P s n)) e (X .answer P G s (units-represent tab _ _ s Re));
       }

@@ -29,11 +29,10 @@ fn walk_oldest(
     origin: [u8; 6],
     left: &mut [u8],
     right: &mut [u8],
-    units: u32,
 ) -> Walk
     requires { ⌜ Layout (now table) (now rules) (st .lens) (st .count) × Layout (now table) (now waiting) (st .lengths) 1 ⌝ }
     requires { ⌜ (120 ≤ length (now left)) × (120 ≤ length (now right)) ⌝ }
-    ensures { λ r. ⌜ SlotWalk (now (table .entry)) (now (rules .entry)) (st .lens) (st .count) (now (waiting .entry)) (st .lengths) 0 (now (left .entry)) (now (right .entry)) (now (left .exit)) (now (right .exit)) origin units r ⌝ }
+    ensures { λ r. ⌜ SlotWalk (now (table .entry)) (now (rules .entry)) (st .lens) (st .count) (now (waiting .entry)) (st .lengths) 0 (now (left .entry)) (now (right .entry)) (now (left .exit)) (now (right .exit)) origin (st .units) r ⌝ }
 {
     let lens = st.lens;
     let lengths = st.lengths;
@@ -49,11 +48,11 @@ fn walk_oldest(
         origin,
         left,
         right,
-        units,
+        st.units,
     )
 }
 
-// A turn that takes the oldest waiting equation.
+// A turn that takes the oldest waiting equation; `st` has begun it.
 fn turn_waiting(
     st: State,
     rules: &mut [u8],
@@ -62,14 +61,13 @@ fn turn_waiting(
     table: &[u8],
     left: &mut [u8],
     right: &mut [u8],
-    units: u32,
 ) -> Turned
     requires { ⌜ Fine (whole st (now rules) (now waiting) (now log)) × (0 < st .waits) ⌝ }
     requires { ⌜ (120 ≤ length (now left)) × (120 ≤ length (now right)) ⌝ }
-    ensures { λ r. ⌜ WaitingTurn (whole st (now (rules .entry)) (now (waiting .entry)) (now (log .entry))) (now (table .entry)) (now (left .entry)) (now (right .entry)) (now (left .exit)) (now (right .exit)) units (outcome r (now (rules .exit)) (now (waiting .exit)) (now (log .exit))) ⌝ }
+    ensures { λ r. ⌜ WaitingTurn (whole st (now (rules .entry)) (now (waiting .entry)) (now (log .entry))) (now (table .entry)) (now (left .entry)) (now (right .entry)) (now (left .exit)) (now (right .exit)) (st .units) (outcome r (now (rules .exit)) (now (waiting .exit)) (now (log .exit))) ⌝ }
 {
     let origin = oldest(st);
-    let w = walk_oldest(st, rules, waiting, table, origin, left, right, units);
+    let w = walk_oldest(st, rules, waiting, table, origin, left, right);
     if w.verdict == rewriting::COMPLETE {
         return making::settled(st, waiting, log, origin, w.units);
     }
@@ -103,12 +101,11 @@ fn walk_scan(
     number: usize,
     left: &mut [u8],
     right: &mut [u8],
-    units: u32,
 ) -> Walk
     requires { ⌜ Layout (now table) (now rules) (st .lens) (st .count) × (st .count ≤ length (st .numbers)) ⌝ }
     requires { ⌜ Layout (now table) (now inputs) (now sizes) number ⌝ }
     requires { ⌜ (120 ≤ length (now left)) × (120 ≤ length (now right)) ⌝ }
-    ensures { λ r. ⌜ ScanIs (now (table .entry)) (now (rules .entry)) (st .lens) (st .numbers) (st .count) (now (inputs .entry)) (now (sizes .entry)) number (now (left .entry)) (now (right .entry)) (now (left .exit)) (now (right .exit)) units r ⌝ }
+    ensures { λ r. ⌜ ScanIs (now (table .entry)) (now (rules .entry)) (st .lens) (st .numbers) (st .count) (now (inputs .entry)) (now (sizes .entry)) number (now (left .entry)) (now (right .entry)) (now (left .exit)) (now (right .exit)) (st .units) r ⌝ }
 {
     let lens = st.lens;
     let numbers = st.numbers;
@@ -124,11 +121,11 @@ fn walk_scan(
         number,
         left,
         right,
-        units,
+        st.units,
     )
 }
 
-// A turn that scans, where nothing waits.
+// A turn that scans, where nothing waits; `st` has begun it.
 fn turn_scan(
     st: State,
     rules: &mut [u8],
@@ -140,14 +137,13 @@ fn turn_scan(
     number: usize,
     left: &mut [u8],
     right: &mut [u8],
-    units: u32,
 ) -> Turned
     requires { ⌜ Fine (whole st (now rules) (now waiting) (now log)) × (st .waits ≡ 0) ⌝ }
     requires { ⌜ Layout (now table) (now inputs) (now sizes) number × (number ≤ 16) ⌝ }
     requires { ⌜ (120 ≤ length (now left)) × (120 ≤ length (now right)) ⌝ }
-    ensures { λ r. ⌜ ScanTurn (whole st (now (rules .entry)) (now (waiting .entry)) (now (log .entry))) (now (table .entry)) (now (inputs .entry)) (now (sizes .entry)) number (now (left .entry)) (now (right .entry)) (now (left .exit)) (now (right .exit)) units (outcome r (now (rules .exit)) (now (waiting .exit)) (now (log .exit))) ⌝ }
+    ensures { λ r. ⌜ ScanTurn (whole st (now (rules .entry)) (now (waiting .entry)) (now (log .entry))) (now (table .entry)) (now (inputs .entry)) (now (sizes .entry)) number (now (left .entry)) (now (right .entry)) (now (left .exit)) (now (right .exit)) (st .units) (outcome r (now (rules .exit)) (now (waiting .exit)) (now (log .exit))) ⌝ }
 {
-    let w = walk_scan(st, rules, table, inputs, sizes, number, left, right, units);
+    let w = walk_scan(st, rules, table, inputs, sizes, number, left, right);
     if w.verdict != rewriting::GOES_ON {
         return making::stopped(st, w.verdict, w.units, 0, 0);
     }
@@ -189,12 +185,12 @@ pub fn turn(
     if st.units == 0 {
         return making::stopped(st, rewriting::SPENT, 0, 0, 0);
     }
-    let units = st.units - 1;
-    if st.waits > 0 {
-        return turn_waiting(st, rules, waiting, log, table, left, right, units);
+    let begun = st.begin();
+    if begun.waits > 0 {
+        return turn_waiting(begun, rules, waiting, log, table, left, right);
     }
     turn_scan(
-        st,
+        begun,
         rules,
         waiting,
         log,
@@ -204,6 +200,5 @@ pub fn turn(
         number,
         left,
         right,
-        units,
     )
 }

@@ -13,7 +13,7 @@ use Rattle.run.proofs.run.Statement.{statement}
 use Rattle.run.proofs.run.Tie as tie
 use Rattle.run.proofs.run.Reads as reads
 use Rattle.run.proofs.run.Lts as lts
-use Rattle.engine.proofs.State.begin.Reads as begin-reads
+use Rattle.engine.proofs.State.initial.Reads as initial-reads
 use Rattle.run.proofs.ended.Reads as ended-reads
 use Rattle.run.proofs.next.Reads as next-reads
 use Rattle.turn.proofs.turn.Reads as turn-reads
@@ -26,13 +26,13 @@ abbrev μ-loop : tie.MeasureT-loop
 μ-loop inputs sizes number table budget rules₀ waiting₀ log₀ left₀ right₀ st₀ rules waiting log left right st =
     512 - st .entries
 
-begin-requires : tie.Need-begin-requires Inv-loop μ-loop
-begin-requires c κs =
+initial-requires : tie.Need-initial-requires Inv-loop μ-loop
+initial-requires c κs =
     ((layout-front _ _ _ _ _ _ (c .before .before .before .before .before .before .before .pre .0 .0) (omega arith), c .before .before .before .before .before .before .before .pre .0 .1), c .before .before .before .before .before .before .before .pre .1 .1)
 
 loop-holds : tie.Need-loop-holds Inv-loop μ-loop
 loop-holds c =
-    (looping-begins _ _ _ _ (c .before .before .before .before .before .before .before .before .before .before .args .budget) _ _ (c .before .before .begin .ensures .begun _ _ (c .before .before .before .before .before .before .before .before .before .before .pre .1 .0) (c .before .before .before .before .before .before .before .before .before .before .pre .1 .2)) refl, refl, refl)
+    (looping-begins _ _ _ _ (c .before .before .before .before .before .before .before .before .before .before .args .budget) _ _ (c .before .before .initial .ensures .first _ _ (c .before .before .before .before .before .before .before .before .before .before .pre .1 .0) (c .before .before .before .before .before .before .before .before .before .before .pre .1 .2)) refl, refl, refl)
 
 turn-requires : tie.Need-turn-requires Inv-loop μ-loop
 turn-requires c κs =
@@ -72,7 +72,7 @@ run-spec =
     (tie.spec
     Inv-loop
     μ-loop
-    begin-requires
+    initial-requires
     loop-holds
     (λ c. search needs)
     (λ c. search needs)

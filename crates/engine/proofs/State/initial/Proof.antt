@@ -1,13 +1,13 @@
--- `State::begin`: two pastes and the numbered origins are the first state, by `begin-done`. Assumes nothing.
+-- `State::initial`: two pastes and the numbered origins are the first state, by `initial-done`. Assumes nothing.
 -- Read first: specs/Steps (FirstState), proofs/Beginning.
 use mathlib.Core.Path.{_≡_}
 use lib.ListN.{length}
-use Rattle.engine.proofs.Beginning.{begin-done}
+use Rattle.engine.proofs.Beginning.{initial-done}
 use borrow.Author.Needs.{needs}
-use Rattle.engine.proofs.State.begin.Statement.{statement}
-use Rattle.engine.proofs.State.begin.Tie as tie
-use Rattle.engine.proofs.State.begin.Reads as reads
-use Rattle.engine.proofs.State.begin.Lts as lts
+use Rattle.engine.proofs.State.initial.Statement.{statement}
+use Rattle.engine.proofs.State.initial.Tie as tie
+use Rattle.engine.proofs.State.initial.Reads as reads
+use Rattle.engine.proofs.State.initial.Lts as lts
 use Rattle.engine.proofs.number_inputs.Reads as number-inputs-reads
 use Rattle.store.proofs.paste.Reads as paste-reads
 
@@ -57,10 +57,10 @@ returns : tie.Need-returns
 returns c =
     let e : length (c .before .before .before .before .before .before .before .before .before .paste .last .0) ≡ 7920 = search needs in
     let f : length (c .before .before .before .before .paste2 .last .0) ≡ 66 = search needs in
-    record { begun = λ rules log long-rules long-log. begin-done _ _ _ (c .before .before .before .before .before .before .before .before .before .before .before .before .before .before .before .pre .0 .0) (c .before .before .before .before .before .before .before .before .before .before .before .before .before .before .before .pre .0 .1) _ _ _ _ (c .before .before .before .before .before .before .before .before .before .paste .ensures) (c .before .before .before .before .paste2 .ensures) e f _ (c .before .number-inputs .ensures .1) _ _ _ _ _ long-rules long-log }
+    record { first = λ rules log long-rules long-log. initial-done _ _ _ (c .before .before .before .before .before .before .before .before .before .before .before .before .before .before .before .pre .0 .0) (c .before .before .before .before .before .before .before .before .before .before .before .before .before .before .before .pre .0 .1) _ _ _ _ (c .before .before .before .before .before .before .before .before .before .paste .ensures) (c .before .before .before .before .paste2 .ensures) e f _ (c .before .number-inputs .ensures .1) _ _ _ _ _ long-rules long-log }
 
-pub begin-spec : {M : Type 1} → statement M
-begin-spec =
+pub initial-spec : {M : Type 1} → statement M
+initial-spec =
     tie.close
     (tie.spec
     mul-a
