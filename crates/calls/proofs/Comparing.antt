@@ -1,5 +1,5 @@
 -- What `named` and `compare` tell: a lemma for each return. Assumes nothing.
--- Read first: specs/Answers (told), single/specs/Places (SidesAt), order/specs/Walk (IsCompared).
+-- Read first: specs/Answers (compared-told), single/specs/Places (SidesAt), order/specs/Walk (IsCompared).
 use mathlib.Core.Path.{_≡_, ap, sym, _∙_}
 use mathlib.Core.Bool.{Bool, true, false}
 use mathlib.Core.List.{List}
@@ -17,25 +17,25 @@ use Rattle.completion.specs.Calls.{Single, parse-single, compare-call}
 use Rattle.completion.proofs.Ranks.{ranks-are}
 use Rattle.single.specs.Places.{table, left-side, right-side, SidesAt}
 use Rattle.single.proofs.Singles.{left-starts, right-starts}
-use Rattle.calls.specs.Answers.{told}
+use Rattle.calls.specs.Answers.{compared-told}
 use Rattle.calls.specs.declared.Compared.{Compared}
 use Rattle.calls.specs.declared.Compared.the-variants.{LeftAbove, RightAbove, Identical, Neither, Refused as Unread}
 
 -- `named` and `compare`
-pub named-left : (n : ℕ) → n ≡ 1 → told LeftAbove ≡ ok n
-unfolding told
+pub named-left : (n : ℕ) → n ≡ 1 → compared-told LeftAbove ≡ ok n
+unfolding compared-told
 named-left n h = ap ok (sym h)
 
-pub named-right : (n : ℕ) → n ≡ 2 → told RightAbove ≡ ok n
-unfolding told
+pub named-right : (n : ℕ) → n ≡ 2 → compared-told RightAbove ≡ ok n
+unfolding compared-told
 named-right n h = ap ok (sym h)
 
-pub named-identical : (n : ℕ) → n ≡ 3 → told Identical ≡ ok n
-unfolding told
+pub named-identical : (n : ℕ) → n ≡ 3 → compared-told Identical ≡ ok n
+unfolding compared-told
 named-identical n h = ap ok (sym h)
 
-pub named-neither : (n : ℕ) → n ≡ 4 → told Neither ≡ ok n
-unfolding told
+pub named-neither : (n : ℕ) → n ≡ 4 → compared-told Neither ≡ ok n
+unfolding compared-told
 named-neither n h = ap ok (sym h)
 
 range : (r : ℕ → ℕ) (s t : Term) → (1 ≤ comparison r s t) × (comparison r s t ≤ 4)
@@ -52,8 +52,8 @@ pub part-small : (l : List ℕ) (a : ℕ) → length l ≤ 8192 → length (from
 part-small l a h = omega (arith, ap length (from-drop l a), length-drop a l)
 
 module _ (l : List ℕ) where
-  pub compare-unread : (n p : ℕ) → parse-single l ≡ refused n p → told (Unread n p) ≡ compare-call l
-  unfolding told compare-call
+  pub compare-unread : (n p : ℕ) → parse-single l ≡ refused n p → compared-told (Unread n p) ≡ compare-call l
+  unfolding compared-told compare-call
   compare-unread n p h = sym (bind-refused _ h)
 
   module _ (e a b c : ℕ) (S : Single) (A : SidesAt l e a b c S) where
@@ -64,7 +64,7 @@ module _ (l : List ℕ) where
       pub compare-range : (1 ≤ n) × (n ≤ 4)
       compare-range = rw compared (range (rank (table l e)) (left-side S) (right-side S))
 
-      pub compare-read : (r : Compared) → told r ≡ ok n → told r ≡ compare-call l
+      pub compare-read : (r : Compared) → compared-told r ≡ ok n → compared-told r ≡ compare-call l
       unfolding compare-call
       compare-read r q =
           q ∙ ap ok (compared ∙ ap (λ (f : ℕ → ℕ). comparison f (left-side S) (right-side S)) (sym (ranks-are (table l e) (A .single .known)))

@@ -16,7 +16,7 @@ use Rattle.terms.proofs.Bytes.{length-bytes}
 use Rattle.unify.specs.Unify.{mgu}
 use Rattle.problem.specs.Problem.{ok, refused, _>>=_, refuse-if}
 use Rattle.problem.proofs.Fields.{bind-ok, bind-refused}
-use Rattle.completion.specs.Calls.{Single, Unified as Common, instance, no-instance, instance-too-large, parse-single, unified, enough, unify-call, after-unify}
+use Rattle.completion.specs.Calls.{Single, CommonInstance, instance, no-instance, instance-too-large, parse-single, unified, enough, unify-call, after-unify}
 use Rattle.completion.proofs.Accepts.{single-fits}
 use Rattle.single.specs.Places.{table, left-side, right-side, SidesAt}
 use Rattle.single.proofs.Singles.{left-starts, right-starts}
@@ -27,7 +27,7 @@ use Rattle.calls.specs.declared.Unified.{Unified}
 use Rattle.calls.specs.declared.Unified.the-variants.{Refused as Unread}
 
 -- what is found for the definition's value is told as that value is
-found-returns : (u : Common) → found-told (found-of u) ≡ unify-returns (ok u)
+found-returns : (u : CommonInstance) → found-told (found-of u) ≡ unify-returns (ok u)
 unfolding found-told found-of unify-returns
 found-returns (instance bytes) = refl
 found-returns no-instance = refl

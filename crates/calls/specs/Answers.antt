@@ -9,7 +9,7 @@ use denote.Ref.{RefT}
 use Rattle.terms.specs.Term.{size}
 use Rattle.problem.specs.Problem.{Reading, ok, refused}
 use Rattle.rewriting.specs.Rewrite.{too-large, end-number}
-use Rattle.completion.specs.Calls.{parse-single, Part, subterm-part, Unified as Common, instance, no-instance, instance-too-large, after-unify}
+use Rattle.completion.specs.Calls.{parse-single, Part, subterm-part, CommonInstance, instance, no-instance, instance-too-large, after-unify}
 use Rattle.instances.specs.declared.Found.{Found}
 use Rattle.instances.specs.declared.Found.the-variants.{Instance as Written, Nothing as None, TooLarge as Large}
 use Rattle.calls.specs.declared.Compared.{Compared}
@@ -18,12 +18,12 @@ use Rattle.calls.specs.declared.Unified.{Unified}
 use Rattle.calls.specs.declared.Unified.the-variants.{Instance, Nothing, TooLarge, Refused as NotUnified}
 
 -- "Compare answers 1 (left above), 2 (right above), 3 (identical), 4 (neither)", or the refusal's number and place.
-unfoldable pub told : Compared → Reading ℕ
-told LeftAbove = ok 1
-told RightAbove = ok 2
-told Identical = ok 3
-told Neither = ok 4
-told (Unread number place) = refused number place
+unfoldable pub compared-told : Compared → Reading ℕ
+compared-told LeftAbove = ok 1
+compared-told RightAbove = ok 2
+compared-told Identical = ok 3
+compared-told Neither = ok 4
+compared-told (Unread number place) = refused number place
 
 -- What unify returns: the count of result bytes, "none", a number only, or a number and a place. "a common instance over 120 nodes" has the number of
 -- the run's end for a term over 120 nodes.
@@ -45,14 +45,14 @@ found-told (Written count) = bytes-written count
 found-told None = none-common
 found-told Large = number-only (end-number too-large)
 
-unfoldable pub unify-returns : Reading Common → Returned
+unfoldable pub unify-returns : Reading CommonInstance → Returned
 unify-returns (ok (instance bytes)) = bytes-written (length bytes)
 unify-returns (ok no-instance) = none-common
 unify-returns (ok instance-too-large) = number-only (end-number too-large)
 unify-returns (refused n place) = number-and-place n place
 
 -- the answer and the result buffer, before and after, are what the definition says
-pub record Unifies (u : Reading Common) (r : Unified) (d d′ : List ℕ) : Type 0 where
+pub record Unifies (u : Reading CommonInstance) (r : Unified) (d d′ : List ℕ) : Type 0 where
   pub told : unified-told r ≡ unify-returns u
   pub leaves : d′ ≡ after-unify u d
 

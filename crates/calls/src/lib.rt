@@ -5,7 +5,7 @@ ghost use lib.Dec.{eqb};
 ghost use lib.ListN.{length};
 ghost use Rattle.problem.specs.Problem.{ok};
 ghost use Rattle.completion.specs.Calls.{compare-call, subterm-part, subterm-call, unify-call};
-ghost use Rattle.calls.specs.Answers.{told, found-told, unified-told, Unifies, PartAt, IsPart, subterm-refused};
+ghost use Rattle.calls.specs.Answers.{compared-told, found-told, unified-told, Unifies, PartAt, IsPart, subterm-refused};
 
 pub enum Compared {
     LeftAbove,
@@ -18,7 +18,7 @@ pub enum Compared {
 
 fn named(n: u8) -> Compared
     requires { ⌜ (1 ≤ n) × (n ≤ 4) ⌝ }
-    ensures { λ r. ⌜ told r ≡ ok n ⌝ }
+    ensures { λ r. ⌜ compared-told r ≡ ok n ⌝ }
 {
     if n == 1 {
         return Compared::LeftAbove;
@@ -34,7 +34,7 @@ fn named(n: u8) -> Compared
 
 // Which side of the problem's one equation is above the other.
 pub fn compare(problem: &[u8]) -> Compared
-    ensures { λ r. ⌜ told r ≡ compare-call (now (problem .entry)) ⌝ }
+    ensures { λ r. ⌜ compared-told r ≡ compare-call (now (problem .entry)) ⌝ }
 {
     match single::sides(problem) {
         single::Equation::Refused { number, place } => Compared::Refused { number, place },

@@ -7,11 +7,11 @@ use Prim.Native.Nat.{ℕ, zero, suc, _+_, _≤_}
 use native.Mathlib.Omega.{arith}
 use lib.ListN.{length, length-append, length-take, length-drop, take, drop}
 use borrow.Author.Tests.{ltb-false}
-use Rattle.terms.specs.Base.{number-from}
+use Rattle.terms.specs.Base.{number-from, Every, of-none, of-cons}
 use Rattle.terms.specs.Term.{Term, term-bytes}
 use Rattle.terms.proofs.Bytes.{length-bytes}
-use Rattle.terms.proofs.Every.{Every, of-none, of-cons, every-head, every-tail}
-use Rattle.problem.specs.Problem.{Reading, ok, refused, _>>=_, refuse-if, Field, read-field, due, Symbol, arity-of, read-symbols, symbol-field, budget-field, Byte, symbol, variable, neither, byte-of, ReadPart, read-term, read-terms, read-side, Equation, equation-field, equation-fields, Problem, parse, only-equation}
+use Rattle.terms.proofs.Every.{every-head, every-tail}
+use Rattle.problem.specs.Problem.{Reading, ok, refused, _>>=_, refuse-if, ReadField, read-field, due, Symbol, arity-of, read-symbols, symbol-field, budget-field, Byte, symbol, variable, neither, byte-of, ReadPart, read-term, read-terms, read-side, Equation, equation-field, equation-fields, Problem, parse, only-equation}
 use Rattle.completion.specs.Calls.{enough, complete-call, Single, parse-single, compare-call, unify-call}
 use Rattle.problem.proofs.Reading.{ReadsTo, reads, from-bind, no-ok, ok-injective, passed}
 
@@ -31,7 +31,7 @@ test-within true n at p q = was-refused n at p q
 test-within false n at p q = was-read
 
 -- A field that was read: its contents and what stands behind it are parts of the bytes.
-record FieldWithin (at : ℕ) (bytes : List ℕ) (f : Field) : Type 0 where
+record FieldWithin (at : ℕ) (bytes : List ℕ) (f : ReadField) : Type 0 where
   first : f .first ≡ at
   contents : at + 3 + length (f .contents) ≡ f .end
   rest : f .end + length (f .rest) ≡ at + length bytes
@@ -43,7 +43,7 @@ field-within at (t ∷ []) h = was-refused 3 at (omega arith) h
 field-within at (t ∷ a ∷ []) h = was-refused 3 at (omega arith) h
 field-within at (t ∷ a ∷ b ∷ bytes) h = bind-within _ _ (test-within _ 3 at (omega arith) h) λ _ _. was-read
 
-field-parts : (at : ℕ) (bytes : List ℕ) (f : Field) → read-field at bytes ≡ ok f → FieldWithin at bytes f
+field-parts : (at : ℕ) (bytes : List ℕ) (f : ReadField) → read-field at bytes ≡ ok f → FieldWithin at bytes f
 unfolding read-field
 field-parts at [] f q = absurd (no-ok q)
 field-parts at (t ∷ []) f q = absurd (no-ok q)
@@ -62,7 +62,7 @@ due-within tag at (b ∷ bytes) h =
     bind-within _ _ (field-within at (b ∷ bytes) h) λ f _.
     bind-within _ _ (test-within _ 4 at (omega arith) h) λ _ _. was-read
 
-due-parts : (tag at : ℕ) (bytes : List ℕ) (f : Field) → due tag at bytes ≡ ok f → FieldWithin at bytes f
+due-parts : (tag at : ℕ) (bytes : List ℕ) (f : ReadField) → due tag at bytes ≡ ok f → FieldWithin at bytes f
 unfolding due
 due-parts tag at [] f q = absurd (no-ok q)
 due-parts tag at (b ∷ bytes) f q =
@@ -80,12 +80,12 @@ symbols-within ranks at (a ∷ r ∷ bytes) h =
     bind-within _ _ (test-within _ 7 (at + 1) (omega arith) (omega arith)) λ _ _.
     bind-within _ _ (symbols-within (r ∷ ranks) (at + 2) bytes (omega arith)) λ _ _. was-read
 
-symbol-field-within : {e : ℕ} (f : Field) → f .first + 3 + length (f .contents) ≤ e → RefusesWithin e (symbol-field f)
+symbol-field-within : {e : ℕ} (f : ReadField) → f .first + 3 + length (f .contents) ≤ e → RefusesWithin e (symbol-field f)
 unfolding symbol-field
 symbol-field-within f h =
     bind-within _ _ (test-within _ 5 (f .first) (omega arith) (omega arith)) λ _ _. symbols-within [] (f .first + 3) (f .contents) h
 
-budget-within : {e : ℕ} (f : Field) → f .first ≤ e → RefusesWithin e (budget-field f)
+budget-within : {e : ℕ} (f : ReadField) → f .first ≤ e → RefusesWithin e (budget-field f)
 unfolding budget-field
 budget-within f h =
     bind-within _ _ (test-within _ 8 (f .first) (omega arith) h) λ _ _.
@@ -136,7 +136,7 @@ module _ (Σ : List Symbol) (e : ℕ) where
       from-bind _ _ p q λ _ _ q.
       let s : t ≡ p = ok-injective q in rw (← s) (term-behind (suc (length bytes)) at bytes t r)
 
-  equation-within : (f : Field) → f .first + 3 + length (f .contents) ≤ e → RefusesWithin e (equation-field Σ f)
+  equation-within : (f : ReadField) → f .first + 3 + length (f .contents) ≤ e → RefusesWithin e (equation-field Σ f)
   unfolding equation-field
   equation-within f k =
       bind-within _ _ (side-within (f .first + 3) (f .contents) k) λ l p.

@@ -19,7 +19,7 @@ use Rattle.unify.specs.Unify.{Binding, under, mgu}
 use Rattle.rewriting.specs.Rewrite.{end-number}
 use Rattle.problem.specs.Problem.{Reading, ok, refused, rank-of}
 use Rattle.problem.proofs.Reading.{from-bind, ok-injective}
-use Rattle.completion.specs.Calls.{Single, parse-single, complete-call, compare-call, unify-call, Unified, instance, no-instance, instance-too-large, unified, Part, part-of, subterm-part}
+use Rattle.completion.specs.Calls.{Single, parse-single, complete-call, compare-call, unify-call, CommonInstance, instance, no-instance, instance-too-large, unified, Part, part-of, subterm-part}
 use Rattle.completion.proofs.Accepts.{single-fits}
 use Rattle.completion.proofs.Capacity.{complete-writes}
 use Rattle.complete.specs.Answer.{counted}
@@ -115,7 +115,7 @@ pub unify-unpacks : (problem : List ℕ) (buffer : ℕ) → UnpacksReturned (uni
 unfolding unify-code unify-returns end-number
 unify-unpacks problem buffer = go (unify-call problem buffer) refl (unify-within problem buffer)
   where
-    go : (c : Reading Unified) → unify-call problem buffer ≡ c → RefusesWithin 8192 c → UnpacksReturned (unify-code (unify-returns c)) (unify-returns c)
+    go : (c : Reading CommonInstance) → unify-call problem buffer ≡ c → RefusesWithin 8192 c → UnpacksReturned (unify-code (unify-returns c)) (unify-returns c)
     go (ok (instance bytes)) q h = code-unpacks 1 0 (length bytes) (omega arith) (omega (arith, unify-few problem buffer bytes q))
     go (ok no-instance) q h = code-unpacks 2 0 0 (omega arith) (omega arith)
     go (ok instance-too-large) q h = code-unpacks 3 22 0 (omega arith) (omega arith)

@@ -10,8 +10,7 @@ use Rattle.matching.proofs.Replacing.{take-less-zero}
 use Rattle.problem.specs.Problem.{Reading, ok, refused, _>>=_, refuse-if, rank-of, Problem, parse}
 use Rattle.problem.specs.Parser.{ParsedAt}
 use Rattle.completion.specs.Turn.{run}
-use Rattle.completion.specs.Calls.{result-bytes, enough, complete-call, after-complete}
-use Rattle.report.specs.Fields.{Writes}
+use Rattle.completion.specs.Calls.{result-bytes, enough, complete-call, after-complete, Writes}
 use Rattle.report.specs.Report.{OfState}
 use Rattle.completion.proofs.Accepts.{accepts}
 use Rattle.completion.proofs.Ranks.{ranks-are}
@@ -22,7 +21,7 @@ use Rattle.engine.specs.State.{whole}
 use Rattle.turn.specs.Turns.{Given}
 use Rattle.run.specs.Runs.{Runs}
 use Rattle.run.specs.declared.Ran.{Ran}
-use Rattle.complete.specs.Answer.{told, counted, Delivery, WritesRun, WritesProblem}
+use Rattle.complete.specs.Answer.{completed-told, counted, Delivery, WritesRun, WritesProblem}
 use Rattle.complete.specs.declared.Completed.{Completed}
 use Rattle.complete.specs.declared.Completed.the-variants.{Written, Refused}
 use Rattle.complete.proofs.Delivering.{delivery}
@@ -72,7 +71,7 @@ accepted-needs l e b n (P, A) =
 
 -- `complete`
 pub record Answered (problem before after : List ℕ) (r : Completed) : Type 0 where
-  pub answer : told r ≡ counted (complete-call problem (length before))
+  pub answer : completed-told r ≡ counted (complete-call problem (length before))
   pub bytes : after ≡ after-complete (complete-call problem (length before)) before
 
 module _ (problem before : List ℕ) where
@@ -80,19 +79,19 @@ module _ (problem before : List ℕ) where
   unfolding complete-call enough refuse-if _>>=_
   refused-short h = rw (lt-ltb (length before) 16_384 h) refl
 
-  answered : (after : List ℕ) (r : Completed) (c : Reading (List ℕ)) → complete-call problem (length before) ≡ c → told r ≡ counted c → after ≡ after-complete c before → Answered problem before after r
+  answered : (after : List ℕ) (r : Completed) (c : Reading (List ℕ)) → complete-call problem (length before) ≡ c → completed-told r ≡ counted c → after ≡ after-complete c before → Answered problem before after r
   answered after r c e a b = record { answer = a ∙ ap counted (sym e); bytes = b ∙ ap (λ x. after-complete x before) (sym e) }
 
   pub answers-short : length before < 16_384 → Answered problem before before (Refused 1 0)
-  unfolding told counted after-complete
+  unfolding completed-told counted after-complete
   answers-short h = answered before (Refused 1 0) (refused 1 0) (refused-short h) refl refl
 
   pub answers-refused : 16_384 ≤ length before → (n at : ℕ) → parse problem ≡ refused n at → Answered problem before before (Refused n at)
-  unfolding told counted after-complete _>>=_
+  unfolding completed-told counted after-complete _>>=_
   answers-refused h n at e = answered before (Refused n at) (refused n at) (complete-is problem (length before) h ∙ ap (λ x. x >>= λ P. ok (result-bytes (run P))) e) refl refl
 
   pub answers-written : 16_384 ≤ length before → (P : Problem) → parse problem ≡ ok P → (after : List ℕ) (r : ℕ) → Writes before (result-bytes (run P)) after r → Answered problem before after (Written r)
-  unfolding told counted after-complete _>>=_
+  unfolding completed-told counted after-complete _>>=_
   answers-written h P e after r w =
       answered after (Written r) (ok (result-bytes (run P))) (complete-is problem (length before) h ∙ ap (λ x. x >>= λ P. ok (result-bytes (run P))) e) (ap ok (w .count)) (w .bytes)
 

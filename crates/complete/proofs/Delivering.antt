@@ -10,13 +10,13 @@ use Rattle.completion.specs.Calls.{complete-call, after-complete}
 use Rattle.completion.specs.Promise.{Delivers}
 use Rattle.completion.proofs.Promised.{promised}
 use Rattle.completion.proofs.Writing.{written-front}
-use Rattle.complete.specs.Answer.{told, counted, Delivery}
+use Rattle.complete.specs.Answer.{completed-told, counted, Delivery}
 use Rattle.complete.specs.declared.Completed.{Completed}
 use Rattle.complete.specs.declared.Completed.the-variants.{Written, Refused}
 
-pub delivery : (problem before after : List ℕ) (r : Completed) → told r ≡ counted (complete-call problem (length before)) → after ≡ after-complete (complete-call problem (length before)) before →
+pub delivery : (problem before after : List ℕ) (r : Completed) → completed-told r ≡ counted (complete-call problem (length before)) → after ≡ after-complete (complete-call problem (length before)) before →
     Delivery problem after r
-unfolding Delivery told counted after-complete
+unfolding Delivery completed-told counted after-complete
 delivery problem before after (Refused n at) a b = tt
 delivery problem before after (Written n) a b = go (complete-call problem (length before)) refl a b
   where

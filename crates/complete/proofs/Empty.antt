@@ -11,11 +11,10 @@ use Rattle.rewriting.specs.Overlap.{Rule, sides-of, all-places}
 use Rattle.rewriting.specs.Rewrite.{complete, spent, stop, and-then, _>>=_, end-with, end-number}
 use Rattle.redex.specs.Stored.{Stored}
 use Rattle.completion.specs.Turn.{waiting-input, candidates, initial, scan-inputs, scan, take-pair, turn, run}
-use Rattle.completion.specs.Calls.{entry-field, result-bytes}
+use Rattle.completion.specs.Calls.{entry-field, result-bytes, Writes}
 use Rattle.completion.proofs.Turning.{turn-unpaid, turn-stops, run-begins, run-ends}
 use Rattle.terms.proofs.Shape.{zero≢one}
 use Rattle.terms.proofs.Lists.{nothing}
-use Rattle.report.specs.Fields.{Writes}
 use Rattle.report.specs.Report.{Reports}
 use Rattle.complete.specs.Answer.{WritesNothing, WritesEmpty, WritesProblem}
 

@@ -8,9 +8,8 @@ use Rattle.problem.specs.Problem.{Reading, ok, refused, Problem}
 use Rattle.problem.specs.Parser.{ParsedAt}
 use Rattle.rewriting.specs.Rewrite.{neither-above, end-number}
 use Rattle.completion.specs.Turn.{Finished, run}
-use Rattle.completion.specs.Calls.{result-bytes}
+use Rattle.completion.specs.Calls.{result-bytes, Writes}
 use Rattle.completion.specs.Promise.{Delivers}
-use Rattle.report.specs.Fields.{Writes}
 use Rattle.engine.specs.State.{whole}
 use Rattle.run.specs.Runs.{RanIs}
 use Rattle.run.specs.declared.Ran.{Ran}
@@ -18,9 +17,9 @@ use Rattle.complete.specs.declared.Completed.{Completed}
 use Rattle.complete.specs.declared.Completed.the-variants.{Written, Refused}
 
 -- "Complete and unify return the count of result bytes"; a refusal has its number and its place.
-unfoldable pub told : Completed → Reading ℕ
-told (Written count) = ok count
-told (Refused number place) = refused number place
+unfoldable pub completed-told : Completed → Reading ℕ
+completed-told (Written count) = ok count
+completed-told (Refused number place) = refused number place
 
 unfoldable pub counted : Reading (List ℕ) → Reading ℕ
 counted (ok bytes) = ok (length bytes)

@@ -5,7 +5,7 @@ ghost use Prim.Native.Nat.{_≤_};
 ghost use lib.ListN.{length};
 ghost use Rattle.completion.specs.Calls.{complete-call, after-complete};
 ghost use Rattle.redex.specs.Stored.{Layout};
-ghost use Rattle.complete.specs.Answer.{told, counted, Delivery, WritesRun, WritesNothing, WritesEmpty, WritesProblem};
+ghost use Rattle.complete.specs.Answer.{completed-told, counted, Delivery, WritesRun, WritesNothing, WritesEmpty, WritesProblem};
 
 pub enum Completed {
     // The count of result bytes.
@@ -108,7 +108,7 @@ fn accepted(
 // accepted: the result's fields, then what stood there). And demand 3: where field 10 of what is written holds 0, the rules that its fields 12 hold
 // settle the problem's equations.
 pub fn complete(problem: &[u8], result: &mut [u8]) -> Completed
-    ensures answer { λ r. ⌜ told r ≡ counted (complete-call (now (problem .entry)) (length (now (result .entry)))) ⌝ }
+    ensures answer { λ r. ⌜ completed-told r ≡ counted (complete-call (now (problem .entry)) (length (now (result .entry)))) ⌝ }
     ensures bytes { λ r. ⌜ now (result .exit) ≡ after-complete (complete-call (now (problem .entry)) (length (now (result .entry)))) (now (result .entry)) ⌝ }
     ensures delivery { λ r. ⌜ Delivery (now (problem .entry)) (now (result .exit)) r ⌝ }
 {

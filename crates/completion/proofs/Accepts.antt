@@ -9,10 +9,10 @@ use native.Mathlib.Omega.{arith}
 use lib.Dec.{eqb, ltb}
 use lib.ListN.{length}
 use borrow.Author.Tests.{ltb-false}
-use Rattle.terms.specs.Base.{number-from}
+use Rattle.terms.specs.Base.{number-from, Every, of-none, of-cons}
 use Rattle.terms.specs.Term.{Term, size}
-use Rattle.terms.proofs.Every.{Every, of-none, of-cons, every-head}
-use Rattle.problem.specs.Problem.{ok, Field, Symbol, read-symbols, symbol-field, budget-field, ReadPart, read-side, Equation, equation-field, equation-fields, Problem, parse, only-equation}
+use Rattle.terms.proofs.Every.{every-head}
+use Rattle.problem.specs.Problem.{ok, ReadField, Symbol, read-symbols, symbol-field, budget-field, ReadPart, read-side, Equation, equation-field, equation-fields, Problem, parse, only-equation}
 use Rattle.completion.specs.Calls.{Single, parse-single}
 use Rattle.problem.specs.Over.{Over}
 use Rattle.completion.proofs.Over.{OverPair, OverEquations}
@@ -36,7 +36,7 @@ symbols-read ranks at (a ∷ r ∷ bytes) Σ e =
     let k = symbols-read (r ∷ ranks) (at + 2) bytes Σ′ h in
     rw (← q) (omega arith)
 
-symbols-few : (f : Field) (Σ : List Symbol) → symbol-field f ≡ ok Σ → length Σ ≤ 16
+symbols-few : (f : ReadField) (Σ : List Symbol) → symbol-field f ≡ ok Σ → length Σ ≤ 16
 unfolding symbol-field
 symbols-few f Σ e =
     from-bind _ _ Σ e λ u t h.
@@ -45,7 +45,7 @@ symbols-few f Σ e =
     let k = symbols-read [] (f .first + 3) (f .contents) Σ h in
     omega arith
 
-budget-few : (f : Field) (b : ℕ) → budget-field f ≡ ok b → b ≤ 1_000_000
+budget-few : (f : ReadField) (b : ℕ) → budget-field f ≡ ok b → b ≤ 1_000_000
 unfolding budget-field
 budget-few f b e =
     from-bind _ _ b e λ _ _ e.
@@ -67,7 +67,7 @@ module _ (Σ : List Symbol) where
       let r : ReadsTo Σ at bytes t = reads Σ (suc (length bytes)) at bytes t a in
       rw (← q) (record { small = ltb-false 120 (size (t .part)) (passed _ 11 at u b); made = r .made }, r .over)
 
-  equation-fits : (f : Field) (e : Equation) → equation-field Σ f ≡ ok e → HeldPair n 16 (e .sides) × OverPair Σ (e .sides)
+  equation-fits : (f : ReadField) (e : Equation) → equation-field Σ f ≡ ok e → HeldPair n 16 (e .sides) × OverPair Σ (e .sides)
   unfolding equation-field
   equation-fits f e h =
       from-bind _ _ e h λ l a h.

@@ -7,7 +7,7 @@ use native.Mathlib.Omega.{arith}
 use lib.ListN.{length}
 use Rattle.terms.specs.Term.{Pair, renamed}
 use Rattle.terms.proofs.Rename.{renamed-back}
-use Rattle.terms.proofs.Every.{Every, of-cons}
+use Rattle.terms.specs.Base.{Every, of-cons}
 use Rattle.rewriting.specs.Overlap.{Rule, sides-of}
 use Rattle.rewriting.proofs.Relations.{Join, Rules, Step, Of}
 use Rattle.rewriting.proofs.Steps.{join-subst}

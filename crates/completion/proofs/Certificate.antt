@@ -1,5 +1,5 @@
 -- From a certificate to delivery, over any rules and equations: nothing here asks how the rules were found. Assumes nothing.
--- Read first: specs/Settles, proofs/Deliver (from all trees to terms over the symbols), rewriting/proofs/PathOrder (joinable overlaps give unique
+-- Read first: specs/Decides, proofs/Deliver (from all trees to terms over the symbols), rewriting/proofs/PathOrder (joinable overlaps give unique
 -- last terms).
 use mathlib.Core.Path.{_≡_}
 use mathlib.Core.Bool.{true}
@@ -14,11 +14,11 @@ use Rattle.rewriting.proofs.Finite.{lhs, rhs}
 use Rattle.rewriting.proofs.Overlaps.{OverlapsJoin}
 use Rattle.rewriting.proofs.PathOrder.{path-solves}
 use Rattle.problem.specs.Problem.{Symbol, rank-of, Equation}
-use Rattle.completion.specs.Settles.{Settles}
+use Rattle.completion.specs.Decides.{Decides}
 use Rattle.completion.proofs.Words.{equation-sides}
 use Rattle.completion.proofs.Over.{OverEquations}
 use Rattle.completion.proofs.OverRun.{OverRules}
-use Rattle.completion.proofs.Deliver.{settles}
+use Rattle.completion.proofs.Deliver.{decides}
 
 -- What must hold of rules, for whatever reason, to deliver them for the equations.
 pub record Certificate (Σ : List Symbol) (es : List Equation) (rules : List Rule) : Type 0 where
@@ -33,7 +33,7 @@ pub record Certificate (Σ : List Symbol) (es : List Equation) (rules : List Rul
   pub equations-join : (i : ℕ) → i < length (equation-sides es) → Join (Step (Of (sides-of rules))) (lhs (equation-sides es) i) (rhs (equation-sides es) i)
   pub overlaps-join : OverlapsJoin (sides-of rules)
 
-pub certificate-settles : (Σ : List Symbol) (es : List Equation) (rules : List Rule) → Certificate Σ es rules → Settles Σ es rules
-certificate-settles Σ es rules c =
-    settles Σ es rules (c .equations-over) (c .rules-over)
+pub certificate-decides : (Σ : List Symbol) (es : List Equation) (rules : List Rule) → Certificate Σ es rules → Decides Σ es rules
+certificate-decides Σ es rules c =
+    decides Σ es rules (c .equations-over) (c .rules-over)
     (path-solves (rank-of Σ) (equation-sides es) (sides-of rules) (c .down) (c .low) (c .equal) (c .equations-join) (c .overlaps-join))

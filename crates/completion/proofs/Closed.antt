@@ -10,7 +10,8 @@ use lib.ListN.{length}
 use Rattle.terms.proofs.Shape.{either-has}
 use Rattle.terms.specs.Term.{Term, Pair, pair-variables, renamed}
 use Rattle.terms.proofs.Below.{swapped, swapped-variables}
-use Rattle.terms.proofs.Every.{Every, of-none, of-cons, every-one, every-in, every-append}
+use Rattle.terms.specs.Base.{Every, of-none, of-cons}
+use Rattle.terms.proofs.Every.{every-one, every-in, every-append}
 use Rattle.order.specs.Order.{above}
 use Rattle.rewriting.specs.Overlap.{Rule, Overlap, overlap}
 use Rattle.rewriting.proofs.Covers.{BothHold, all-places-hold}

@@ -1,5 +1,5 @@
 -- The delivery theorem in the words of document 01, from what a convergent system gives among all trees. Assumes nothing.
--- Read first: specs/Settles, proofs/Words, proofs/Replacements.
+-- Read first: specs/Decides, proofs/Words, proofs/Replacements.
 use mathlib.Core.Path.{_≡_, sym, _∙_, subst}
 use mathlib.Core.List.{List}
 use Prim.Native.Nat.{suc}
@@ -10,7 +10,7 @@ use Rattle.rewriting.proofs.Stepping.{StepBy}
 use Rattle.problem.specs.Problem.{Symbol, Equation}
 use Rattle.completion.specs.Delivery.{Step, Many, stay, go, Ends, Last}
 use Rattle.problem.specs.Over.{Over}
-use Rattle.completion.specs.Settles.{Settles}
+use Rattle.completion.specs.Decides.{Decides}
 use Rattle.completion.proofs.Words.{equation-sides, word-step, word-many, step-word, word-normal, normal-word}
 use Rattle.completion.proofs.Over.{OverEquations, over-step, over-star}
 use Rattle.completion.proofs.OverRun.{OverRules, of-over, of-brings}
@@ -36,9 +36,9 @@ module _ (Σ : List Symbol) (es : List Equation) (rules : List Rule) (given : Ov
       let m : Star (StepBy rules) s t = word-many Σ rules (h .0) in
       solves .only s t m (normal-word Σ rules (of-brings Σ rules good) t (star-stays m o) (h .1))
 
-  pub settles : Settles Σ es rules
+  pub decides : Decides Σ es rules
   unfolding Ends Last
-  settles =
+  decides =
       record {
         ends = λ s o w. solves .never-forever s (λ n. word-step Σ rules (s n) (s (suc n)) (w n));
         has-last = λ s o. (

@@ -10,7 +10,7 @@ use lib.ListN.{length}
 use Rattle.completion.proofs.Turning.{new-rule, next-state}
 use Rattle.terms.specs.Term.{Term, Pair, same, size, pair-variables, renamed}
 use Rattle.terms.proofs.Below.{swapped}
-use Rattle.terms.proofs.Every.{Every}
+use Rattle.terms.specs.Base.{Every}
 use Rattle.order.specs.Order.{above}
 use Rattle.rewriting.specs.Overlap.{Rule, Overlap, overlap, Place, all-places}
 use Rattle.rewriting.specs.Rewrite.{End, complete, neither-above, spent, too-large, rules-full, log-full}

@@ -11,7 +11,7 @@ use lib.ListN.{length}
 use Rattle.terms.specs.Term.{Term, Pair, pair-variables, renamed}
 use Rattle.terms.proofs.Subst.{VarsIn}
 use Rattle.terms.proofs.Below.{renaming, renamed-low}
-use Rattle.terms.proofs.Every.{Every}
+use Rattle.terms.specs.Base.{Every}
 use Rattle.order.specs.Order.{above}
 use Rattle.order.proofs.Decide.{above-dec}
 use Rattle.order.proofs.Closure.{above-subst}

@@ -8,9 +8,9 @@ use Prim.Native.Nat.{ℕ, suc, _+_, _≤_, _<_}
 use native.Mathlib.Omega.{arith}
 use lib.ListN.{length, length-append, length-map}
 use Rattle.completion.proofs.Turning.{new-rule, next-state}
-use Rattle.terms.specs.Base.{if_then_else_}
+use Rattle.terms.specs.Base.{if_then_else_, Every, of-none, of-cons}
 use Rattle.terms.specs.Term.{Term, Pair, size, renamed}
-use Rattle.terms.proofs.Every.{Every, of-none, of-cons, every-head, every-tail, every-one, every-in, every-append, every-map, every-both, every-mapped, mapped-every}
+use Rattle.terms.proofs.Every.{every-head, every-tail, every-one, every-in, every-append, every-map, every-both, every-mapped, mapped-every}
 use Rattle.rewriting.specs.Overlap.{Rule, Overlap, overlap, Place, all-places}
 use Rattle.rewriting.specs.Rewrite.{step}
 use Rattle.rewriting.proofs.Limits.{step-made, MaybeOverlap, overlap-made}

@@ -9,9 +9,9 @@ use Prim.Native.Nat.{ℕ, zero, suc, _+_, _≤_, _<_, min}
 use native.Mathlib.Omega.{arith}
 use lib.Dec.{ltb, leb}
 use lib.ListN.{length, length-append}
-use Rattle.terms.specs.Base.{if_then_else_}
+use Rattle.terms.specs.Base.{if_then_else_, Every, of-none, of-cons}
 use Rattle.terms.specs.Term.{Term, Pair, same, size, pair-variables, renamed}
-use Rattle.terms.proofs.Every.{Every, of-none, of-cons, every-append}
+use Rattle.terms.proofs.Every.{every-append}
 use Rattle.order.specs.Order.{above}
 use Rattle.rewriting.specs.Overlap.{Rule, Overlap, overlap, Place, all-places}
 use Rattle.rewriting.specs.Rewrite.{step, End, complete, neither-above, too-large, rules-full, log-full, Paid, done, stop, Paying, return, end-with, and-then, _>>=_, end-if, pay, hold, normalise, normalise-pair}

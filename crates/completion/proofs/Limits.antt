@@ -8,7 +8,7 @@ use native.Mathlib.Omega.{arith}
 use lib.ListN.{length}
 use Rattle.terms.specs.Term.{Term, Pair, size, pair-variables, renamed}
 use Rattle.terms.proofs.Limits.{Made, made-vars, made-with, variables-few, renamed-left-size, renamed-right-size, renamed-left-made, renamed-right-made}
-use Rattle.terms.proofs.Every.{Every, of-none, of-cons}
+use Rattle.terms.specs.Base.{Every, of-none, of-cons}
 use Rattle.rewriting.specs.Overlap.{Rule}
 use Rattle.problem.specs.Problem.{Equation, Problem}
 use Rattle.completion.proofs.Over.{OverEquations}

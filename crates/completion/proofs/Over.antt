@@ -5,9 +5,9 @@ use mathlib.Core.List.{List, List·Memᴰ·head, Memᴰ·append-left, Memᴰ·ap
 use mathlib.Core.Option.{some}
 use Prim.Native.Nat.{ℕ, suc}
 use lib.Dec.{eqb}
-use Rattle.terms.specs.Term.{Term, Terms, var, node, nil, cons, variables, variables-of, subst-term, subst-terms, Pair, renamed, subterm-at, replace-at}
+use Rattle.terms.specs.Term.{Term, Terms, var, node, nil, cons, variables, variables-of, subst-term, subst-terms, Pair, renamed, subterm-at, replace-at, count}
 use Rattle.terms.proofs.Subst.{Subst, In, VarsIn, count-subst}
-use Rattle.terms.proofs.Every.{Every}
+use Rattle.terms.specs.Base.{Every}
 use Rattle.terms.proofs.Context.{Ctx, Ctxs, hole, beneath, first, later, plug, plugs}
 use Rattle.terms.proofs.Positions.{Found, found, plug-inherits, subterm-inherits}
 use Rattle.unify.specs.Unify.{single, Binding, under, mgu}
@@ -19,7 +19,6 @@ use Rattle.rewriting.proofs.Order.{StepAt, step-at}
 use Rattle.rewriting.proofs.Overlaps.{Made, made}
 use Rattle.problem.specs.Problem.{Symbol, Equation}
 use Rattle.problem.specs.Over.{Over, OverAll}
-use Rattle.terms.specs.Scan.{count}
 use Rattle.completion.proofs.Words.{over-inherits, over-at}
 
 -- a filled context has as many arguments

@@ -6,7 +6,8 @@ use mathlib.Core.Bool.{true}
 use mathlib.Core.List.{List}
 use Prim.Native.Nat.{ℕ}
 use Rattle.terms.specs.Term.{Term, Pair, renamed}
-use Rattle.terms.proofs.Every.{Every, every-in}
+use Rattle.terms.specs.Base.{Every}
+use Rattle.terms.proofs.Every.{every-in}
 use Rattle.order.specs.Order.{above}
 use Rattle.order.proofs.Closure.{above-vars}
 use Rattle.order.proofs.Decide.{above-dec}

@@ -8,13 +8,12 @@ use Prim.Native.Nat.{ℕ, suc, _<_}
 use lib.Dec.{eqb, ltb}
 use lib.ListN.{length}
 use Rattle.terms.specs.Base.{if_then_else_}
-use Rattle.terms.specs.Term.{Term, Terms, var, node, nil, cons, subst-term, subst-terms}
+use Rattle.terms.specs.Term.{Term, Terms, var, node, nil, cons, subst-term, subst-terms, count}
 use Rattle.terms.proofs.Shape.{Says, Decides, dec-says, dec-and, ltb-dec, eqb-dec}
 use Rattle.terms.proofs.Subst.{Subst, count-subst}
 use Rattle.terms.proofs.Context.{Ctx, Ctxs, hole, beneath, first, later, plug, plugs}
 use Rattle.problem.specs.Problem.{Symbol, arity-of}
 use Rattle.problem.specs.Over.{Over, OverAll}
-use Rattle.terms.specs.Scan.{count}
 use Rattle.completion.proofs.Over.{count-plugs}
 
 -- a known symbol with so many arguments as its arity

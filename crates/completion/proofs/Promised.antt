@@ -11,8 +11,8 @@ use native.Mathlib.Omega.{arith}
 use lib.Dec.{eqb}
 use lib.ListN.{length}
 use Rattle.terms.proofs.Shape.{zero≢one}
-use Rattle.terms.specs.Base.{if_then_else_, number-bytes, Tagged}
-use Rattle.terms.proofs.Every.{Every, of-none, of-cons, every-one, every-append, every-map, every-both}
+use Rattle.terms.specs.Base.{if_then_else_, number-bytes, Field, Every, of-none, of-cons}
+use Rattle.terms.proofs.Every.{every-one, every-append, every-map, every-both}
 use Rattle.rewriting.specs.Overlap.{Rule}
 use Rattle.rewriting.specs.Rewrite.{End, complete, neither-above, spent, too-large, rules-full, log-full, end-number}
 use Rattle.problem.specs.Problem.{ok, Problem, parse}
@@ -39,12 +39,12 @@ end-zero rules-full = (λ h. absurd (zero≢one (cc)), λ h. absurd (zero≢one 
 end-zero log-full = (λ h. absurd (zero≢one (cc)), λ h. absurd (zero≢one (cc)))
 
 -- the log and the two normal forms are no rules
-entries-other : (log : List Entry) → Every (λ (f : Tagged). eqb (f .tag) 0x12 ≡ false) (map entry-field log)
+entries-other : (log : List Entry) → Every (λ (f : Field). eqb (f .tag) 0x12 ≡ false) (map entry-field log)
 unfolding entry-field
 entries-other [] = of-none
 entries-other (e ∷ log) = of-cons refl (entries-other log)
 
-forms-other : (e : End) → Every (λ (f : Tagged). eqb (f .tag) 0x12 ≡ false) (forms-field e)
+forms-other : (e : End) → Every (λ (f : Field). eqb (f .tag) 0x12 ≡ false) (forms-field e)
 unfolding forms-field
 forms-other complete = of-none
 forms-other (neither-above e) = every-one refl
@@ -101,7 +101,7 @@ module _ (bytes : List ℕ) (P : Problem) (read : parse bytes ≡ ok P) where
         rules = run P .state .rules;
         are-rules = rules-read;
         are-live = refl;
-        settle = λ h. delivered bytes P read (end-read .0 h);
+        decide = λ h. delivered bytes P read (end-read .0 h);
       }
 
 -- The theorem.

@@ -9,11 +9,10 @@ use lib.Dec.{eqb}
 use lib.ListN.{length, take, drop, length-append}
 use lib.Seq.{take-at, drop-at}
 use borrow.Author.Tests.{le-ltb}
-use Rattle.terms.specs.Base.{if_then_else_, number-bytes, number-from, Tagged, field-bytes}
+use Rattle.terms.specs.Base.{if_then_else_, number-bytes, number-from, Field, field-bytes, Every, of-cons}
 use Rattle.terms.specs.Term.{Term, size, term-bytes}
 use Rattle.terms.proofs.Bytes.{length-bytes}
 use Rattle.terms.proofs.Limits.{Made}
-use Rattle.terms.proofs.Every.{Every, of-cons}
 use Rattle.terms.proofs.Numerals.{number-back}
 use Rattle.problem.specs.Problem.{ok, _>>=_, refuse-if, read-field, read-term, Symbol}
 use Rattle.problem.specs.Over.{Over}
@@ -32,7 +31,7 @@ header : (at n tag high low : ℕ) (bytes : List ℕ) → number-from 0 (high �
 unfolding read-field _>>=_ refuse-if
 header at n tag high low bytes e l = rw (e, read-field) (rw (le-ltb (length bytes) n l) refl)
 
-pub field-back : (at : ℕ) (f : Tagged) (rest : List ℕ) → length (f .contents) < 65_536 →
+pub field-back : (at : ℕ) (f : Field) (rest : List ℕ) → length (f .contents) < 65_536 →
     read-field at (field-bytes f ++ rest) ≡ ok (record { first = at; tag = f .tag; contents = f .contents; end = at + 3 + length (f .contents); rest = rest })
 unfolding field-bytes number-bytes
 field-back at f rest h =
@@ -41,7 +40,7 @@ field-back at f rest h =
     ∙ ap₂ (λ c r. ok (record { first = at; tag = f .tag; contents = c; end = at + 3 + n; rest = r })) (take-at (f .contents) rest n refl) (drop-at (f .contents) rest n refl)
 
 -- so many fields, one behind the other
-pub fields-back : (more at : ℕ) (fs : List Tagged) → Every (λ f. length (f .contents) < 65_536) fs → length fs < more →
+pub fields-back : (more at : ℕ) (fs : List Field) → Every (λ f. length (f .contents) < 65_536) fs → length fs < more →
     fields-from more at (flatMap field-bytes fs) ≡ ok fs
 unfolding fields-from flatMap field-bytes _>>=_
 fields-back zero at fs h l = absurd (omega arith)
@@ -49,7 +48,7 @@ fields-back (suc more) at [] h l = refl
 fields-back (suc more) at (f ∷ fs) (of-cons q h) l =
     rw (field-back at f (flatMap field-bytes fs) q) (rw (fields-back more (at + 3 + length (f .contents)) fs h (omega arith)) refl)
 
-fields-few : (fs : List Tagged) → length fs ≤ length (flatMap field-bytes fs)
+fields-few : (fs : List Field) → length fs ≤ length (flatMap field-bytes fs)
 unfolding flatMap field-bytes
 fields-few [] = omega arith
 fields-few (f ∷ fs) =
@@ -57,7 +56,7 @@ fields-few (f ∷ fs) =
     omega (arith, fields-few fs)
 
 -- The fields that were written are the fields that are read.
-pub fields-are : (fs : List Tagged) → Every (λ f. length (f .contents) < 65_536) fs → fields-of (flatMap field-bytes fs) ≡ ok fs
+pub fields-are : (fs : List Field) → Every (λ f. length (f .contents) < 65_536) fs → fields-of (flatMap field-bytes fs) ≡ ok fs
 unfolding fields-of
 fields-are fs h = fields-back (suc (length (flatMap field-bytes fs))) 0 fs h (omega (arith, fields-few fs))
 
@@ -95,13 +94,13 @@ module _ (Σ : List Symbol) (few : length Σ ≤ 16) where
       (ap (λ l. term-bytes (e .left) ++ l) (sym (append-nil (term-bytes (e .right))))) (two-back (r .number) (f .number)) (f .left-over) (f .right-over) (f .left-named) (f .right-named)
 
   -- fields of other tags hold no rule
-  pub no-rules : (fs : List Tagged) → Every (λ f. eqb (f .tag) 0x12 ≡ false) fs → rules-in Σ fs ≡ ok []
+  pub no-rules : (fs : List Field) → Every (λ f. eqb (f .tag) 0x12 ≡ false) fs → rules-in Σ fs ≡ ok []
   unfolding rules-in if_then_else_
   no-rules [] h = refl
   no-rules (f ∷ fs) (of-cons q h) = rw q (no-rules fs h)
 
   -- The rules that were written are the rules that are read.
-  pub rules-back : (rules : List Rule) (fs : List Tagged) → Every Fits rules → rules-in Σ fs ≡ ok [] → rules-in Σ (map rule-field rules ++ fs) ≡ ok rules
+  pub rules-back : (rules : List Rule) (fs : List Field) → Every Fits rules → rules-in Σ fs ≡ ok [] → rules-in Σ (map rule-field rules ++ fs) ≡ ok rules
   unfolding rules-in if_then_else_ rule-field _>>=_
   rules-back [] fs h e = e
   rules-back (r ∷ rules) fs (of-cons q h) e = rw (rule-back r q) (rw (rules-back rules fs h e) refl)

@@ -9,7 +9,8 @@ use Prim.Native.Nat.{ℕ}
 use Rattle.terms.specs.Term.{Term, Pair, renamed}
 use Rattle.terms.proofs.Rename.{renamed-left, renamed-again, renamed-by-left}
 use Rattle.terms.proofs.Below.{renaming}
-use Rattle.terms.proofs.Every.{Every, every-map}
+use Rattle.terms.specs.Base.{Every}
+use Rattle.terms.proofs.Every.{every-map}
 use Rattle.order.specs.Order.{above}
 use Rattle.rewriting.specs.Overlap.{Rule, sides-of}
 use Rattle.rewriting.proofs.Relations.{Of}

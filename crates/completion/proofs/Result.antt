@@ -6,11 +6,11 @@ use Prim.Native.Nat.{ℕ, _+_, _*_, _≤_, _<_}
 use native.Mathlib.Omega.{arith}
 use lib.ListN.{length, length-append}
 use Rattle.terms.proofs.Lists.{flatMap-append}
-use Rattle.terms.specs.Base.{number-bytes, Tagged, field-bytes}
+use Rattle.terms.specs.Base.{number-bytes, Field, field-bytes, Every, of-none, of-cons}
 use Rattle.terms.specs.Term.{Pair, size, term-bytes, renamed}
 use Rattle.terms.proofs.Bytes.{length-bytes}
 use Rattle.terms.proofs.Limits.{Bytes, number-bytes-bytes, length-number-bytes, field-bytes-bytes, length-field-bytes, term-bytes-bytes}
-use Rattle.terms.proofs.Every.{Every, of-none, every-head, every-tail, every-one, of-cons, every-append, every-map, every-mapped, every-of}
+use Rattle.terms.proofs.Every.{every-head, every-tail, every-one, every-append, every-map, every-mapped, every-of}
 use Rattle.rewriting.specs.Overlap.{Rule}
 use Rattle.rewriting.specs.Rewrite.{End, complete, neither-above, spent, too-large, rules-full, log-full, end-number}
 use Rattle.problem.specs.Problem.{Problem}
@@ -22,22 +22,22 @@ use Rattle.completion.proofs.Reachable.{run-neither}
 use Rattle.completion.proofs.Kept.{run-limits, neither-fits}
 
 -- a field of at most so many bytes of contents, all of them bytes
-pub record FieldFits (most : ℕ) (f : Tagged) : Type 0 where
+pub record FieldFits (most : ℕ) (f : Field) : Type 0 where
   pub tag-fits : f .tag < 256
   pub contents-fit : Bytes (f .contents)
   pub length-fits : length (f .contents) ≤ most
 
-abbrev flat : List Tagged → List ℕ
+abbrev flat : List Field → List ℕ
 flat fs = flatMap field-bytes fs
 
-flat-bytes : (most : ℕ) (fs : List Tagged) → Every (FieldFits most) fs → Bytes (flat fs)
+flat-bytes : (most : ℕ) (fs : List Field) → Every (FieldFits most) fs → Bytes (flat fs)
 unfolding flatMap
 flat-bytes most [] h = of-none
 flat-bytes most (f ∷ fs) h =
     let k : FieldFits most f = every-head h in
     every-append (field-bytes-bytes f (k .tag-fits) (k .contents-fit)) (flat-bytes most fs (every-tail h))
 
-flat-cons : (f : Tagged) (fs : List Tagged) → length (flat (f ∷ fs)) ≡ 3 + length (f .contents) + length (flat fs)
+flat-cons : (f : Field) (fs : List Field) → length (flat (f ∷ fs)) ≡ 3 + length (f .contents) + length (flat fs)
 unfolding flatMap
 flat-cons f fs = length-append (field-bytes f) (flat fs) ∙ ap (λ k. k + length (flat fs)) (length-field-bytes f)
 
@@ -122,7 +122,7 @@ entries-length (e ∷ log) =
     omega (arith, flat-cons (entry-field e) (map entry-field log), entry-length e)
 
 -- what is left of the room behind the log, and the two normal forms with end 20
-record FormsFit (log : ℕ) (fs : List Tagged) : Type 0 where
+record FormsFit (log : ℕ) (fs : List Field) : Type 0 where
   fit : Every (FieldFits 242) fs
   room : length (flat fs) + 11 * log ≤ 5864
 
@@ -171,9 +171,9 @@ module _ (P : Problem) (a : Accepted P) where
   pub result-length : length (result-bytes (run P)) ≤ 13_715
   unfolding result-bytes result-fields
   result-length =
-      let rules : List Tagged = map rule-field (run P .state .rules) in
-      let log : List Tagged = map entry-field (run P .state .log) in
-      let forms : List Tagged = forms-field (run P .end) in
+      let rules : List Field = map rule-field (run P .state .rules) in
+      let log : List Field = map entry-field (run P .state .log) in
+      let forms : List Field = forms-field (run P .end) in
       let lim : Limits (length (P .symbols)) (run P .state) = run-limits P a in
       let c1 = flat-cons (record { tag = 0x10; contents = number-bytes 1 (end-number (run P .end)) }) (record { tag = 0x11; contents = number-bytes 4 (run P .units) } ∷ (rules ++ log ++ forms)) in
       let c2 = flat-cons (record { tag = 0x11; contents = number-bytes 4 (run P .units) }) (rules ++ log ++ forms) in

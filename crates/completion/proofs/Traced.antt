@@ -11,7 +11,8 @@ use borrow.Author.Tests.{ltb-true, ltb-false, leb-true, leb-false}
 use Rattle.completion.proofs.Turning.{new-rule, next-state}
 use Rattle.terms.specs.Term.{Pair, same, pair-variables, renamed}
 use Rattle.terms.proofs.Shape.{none≢some, some-inj, same-dec}
-use Rattle.terms.proofs.Every.{Every, of-none, of-cons, every-of}
+use Rattle.terms.specs.Base.{Every, of-none, of-cons}
+use Rattle.terms.proofs.Every.{every-of}
 use Rattle.rewriting.specs.Overlap.{Rule, Overlap, overlap, Place, all-places}
 use Rattle.rewriting.specs.Rewrite.{End, complete, neither-above, spent, too-large, rules-full, log-full, Paying, normalise-pair}
 use Rattle.rewriting.proofs.Covers.{HoldsAt}

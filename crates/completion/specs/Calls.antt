@@ -1,11 +1,12 @@
 -- Document 01, "The result and settle": the result's fields, and the four calls, from the bytes that they are lent to what they answer.
 -- Assumes nothing.
+use mathlib.Core.Path.{_≡_}
 use mathlib.Core.List.{List, [], _∷_, _++_, map, flatMap}
 use mathlib.Core.Option.{Option, none, some}
 use Prim.Native.Nat.{ℕ, _+_}
 use lib.Dec.{ltb}
 use lib.ListN.{length, take, drop}
-use Rattle.terms.specs.Base.{if_then_else_, number-bytes, Tagged, field-bytes}
+use Rattle.terms.specs.Base.{if_then_else_, number-bytes, Field, field-bytes}
 use Rattle.terms.specs.Term.{Term, Pair, term-bytes, size, subterm-at, renamed}
 use Rattle.problem.specs.Problem.{Reading, ok, refused, _>>=_, refuse-if, Symbol, rank-of, Equation, parse, only-equation}
 use Rattle.problem.specs.Stops.{short-buffer}
@@ -19,7 +20,7 @@ unfoldable pub pair-bytes : Pair → List ℕ
 pair-bytes e = term-bytes (e .left) ++ term-bytes (e .right)
 
 -- "12, once a rule: number in two bytes, left, right"
-unfoldable pub rule-field : Rule → Tagged
+unfoldable pub rule-field : Rule → Field
 rule-field r = record { tag = 0x12; contents = number-bytes 2 (r .number) ++ pair-bytes (r .sides) }
 
 -- "kind in one byte (1 waiting input, 2 waiting from a removed rule, 3 input at the scan, 4 overlap), first number in two bytes (input, removed
@@ -31,11 +32,11 @@ origin-bytes (scanned-input n) = 3 ∷ (number-bytes 2 n ++ number-bytes 2 0 ++ 
 origin-bytes (overlapping inner outer p) = 4 ∷ (number-bytes 2 inner ++ number-bytes 2 outer ++ number-bytes 1 p)
 
 -- "13, once a log entry": where its pair came from, then "rule made in two (0 if settled)"
-unfoldable pub entry-field : Entry → Tagged
+unfoldable pub entry-field : Entry → Field
 entry-field e = record { tag = 0x13; contents = origin-bytes (e .origin) ++ number-bytes 2 (e .made) }
 
 -- "14, only with end 20: the two normal forms, renamed as a pair"
-unfoldable pub forms-field : End → List Tagged
+unfoldable pub forms-field : End → List Field
 forms-field complete = []
 forms-field (neither-above e) = record { tag = 0x14; contents = pair-bytes (renamed e) } ∷ []
 forms-field spent = []
@@ -44,7 +45,7 @@ forms-field rules-full = []
 forms-field log-full = []
 
 -- "tag 10, the end, one byte; 11, units, four bytes; 12, once a rule .. ascending; 13, once a log entry, oldest first; 14 .."
-unfoldable pub result-fields : Finished → List Tagged
+unfoldable pub result-fields : Finished → List Field
 result-fields f =
     record { tag = 0x10; contents = number-bytes 1 (end-number (f .end)) }
     ∷ record { tag = 0x11; contents = number-bytes 4 (f .units) }
@@ -82,12 +83,12 @@ compare-call bytes = do
   ok (comparison (rank-of (P .symbols)) (P .equation .sides .left) (P .equation .sides .right))
 
 -- unify: "one field, tag 15: the most general common instance, renamed"; "none"; 22, "a common instance over 120 nodes"
-pub data Unified : Type 0 where
-  instance : List ℕ → Unified
-  no-instance : Unified
-  instance-too-large : Unified
+pub data CommonInstance : Type 0 where
+  instance : List ℕ → CommonInstance
+  no-instance : CommonInstance
+  instance-too-large : CommonInstance
 
-unfoldable pub unified : Term → Option (List Binding) → Unified
+unfoldable pub unified : Term → Option (List Binding) → CommonInstance
 unified s none = no-instance
 unified s (some m) =
     let t : Term = under m s in
@@ -95,7 +96,7 @@ unified s (some m) =
     else instance (field-bytes (record { tag = 0x15; contents = term-bytes (renamed (record { left = t; right = t }) .left) }))
 
 -- "Unify reads both sides over the same variables."
-unfoldable pub unify-call : List ℕ → ℕ → Reading Unified
+unfoldable pub unify-call : List ℕ → ℕ → Reading CommonInstance
 unify-call bytes buffer = do
   _ ← enough buffer
   P ← parse-single bytes
@@ -129,11 +130,16 @@ subterm-call l p = take (subterm-part l p .bytes) (drop (subterm-part l p .start
 unfoldable pub written : List ℕ → List ℕ → List ℕ
 written bytes buffer = bytes ++ drop (length bytes) buffer
 
+-- these bytes stand at the front, all else is as it was, and r counts them
+pub record Writes (before ys after : List ℕ) (r : ℕ) : Type 0 where
+  pub bytes : after ≡ written ys before
+  pub count : r ≡ length ys
+
 unfoldable pub after-complete : Reading (List ℕ) → List ℕ → List ℕ
 after-complete (ok bytes) buffer = written bytes buffer
 after-complete (refused n at) buffer = buffer
 
-unfoldable pub after-unify : Reading Unified → List ℕ → List ℕ
+unfoldable pub after-unify : Reading CommonInstance → List ℕ → List ℕ
 after-unify (ok (instance bytes)) buffer = written bytes buffer
 after-unify (ok no-instance) buffer = buffer
 after-unify (ok instance-too-large) buffer = buffer

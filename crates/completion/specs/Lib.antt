@@ -2,5 +2,5 @@ pub mod Turn
 pub mod Calls
 pub mod Settle
 pub mod Delivery
-pub mod Settles
+pub mod Decides
 pub mod Promise

@@ -7,16 +7,16 @@ use mathlib.Core.Option.{Option, none, some}
 use Prim.Native.Nat.{ℕ, zero, suc}
 use lib.Dec.{eqb, ltb}
 use lib.ListN.{length}
-use Rattle.terms.specs.Base.{if_then_else_, number-from, Tagged}
+use Rattle.terms.specs.Base.{if_then_else_, number-from, Field}
 use Rattle.problem.specs.Problem.{Reading, ok, refused, _>>=_, refuse-if, read-field, read-term, Symbol, Problem, parse}
 use Rattle.problem.specs.Stops.{cut-field, wrong-term}
 use Rattle.rewriting.specs.Overlap.{Rule}
 use Rattle.rewriting.specs.Rewrite.{complete}
 use Rattle.completion.specs.Turn.{run}
-use Rattle.completion.specs.Settles.{Settles}
+use Rattle.completion.specs.Decides.{Decides}
 
 -- "Fields, same form": the fields that bytes are, front to back. The first number bounds how many; one more than the bytes always suffices.
-unfoldable pub fields-from : ℕ → ℕ → List ℕ → Reading (List Tagged)
+unfoldable pub fields-from : ℕ → ℕ → List ℕ → Reading (List Field)
 fields-from zero at bytes = refused cut-field at
 fields-from (suc more) at [] = ok []
 fields-from (suc more) at (b ∷ bytes) = do
@@ -24,7 +24,7 @@ fields-from (suc more) at (b ∷ bytes) = do
   fs ← fields-from more (f .end) (f .rest)
   ok (record { tag = f .tag; contents = f .contents } ∷ fs)
 
-unfoldable pub fields-of : List ℕ → Reading (List Tagged)
+unfoldable pub fields-of : List ℕ → Reading (List Field)
 fields-of bytes = fields-from (suc (length bytes)) 0 bytes
 
 -- "tag 10, the end, one byte"
@@ -33,7 +33,7 @@ one-byte [] = none
 one-byte (b ∷ []) = some b
 one-byte (b ∷ c ∷ bytes) = none
 
-unfoldable pub end-in : List Tagged → Option ℕ
+unfoldable pub end-in : List Field → Option ℕ
 end-in [] = none
 end-in (f ∷ fs) =
     let later : Option ℕ = end-in fs in
@@ -50,7 +50,7 @@ rule-of Σ (high ∷ low ∷ bytes) = do
   _ ← refuse-if (ltb 0 (length (r .rest))) wrong-term (r .end)
   ok (record { number = number-from 0 (high ∷ low ∷ []); sides = record { left = l .part; right = r .part } })
 
-unfoldable pub rules-in : List Symbol → List Tagged → Reading (List Rule)
+unfoldable pub rules-in : List Symbol → List Field → Reading (List Rule)
 rules-in Σ [] = ok []
 rules-in Σ (f ∷ fs) =
     let later : Reading (List Rule) = rules-in Σ fs in
@@ -59,7 +59,7 @@ rules-in Σ (f ∷ fs) =
 
 -- What the result of an accepted problem holds.
 pub record Promise (P : Problem) (result : List ℕ) : Type 0 where
-  pub fields : List Tagged
+  pub fields : List Field
   pub are-fields : fields-of result ≡ ok fields
   -- "field 10 of the result it writes holds 0, which is so exactly when the turns defined above end with 0 for that problem"
   pub exactly : (end-in fields ≡ some 0) ↔ (run P .end ≡ complete)
@@ -70,7 +70,7 @@ pub record Promise (P : Problem) (result : List ℕ) : Type 0 where
   pub are-live : rules ≡ run P .state .rules
   -- "A rule set is delivered as complete when complete accepts a problem and field 10 of the result it writes holds 0";
   -- "the buyer's equations are its fields of tag 03"
-  pub settle : end-in fields ≡ some 0 → Settles (P .symbols) (P .equations) rules
+  pub decide : end-in fields ≡ some 0 → Decides (P .symbols) (P .equations) rules
 
 -- "Demand 3, the delivery theorem, is a promise of complete about the bytes it takes and leaves."
 unfoldable pub Delivers : List ℕ → List ℕ → Type 0

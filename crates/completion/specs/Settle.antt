@@ -5,7 +5,7 @@ use Prim.Native.Char.{code}
 use Prim.Native.String.{String}
 use lib.Dec.{ltb}
 use lib.ListN.{length}
-use Rattle.terms.specs.Base.{if_then_else_, Tagged}
+use Rattle.terms.specs.Base.{if_then_else_, Field}
 use Rattle.problem.specs.Problem.{ok, refused, parse}
 use Rattle.completion.specs.Turn.{run}
 use Rattle.completion.specs.Calls.{result-fields}
@@ -32,7 +32,7 @@ unfoldable pub decimal : ℕ → List ℕ
 decimal n = decimal-in (suc n) n
 
 -- "a line a field: tag in two hexadecimal digits, length, contents in hexadecimal"
-unfoldable pub line : Tagged → List ℕ
+unfoldable pub line : Field → List ℕ
 line f = hex-byte (f .tag) ++ ascii " " ++ decimal (length (f .contents)) ++ ascii " " ++ flatMap hex-byte (f .contents) ++ ascii "\n"
 
 -- "A refusal prints "refused 4 at 0"."

@@ -6,7 +6,7 @@ use Rattle.terms.proofs.Flats.{wf-made}
 use Rattle.terms.specs.Term.{Term}
 use Rattle.terms.specs.Flat.{Wf}
 use Rattle.terms.proofs.Limits.{Made}
-use Rattle.terms.proofs.Every.{Every, of-none, of-cons}
+use Rattle.terms.specs.Base.{Every, of-none, of-cons}
 use Rattle.rewriting.specs.Overlap.{Rule, sides-of}
 use Rattle.rewriting.specs.Rewrite.{normalise}
 use Rattle.rewriting.proofs.Limits.{step-made}

@@ -8,7 +8,8 @@ use lib.ListN.{length, getD, drop, take, length-drop, List·getD-append}
 use lib.Seq.{take-suc, getD-drop}
 use Rattle.terms.specs.Term.{Term, size, term-bytes}
 use Rattle.terms.specs.Flat.{Wf, Starts}
-use Rattle.terms.proofs.Every.{of-none, every-one, every-append, every-at}
+use Rattle.terms.specs.Base.{of-none}
+use Rattle.terms.proofs.Every.{every-one, every-append, every-at}
 use Rattle.terms.proofs.Flats.{widen, wf-bytes}
 use Rattle.terms.proofs.Bytes.{length-bytes}
 use Rattle.inputs.specs.Inputs.{KnownBytes, SideEnd}

@@ -7,7 +7,7 @@ use native.Mathlib.Omega.{arith}
 use lib.ListN.{length, drop, take, length-append, length-map}
 use lib.Seq.{drop-at, drop-drop}
 use Rattle.terms.specs.Term.{Term, size, term-bytes, Pair, renamed}
-use Rattle.terms.proofs.Every.{Every, of-none, of-cons}
+use Rattle.terms.specs.Base.{Every, of-none, of-cons}
 use Rattle.terms.proofs.Bytes.{length-bytes}
 use Rattle.redex.specs.Stored.{Layout, Stored}
 use Rattle.problem.specs.Problem.{ok, due, Equation, Problem}

@@ -18,7 +18,7 @@ use Rattle.naming.proofs.Few.{names-few as few-names}
 use Rattle.naming.proofs.Pairs.{wf-low, wf-few, renamed-pair, renamed-left-wf, renamed-right-wf}
 use Rattle.store.specs.Slots.{SlotHolds, OnlySlot}
 use Rattle.store.proofs.Listing.{short-put, rule-put}
-use Rattle.problem.specs.Problem.{ok, refused, Field, due}
+use Rattle.problem.specs.Problem.{ok, refused, ReadField, due}
 use Rattle.problem.specs.Parser.{field-at}
 use Rattle.problem.proofs.Reading.{no-ok, ok-injective}
 use Rattle.inputs.specs.Inputs.{KnownBytes, PairAt, SideEnd, PutSides, PutEquation}
@@ -141,7 +141,7 @@ field-none tab l at bytes lens k bytes′ lens′ n place d h o = record {
 
 same-end : (l : List ℕ) (at e f : ℕ) → field-at 0x03 l at e ≡ field-at 0x03 l at f → e ≡ f
 unfolding field-at
-same-end l at e f q = ap (λ (x : Field). x .end) q
+same-end l at e f q = ap (λ (x : ReadField). x .end) q
 
 pub field-one : (tab l : List ℕ) (at : ℕ) (bytes lens : List ℕ) (k : ℕ) (bytes′ lens′ : List ℕ) (r : ℕ) → due 0x03 at (drop at l) ≡ ok (field-at 0x03 l at r) →
     PutSides tab l (at + 3) bytes lens k bytes′ lens′ → PutEquation tab l at bytes lens k bytes′ lens′ r

@@ -5,7 +5,7 @@ use Prim.Native.Nat.{ℕ, _+_, _-_, _<_, _≤_}
 use lib.ListN.{length, drop, take}
 use Rattle.terms.specs.Term.{Term, Pair, term-bytes, size, renamed}
 use Rattle.terms.specs.Flat.{Wf}
-use Rattle.terms.proofs.Every.{Every}
+use Rattle.terms.specs.Base.{Every}
 use Rattle.redex.specs.Stored.{Layout, RuleAt, Stored}
 use Rattle.problem.specs.Problem.{ok, due, Equation, Problem}
 use Rattle.problem.specs.Parser.{field-at, ParsedAt}

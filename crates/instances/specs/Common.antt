@@ -11,7 +11,7 @@ use Rattle.classes.specs.Steps.{at, arena}
 use Rattle.naming.specs.Names.{renamed-bytes}
 use Rattle.unify.specs.Unify.{mgu}
 use Rattle.problem.specs.Problem.{ok}
-use Rattle.completion.specs.Calls.{Unified, instance, no-instance, instance-too-large, unified, written, after-unify}
+use Rattle.completion.specs.Calls.{CommonInstance, instance, no-instance, instance-too-large, unified, written, after-unify}
 use Rattle.instances.specs.declared.Found.{Found}
 use Rattle.instances.specs.declared.Found.the-variants.{Instance, Nothing, TooLarge}
 
@@ -35,13 +35,13 @@ pub record TwoSides (l tab : List ℕ) (b : ℕ) : Type 0 where
   pub begins : b ≡ size s
 
 -- the answer for what the definition says
-unfoldable pub found-of : Unified → Found
+unfoldable pub found-of : CommonInstance → Found
 found-of (instance bytes) = Instance (length bytes)
 found-of no-instance = Nothing
 found-of instance-too-large = TooLarge
 
 -- the answer and the result buffer, before and after
-pub record Gives (u : Unified) (r : Found) (d d′ : List ℕ) : Type 0 where
+pub record Gives (u : CommonInstance) (r : Found) (d d′ : List ℕ) : Type 0 where
   pub answer : r ≡ found-of u
   pub leaves : d′ ≡ after-unify (ok u) d
 

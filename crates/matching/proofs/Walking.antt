@@ -11,9 +11,9 @@ use lib.Dec.{eqb}
 use lib.ListN.{length, getD, drop, length-append, length-drop, drop-of-length-le}
 use lib.Seq.{drop-cons, drop-drop, drop-at}
 use Rattle.terms.specs.Base.{if_then_else_}
-use Rattle.terms.specs.Term.{Term, Terms, var, node, nil, cons, term-bytes, terms-bytes, size, sizes}
+use Rattle.terms.specs.Term.{Term, Terms, var, node, nil, cons, term-bytes, terms-bytes, size, sizes, count}
 use Rattle.terms.specs.Flat.{Wf, Wfs}
-use Rattle.terms.specs.Scan.{count, arity}
+use Rattle.terms.specs.Scan.{arity}
 use Rattle.terms.proofs.Places.{size-pos}
 use Rattle.terms.proofs.Shape.{Says, eqb-says}
 use Rattle.unify.specs.Unify.{Binding}

@@ -11,9 +11,9 @@ use lib.Dec.{ltb}
 use lib.ListN.{length, getD, drop, take, length-append, length-take}
 use lib.Seq.{take-take}
 use Rattle.terms.specs.Base.{if_then_else_}
-use Rattle.terms.specs.Term.{Term, Terms, var, node, nil, cons, size, sizes}
+use Rattle.terms.specs.Term.{Term, Terms, var, node, nil, cons, size, sizes, count}
 use Rattle.terms.specs.Flat.{Wf, Wfs}
-use Rattle.terms.specs.Scan.{count, owes}
+use Rattle.terms.specs.Scan.{owes}
 use Rattle.terms.proofs.Places.{size-pos}
 use Rattle.terms.proofs.Scans.{owes-symbol, owes-other}
 use Rattle.terms.proofs.Starts.{from}

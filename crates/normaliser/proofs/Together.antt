@@ -9,9 +9,8 @@ use native.Mathlib.Omega.{arith}
 use lib.Dec.{ltb}
 use lib.ListN.{length, drop, take, length-append, take-append-drop}
 use lib.Seq.{drop-at, take-at, take-take, length-take-le}
-use Rattle.terms.specs.Term.{Term, Terms, nil, cons, size, sizes}
+use Rattle.terms.specs.Term.{Term, Terms, nil, cons, size, sizes, count}
 use Rattle.terms.specs.Flat.{Wf, Wfs}
-use Rattle.terms.specs.Scan.{count}
 use Rattle.terms.proofs.Starts.{from}
 use Rattle.rewriting.proofs.Holds.{and-then-assoc, goes-on≢end}
 use Rattle.rewriting.specs.Overlap.{Rule, sides-of}

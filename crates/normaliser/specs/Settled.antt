@@ -6,9 +6,8 @@ use Prim.Native.Nat.{ℕ, _+_, _*_, _/_, _≤_}
 use lib.Dec.{ltb}
 use lib.ListN.{length, take}
 use Rattle.terms.specs.Base.{is-some}
-use Rattle.terms.specs.Term.{Term, Terms, term-bytes, size, sizes}
+use Rattle.terms.specs.Term.{Term, Terms, term-bytes, size, sizes, count}
 use Rattle.terms.specs.Flat.{Wf, Wfs}
-use Rattle.terms.specs.Scan.{count}
 use Rattle.rewriting.specs.Overlap.{Rule, sides-of}
 use Rattle.rewriting.specs.Rewrite.{step, normalise, Paid, done, stop, end-number, goes-on}
 use Rattle.matching.specs.Cells.{cells, cells-all}

@@ -8,8 +8,8 @@ use native.Mathlib.Omega.{arith}
 use lib.ListN.{length, getD, List·getD-eq-default}
 use borrow.Author.Tests.{lt-ltb, le-ltb, eq-eqb, ne-eqb}
 use Rattle.terms.specs.Base.{if_then_else_}
-use Rattle.terms.specs.Term.{Term, node, Terms, nil, cons, size, same}
-use Rattle.terms.specs.Scan.{count, owes}
+use Rattle.terms.specs.Term.{Term, node, Terms, nil, cons, size, same, count}
+use Rattle.terms.specs.Scan.{owes}
 use Rattle.terms.specs.Flat.{Starts, StartAll, IsSame}
 use Rattle.terms.proofs.Starts.{from, head-var, head-node, first, none-left, starts-some, IsEnd, ended}
 use Rattle.order.specs.Order.{same-length, above, some-reaches, comparison}

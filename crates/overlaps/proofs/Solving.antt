@@ -10,10 +10,10 @@ use lib.Seq.{length-take-le}
 use native.Mathlib.Omega.{arith}
 use native.Mathlib.Nat.{sub-zero}
 use lib.Dec.{ltb}
-use Rattle.terms.specs.Base.{is-some}
+use Rattle.terms.specs.Base.{is-some, Every, of-none}
 use Rattle.terms.specs.Term.{Term, Terms, nil, cons, size, terms-bytes, subst-term, subterm-at, subterm-in, renamed}
 use Rattle.terms.specs.Flat.{Wfs}
-use Rattle.terms.proofs.Every.{Every, of-none, every-append, every-at}
+use Rattle.terms.proofs.Every.{every-append, every-at}
 use Rattle.terms.proofs.Flats.{widen-all, wf-bytes}
 use Rattle.terms.proofs.Positions.{subterm-below, in-first, in-later, in-head}
 use Rattle.unify.specs.Unify.{Binding, mgu, under}

@@ -13,7 +13,7 @@ use lib.Seq.{drop-cons, drop-drop, getD-drop}
 use borrow.Author.Tests.{lt-ltb, le-ltb, eq-eqb, ne-eqb}
 use Rattle.terms.proofs.Lists.{take-drop}
 use Rattle.terms.specs.Base.{number-from, member}
-use Rattle.problem.specs.Problem.{Reading, ok, refused, _>>=_, refuse-if, Field, read-field, due, Symbol, read-symbols, symbol-field, budget-field}
+use Rattle.problem.specs.Problem.{Reading, ok, refused, _>>=_, refuse-if, ReadField, read-field, due, Symbol, read-symbols, symbol-field, budget-field}
 use Rattle.problem.specs.Parser.{field-at, symbols-of, ranks, check-symbols, SymbolsAt, BudgetAt}
 
 -- `due` returns: m is what is left at `at`
@@ -206,11 +206,11 @@ read-is seen at (a ∷ []) = refl
 read-is seen at (a ∷ r ∷ l) = read-step (ltb 4 a) (ltb 15 r) (member r seen) at (record { arity = a; rank = r }) (symbols-of l) _ _ (read-is (r ∷ seen) (at + 2) l)
 
 -- `symbols`
-bad-length : (f : Field) (n : ℕ) → length (f .contents) ≡ n → (eqb n 0 || eqb (n % 2) 1 || ltb 32 n) ≡ true → symbol-field f ≡ refused 5 (f .first)
+bad-length : (f : ReadField) (n : ℕ) → length (f .contents) ≡ n → (eqb n 0 || eqb (n % 2) 1 || ltb 32 n) ≡ true → symbol-field f ≡ refused 5 (f .first)
 unfolding symbol-field _>>=_ refuse-if
 bad-length f n p h = rw (p, h) refl
 
-good-length : (f : Field) (n : ℕ) → length (f .contents) ≡ n → (eqb n 0 || eqb (n % 2) 1 || ltb 32 n) ≡ false →
+good-length : (f : ReadField) (n : ℕ) → length (f .contents) ≡ n → (eqb n 0 || eqb (n % 2) 1 || ltb 32 n) ≡ false →
     symbol-field f ≡ read-symbols [] (f .first + 3) (f .contents)
 unfolding symbol-field _>>=_ refuse-if
 good-length f n p h = rw (p, h) refl

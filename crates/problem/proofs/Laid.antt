@@ -8,20 +8,20 @@ use native.Mathlib.Omega.{arith}
 use lib.Dec.{ltb, eqb}
 use lib.ListN.{length, take, drop, getD, length-drop}
 use borrow.Author.Tests.{ltb-true, ltb-false, eqb-true, eqb-false}
-use Rattle.problem.specs.Problem.{ok, Field, due, Equation, equation-field, equation-fields, Problem}
+use Rattle.problem.specs.Problem.{ok, ReadField, due, Equation, equation-field, equation-fields, Problem}
 use Rattle.problem.specs.Parser.{field-at, symbols-of, Table, ParsedAt}
 use Rattle.problem.proofs.Reading.{from-bind, no-ok, ok-injective}
 use Rattle.problem.proofs.Fields.{due-ended, due-short, due-past-end, due-other-tag, due-fine}
 use Rattle.problem.proofs.Sides.{Both, both-sides, first-of}
 
 -- A field that is due and read is the field of its bytes from its first place to its end.
-pub record DueAt (tag : ℕ) (l : List ℕ) (at : ℕ) (f : Field) : Type 0 where
+pub record DueAt (tag : ℕ) (l : List ℕ) (at : ℕ) (f : ReadField) : Type 0 where
   pub end : ℕ
   pub is : f ≡ field-at tag l at end
   pub low : at + 3 ≤ end
   pub within : end ≤ length l
 
-module _ (tag : ℕ) (l : List ℕ) (at : ℕ) (f : Field) (h : due tag at (drop at l) ≡ ok f) where
+module _ (tag : ℕ) (l : List ℕ) (at : ℕ) (f : ReadField) (h : due tag at (drop at l) ≡ ok f) where
   n : ℕ
   n = getD l (at + 1) 0 * 256 + getD l (at + 2) 0
 
@@ -76,7 +76,7 @@ module _ (tab : List ℕ) (T : Table tab) (l : List ℕ) where
       let F = first-of (symbols-of tab) more at (drop at l) q qs h in
       let D = due-at 0x03 l at (F .field) (F .due-is) in
       let r : equation-fields (symbols-of tab) more (D .end) (drop (D .end) l) ≡ ok qs =
-      ap (λ (f : Field). equation-fields (symbols-of tab) more (f .end) (f .rest)) (sym (D .is)) ∙ F .rest-is in
+      ap (λ (f : ReadField). equation-fields (symbols-of tab) more (f .end) (f .rest)) (sym (D .is)) ∙ F .rest-is in
       let e : equation-field (symbols-of tab) (field-at 0x03 l at (D .end)) ≡ ok q = ap (equation-field (symbols-of tab)) (sym (D .is)) ∙ F .read-is in
       (D .end, F .due-is ∙ ap ok (D .is), D .low, D .within, both-sides tab T l at (D .end) (D .low) (D .within) q e, laid more (D .end) qs r)
 

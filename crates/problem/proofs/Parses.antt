@@ -6,7 +6,7 @@ use Prim.Native.Nat.{ℕ, zero, suc, _+_, _-_, _<_, _≤_}
 use native.Mathlib.Omega.{arith}
 use lib.ListN.{length, take, drop, length-append, length-drop, length-take, drop-of-length-le}
 use borrow.Author.Tests.{lt-ltb, le-ltb}
-use Rattle.problem.specs.Problem.{Reading, ok, refused, _>>=_, refuse-if, Field, due, Symbol, symbol-field, budget-field, Equation, equation-fields, Problem, parse}
+use Rattle.problem.specs.Problem.{Reading, ok, refused, _>>=_, refuse-if, ReadField, due, Symbol, symbol-field, budget-field, Equation, equation-fields, Problem, parse}
 use Rattle.problem.specs.Parser.{field-at, symbols-of, SymbolsAt, BudgetAt, FieldAt, IsParsed, parsed-of}
 use Rattle.problem.specs.declared.Input.{Input}
 use Rattle.problem.specs.declared.Input.the-variants.{Fine, Refused as Bad}
@@ -89,7 +89,7 @@ module _ (l : List ℕ) where
   parse-long h = answer-bad 2 8192 (rw (lt-ltb 8192 (length l) h) refl)
 
   module _ (h : length l ≤ 8192) where
-    rest-of : List Symbol → Field → Reading Problem
+    rest-of : List Symbol → ReadField → Reading Problem
     rest-of Σ s = due 0x02 (s .end) (s .rest) >>= λ b. budget-field b >>= λ budget. equation-fields Σ 16 (b .end) (b .rest) >>= λ es. ok (record { symbols = Σ; budget = budget; equations = es })
 
     parse-is : parse l ≡ (due 0x01 0 l >>= λ s. symbol-field s >>= λ Σ. rest-of Σ s)

@@ -10,11 +10,10 @@ use lib.ListN.{length}
 use borrow.Author.Tests.{ltb-true, leb-true, lt-ltb, le-ltb, le-leb}
 use Rattle.terms.proofs.Shape.{zero≢one, both-true}
 use Rattle.terms.specs.Base.{if_then_else_}
-use Rattle.terms.specs.Term.{Term, var, node, Terms, nil, cons, size, sizes, term-bytes, terms-bytes}
+use Rattle.terms.specs.Term.{Term, var, node, Terms, nil, cons, size, sizes, term-bytes, terms-bytes, count}
 use Rattle.terms.proofs.Limits.{Made, MadeAll}
 use Rattle.problem.specs.Problem.{Reading, ok, refused, _>>=_, refuse-if, Symbol, arity-of, Byte, symbol, variable, neither, byte-of, ReadPart, read-term, read-terms}
 use Rattle.problem.specs.Over.{Over, OverAll}
-use Rattle.terms.specs.Scan.{count}
 
 pub no-ok : {A : Type 0} {n at : ℕ} {a : A} → refused n at ≡ ok a → ⊥
 no-ok e = zero≢one (cc)

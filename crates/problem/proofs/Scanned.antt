@@ -17,7 +17,7 @@ use Rattle.terms.specs.Scan.{owes, is-node, scan}
 use Rattle.terms.specs.declared.Ends.the-variants.{At, Bad}
 use Rattle.terms.proofs.Bytes.{length-bytes}
 use Rattle.terms.proofs.Scans.{owes-symbol, owes-other, scan-none}
-use Rattle.problem.specs.Problem.{Reading, ok, refused, _>>=_, refuse-if, Field, due, Equation, equation-field, equation-fields, Symbol, arity-of, rank-of, Byte, symbol, variable, neither, byte-of, ReadPart, read-term, read-terms, read-side}
+use Rattle.problem.specs.Problem.{Reading, ok, refused, _>>=_, refuse-if, ReadField, due, Equation, equation-field, equation-fields, Symbol, arity-of, rank-of, Byte, symbol, variable, neither, byte-of, ReadPart, read-term, read-terms, read-side}
 use Rattle.problem.specs.Parser.{field-at, symbols-of, Table, SideAt, FieldAt}
 use Rattle.problem.proofs.Reading.{reads}
 use Rattle.problem.proofs.Fields.{bind-ok, bind-refused}
@@ -262,12 +262,12 @@ module _ (Σ : List Symbol) (at : ℕ) where
   due-fails zero (b ∷ m) n p z h = bind-refused _ h
   due-fails (suc more) (b ∷ m) n p z h = bind-refused _ h
 
-  seventeenth : (m : List ℕ) (f : Field) → (length m ≡ 0 → ⊥) → due 0x03 at m ≡ ok f → equation-fields Σ 0 at m ≡ refused 9 at
+  seventeenth : (m : List ℕ) (f : ReadField) → (length m ≡ 0 → ⊥) → due 0x03 at m ≡ ok f → equation-fields Σ 0 at m ≡ refused 9 at
   unfolding equation-fields
   seventeenth [] f z h = absurd (z refl)
   seventeenth (b ∷ m) f z h = bind-ok _ h
 
-  pub one-more : (more : ℕ) (m : List ℕ) (f : Field) → (length m ≡ 0 → ⊥) → due 0x03 at m ≡ ok f →
+  pub one-more : (more : ℕ) (m : List ℕ) (f : ReadField) → (length m ≡ 0 → ⊥) → due 0x03 at m ≡ ok f →
       equation-fields Σ (suc more) at m ≡ (equation-field Σ f >>= λ q. equation-fields Σ more (f .end) (f .rest) >>= λ es. ok (q ∷ es))
   unfolding equation-fields
   one-more more [] f z h = absurd (z refl)

@@ -11,7 +11,7 @@ use Rattle.terms.specs.Flat.{Wf, Wfs, Starts}
 use Rattle.terms.proofs.Bytes.{length-bytes}
 use Rattle.terms.proofs.Flats.{widen}
 use Rattle.terms.proofs.Limits.{Made, MadeAll}
-use Rattle.problem.specs.Problem.{ok, Field, due, Symbol, ReadPart, read-side, Equation, equation-field, equation-fields}
+use Rattle.problem.specs.Problem.{ok, ReadField, due, Symbol, ReadPart, read-side, Equation, equation-field, equation-fields}
 use Rattle.problem.specs.Over.{Over, OverAll}
 use Rattle.problem.specs.Parser.{field-at, symbols-of, Table}
 use Rattle.problem.proofs.Reading.{from-bind, reads, ok-injective}
@@ -86,7 +86,7 @@ module _ (tab : List ℕ) (T : Table tab) where
 
 -- the first of the equation fields
 pub record First (Σ : List Symbol) (more at : ℕ) (m : List ℕ) (q : Equation) (es : List Equation) : Type 0 where
-  pub field : Field
+  pub field : ReadField
   pub due-is : due 0x03 at m ≡ ok field
   pub read-is : equation-field Σ field ≡ ok q
   pub rest-is : equation-fields Σ more (field .end) (field .rest) ≡ ok es

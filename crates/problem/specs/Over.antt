@@ -3,8 +3,7 @@ use mathlib.Core.Path.{_≡_}
 use mathlib.Core.List.{List}
 use Prim.Native.Nat.{_<_}
 use lib.ListN.{length}
-use Rattle.terms.specs.Term.{Term, var, node, Terms, nil, cons}
-use Rattle.terms.specs.Scan.{count}
+use Rattle.terms.specs.Term.{Term, var, node, Terms, nil, cons, count}
 use Rattle.problem.specs.Problem.{Symbol, arity-of}
 
 -- "Term over its symbols: a variable, numbered by any whole number, or such a symbol with as many of these terms as its arity."

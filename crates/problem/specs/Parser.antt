@@ -7,14 +7,14 @@ use lib.ListN.{length, take, drop, getD}
 use Rattle.terms.specs.Base.{member}
 use Rattle.terms.specs.Term.{Term}
 use Rattle.problem.specs.Stops.{wrong-arity-or-rank, same-rank}
-use Rattle.problem.specs.Problem.{Reading, ok, refused, _>>=_, refuse-if, Field, due, Symbol, symbol-field, budget-field, read-side, Equation, equation-field, equation-fields, Problem, parse}
+use Rattle.problem.specs.Problem.{Reading, ok, refused, _>>=_, refuse-if, ReadField, due, Symbol, symbol-field, budget-field, read-side, Equation, equation-field, equation-fields, Problem, parse}
 use Rattle.problem.specs.declared.Input.{Input}
 use Rattle.problem.specs.declared.Input.the-variants.{Fine, Refused as Bad}
 use Rattle.problem.specs.declared.Read.{Read}
 use Rattle.problem.specs.declared.Read.the-variants.{Value, Refused}
 
 -- the field of l from `at` to e
-unfoldable pub field-at : ℕ → List ℕ → ℕ → ℕ → Field
+unfoldable pub field-at : ℕ → List ℕ → ℕ → ℕ → ReadField
 field-at tag l at e = record { first = at; tag = tag; contents = drop (at + 3) (take e l); end = e; rest = drop e l }
 
 abbrev pub IsDue : ℕ → List ℕ → ℕ → Read → Type 0

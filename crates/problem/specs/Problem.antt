@@ -23,7 +23,7 @@ refuse-if true n at = refused n at
 refuse-if false n at = ok tt
 
 -- A field that was read: the place of its first byte, its contents, the place behind it and the bytes there.
-pub record Field : Type 0 where
+pub record ReadField : Type 0 where
   pub first : ℕ
   pub tag : ℕ
   pub contents : List ℕ
@@ -32,7 +32,7 @@ pub record Field : Type 0 where
 
 -- "A field is a one-byte tag, a two-byte length (high byte first), contents."
 -- 3: "field's header or contents pass the end", at the "field's first byte"
-unfoldable pub read-field : ℕ → List ℕ → Reading Field
+unfoldable pub read-field : ℕ → List ℕ → Reading ReadField
 read-field at [] = refused cut-field at
 read-field at (tag ∷ []) = refused cut-field at
 read-field at (tag ∷ high ∷ []) = refused cut-field at
@@ -42,7 +42,7 @@ read-field at (tag ∷ high ∷ low ∷ bytes) = do
   ok (record { first = at; tag = tag; contents = take n bytes; end = at + 3 + n; rest = drop n bytes })
 
 -- 4: "tag not the one due, or the problem ends where tag 01 or 02 is due", at the "field's first byte or the end"
-unfoldable pub due : ℕ → ℕ → List ℕ → Reading Field
+unfoldable pub due : ℕ → ℕ → List ℕ → Reading ReadField
 due tag at [] = refused wrong-tag at
 due tag at (b ∷ bytes) = do
   f ← read-field at (b ∷ bytes)
@@ -72,14 +72,14 @@ read-symbols ranks at (arity ∷ rank ∷ bytes) = do
   ok (record { arity = arity; rank = rank } ∷ Σ)
 
 -- 5: "symbol field's length 0, odd or over 32", at the "field's first byte"
-unfoldable pub symbol-field : Field → Reading (List Symbol)
+unfoldable pub symbol-field : ReadField → Reading (List Symbol)
 symbol-field f = do
   let n = length (f .contents)
   _ ← refuse-if (eqb n 0 || eqb (n % 2) 1 || ltb 32 n) wrong-symbol-field (f .first)
   read-symbols [] (f .first + 3) (f .contents)
 
 -- "the budget, four bytes, high byte first, 0 to 1,000,000"; 8: "budget field not 4 bytes, or above 1,000,000"
-unfoldable pub budget-field : Field → Reading ℕ
+unfoldable pub budget-field : ReadField → Reading ℕ
 budget-field f = do
   _ ← refuse-if (not (eqb (length (f .contents)) 4)) wrong-budget (f .first)
   let budget = number-from 0 (f .contents)
@@ -140,7 +140,7 @@ pub record Equation : Type 0 where
   pub sides : Pair
 
 -- "an equation, left term then right term"; 10: "byte after the right term", at "that byte"
-unfoldable pub equation-field : List Symbol → Field → Reading Equation
+unfoldable pub equation-field : List Symbol → ReadField → Reading Equation
 equation-field Σ f = do
   l ← read-side Σ (f .first + 3) (f .contents)
   r ← read-side Σ (l .end) (l .rest)

@@ -12,7 +12,8 @@ use lib.ListN.{length, getD, drop, drop-of-length-le}
 use lib.Seq.{drop-cons}
 use borrow.Author.Tests.{ltb-true, lt-ltb, le-ltb}
 use Rattle.terms.proofs.Shape.{both-true}
-use Rattle.terms.proofs.Every.{Every, every-head, every-tail}
+use Rattle.terms.specs.Base.{Every}
+use Rattle.terms.proofs.Every.{every-head, every-tail}
 use Rattle.terms.proofs.Flats.{wf-bytes}
 use Rattle.terms.specs.Term.{Term, term-bytes}
 use Rattle.terms.specs.Flat.{Wf}

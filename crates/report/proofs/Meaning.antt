@@ -7,7 +7,7 @@ use Prim.Native.Nat.{ℕ, suc, _+_, _*_}
 use native.Mathlib.Omega.{arith}
 use lib.ListN.{length, getD, take, drop}
 use lib.Seq.{getD-drop, drop-drop}
-use Rattle.terms.specs.Base.{if_then_else_, number-bytes, Tagged, field-bytes}
+use Rattle.terms.specs.Base.{if_then_else_, number-bytes, Field, field-bytes}
 use Rattle.terms.specs.Term.{Pair, renamed}
 use Rattle.rewriting.specs.Overlap.{Rule, sides-of}
 use Rattle.rewriting.specs.Rewrite.{End, complete, neither-above, spent, too-large, rules-full, log-full, end-number}
@@ -16,8 +16,8 @@ use Rattle.naming.specs.Names.{renamed-bytes}
 use Rattle.naming.proofs.Renaming.{Low}
 use Rattle.naming.proofs.Pairs.{wf-low, renamed-pair}
 use Rattle.completion.specs.Turn.{Finished}
-use Rattle.completion.specs.Calls.{pair-bytes, rule-field, entry-field, forms-field, result-fields, result-bytes}
-use Rattle.report.specs.Fields.{Writes, tagged, slot-bytes, slot-field, slot-fields, low, forms-bytes, all-bytes}
+use Rattle.completion.specs.Calls.{pair-bytes, rule-field, entry-field, forms-field, result-fields, result-bytes, Writes}
+use Rattle.report.specs.Fields.{tagged, slot-bytes, slot-field, slot-fields, low, forms-bytes, all-bytes}
 use Rattle.terms.proofs.Lists.{flatMap-append, flatMap-map}
 use Rattle.report.proofs.Lowness.{term-low}
 use Rattle.report.specs.Report.{StateIn, EndIn}
@@ -76,7 +76,7 @@ module _ (tab rules lens numbers : List ℕ) (count : ℕ) (log : List ℕ) (ent
       ap (slot-fields rules lens numbers 0) c
       ∙ slots-are tab rules lens numbers 0 (f .state .rules) (kept .stored) (ap (λ (n : ℕ). take n numbers) (sym c) ∙ kept .numbered)
 
-  behind : (R L F : List Tagged) → flatMap field-bytes (R ++ L ++ F) ≡ flatMap field-bytes R ++ (flatMap field-bytes L ++ flatMap field-bytes F)
+  behind : (R L F : List Field) → flatMap field-bytes (R ++ L ++ F) ≡ flatMap field-bytes R ++ (flatMap field-bytes L ++ flatMap field-bytes F)
   behind R L F =
       flatMap-append field-bytes (R ++ L) F ∙ ap (λ l. l ++ flatMap field-bytes F) (flatMap-append field-bytes R L)
       ∙ append-assoc (flatMap field-bytes R) (flatMap field-bytes L) (flatMap field-bytes F)

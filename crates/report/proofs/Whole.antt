@@ -1,5 +1,5 @@
 -- Field 14 is put or left out, and all fields one behind the other fill the front of the buffer, which has room for them. Assumes nothing.
--- Read first: specs/Fields (Writes, all-bytes, forms-bytes), proofs/Putting.
+-- Read first: specs/Fields (all-bytes, forms-bytes), completion/specs/Calls (Writes), proofs/Putting.
 use mathlib.Core.Path.{_≡_, refl, sym, _∙_}
 use mathlib.Core.Bool.{true, false}
 use mathlib.Core.List.{List, [], _++_, flatMap}
@@ -7,10 +7,10 @@ use Prim.Native.Nat.{ℕ, _+_, _*_, _≤_}
 use native.Mathlib.Omega.{arith}
 use lib.ListN.{length}
 use borrow.Author.Tests.{eq-eqb, ne-eqb}
-use Rattle.terms.specs.Base.{if_then_else_, number-bytes, Tagged, field-bytes}
+use Rattle.terms.specs.Base.{if_then_else_, number-bytes, Field, field-bytes}
 use Rattle.naming.specs.Names.{renamed-bytes}
-use Rattle.completion.specs.Calls.{written}
-use Rattle.report.specs.Fields.{Puts, PutsSome, Writes, tagged, low, forms-bytes, all-bytes}
+use Rattle.completion.specs.Calls.{written, Writes}
+use Rattle.report.specs.Fields.{Puts, PutsSome, tagged, low, forms-bytes, all-bytes}
 use Rattle.report.proofs.Appending.{patched-none, patched-front}
 use Rattle.report.proofs.Putting.{puts-length, puts-then, puts-counted}
 
@@ -36,7 +36,7 @@ module _ (out left right : List ℕ) (at end : ℕ) where
   right-high e x y = nothing (unfold forms-bytes if_then_else_ in rw (eq-eqb end 20 e, x, y) refl)
 
 -- `report`
-module _ (out l₁ l₂ l₃ l₄ l₅ : List ℕ) (end units count entries a b c d r : ℕ) (fields : List Tagged) (log forms : List ℕ)
+module _ (out l₁ l₂ l₃ l₄ l₅ : List ℕ) (end units count entries a b c d r : ℕ) (fields : List Field) (log forms : List ℕ)
     (room : 13_726 ≤ length out) (live : count ≤ 32) (few : entries ≤ 512)
     (p : Puts out 0 4 (field-bytes (tagged 0x10 (number-bytes 1 end))) l₁ a)
     (q : Puts l₁ a 7 (field-bytes (tagged 0x11 (number-bytes 4 units))) l₂ b)

@@ -5,7 +5,7 @@ use mathlib.Core.List.{List, [], _∷_, _++_, flatMap}
 use Prim.Native.Nat.{ℕ, zero, suc, _+_, _*_, _≤_}
 use lib.Dec.{eqb, ltb}
 use lib.ListN.{length, getD, take, drop}
-use Rattle.terms.specs.Base.{if_then_else_, number-bytes, Tagged, field-bytes}
+use Rattle.terms.specs.Base.{if_then_else_, number-bytes, Field, field-bytes}
 use Rattle.redex.specs.Stored.{Layout}
 use Rattle.naming.specs.Names.{renamed-bytes}
 use Rattle.completion.specs.Calls.{written}
@@ -22,7 +22,7 @@ pub record PutsSome (most : ℕ) (before : List ℕ) (at k : ℕ) (ys after : Li
   pub puts : Puts before at (length ys) ys after r
   pub room : r ≤ at + most * k
 
-abbrev pub tagged : ℕ → List ℕ → Tagged
+abbrev pub tagged : ℕ → List ℕ → Field
 tagged tag contents = record { tag = tag; contents = contents }
 
 -- the two sides in slot k
@@ -30,10 +30,10 @@ unfoldable pub slot-bytes : List ℕ → List ℕ → ℕ → List ℕ
 slot-bytes rules lens k = take (getD lens (2 * k) 0) (drop (240 * k) rules) ++ take (getD lens (2 * k + 1) 0) (drop (240 * k + 120) rules)
 
 -- field 12 of the rule in slot k; of n slots from k on
-unfoldable pub slot-field : List ℕ → List ℕ → List ℕ → ℕ → Tagged
+unfoldable pub slot-field : List ℕ → List ℕ → List ℕ → ℕ → Field
 slot-field rules lens numbers k = tagged 0x12 (number-bytes 2 (getD numbers k 0) ++ slot-bytes rules lens k)
 
-unfoldable pub slot-fields : List ℕ → List ℕ → List ℕ → ℕ → ℕ → List Tagged
+unfoldable pub slot-fields : List ℕ → List ℕ → List ℕ → ℕ → ℕ → List Field
 slot-fields rules lens numbers k zero = []
 slot-fields rules lens numbers k (suc n) = slot-field rules lens numbers k ∷ slot-fields rules lens numbers (suc k) n
 
@@ -49,14 +49,9 @@ unfoldable pub forms-bytes : ℕ → List ℕ → List ℕ → List ℕ
 forms-bytes end left right = if eqb end 20 && low left && low right then field-bytes (tagged 0x14 (renamed-bytes (left ++ right))) else []
 
 -- all fields, the log being kept in the form of its fields
-unfoldable pub all-bytes : ℕ → ℕ → List Tagged → List ℕ → List ℕ → List ℕ
+unfoldable pub all-bytes : ℕ → ℕ → List Field → List ℕ → List ℕ → List ℕ
 all-bytes end units rules log forms =
     field-bytes (tagged 0x10 (number-bytes 1 end)) ++ (field-bytes (tagged 0x11 (number-bytes 4 units)) ++ (flatMap field-bytes rules ++ (log ++ forms)))
-
--- these bytes stand at the front, all else is as it was, and r counts them
-pub record Writes (before ys after : List ℕ) (r : ℕ) : Type 0 where
-  pub bytes : after ≡ written ys before
-  pub count : r ≡ length ys
 
 -- what the writer is lent
 pub record Lent (rules lens numbers : List ℕ) (count : ℕ) (log : List ℕ) (entries : ℕ) (left right : List ℕ) : Type 0 where

@@ -9,10 +9,9 @@ use Rattle.rewriting.specs.Overlap.{Rule, sides-of}
 use Rattle.rewriting.specs.Rewrite.{neither-above, end-number}
 use Rattle.redex.specs.Stored.{Sides, Stored}
 use Rattle.completion.specs.Turn.{State as RunState, Finished}
-use Rattle.completion.specs.Calls.{entry-field, result-bytes}
+use Rattle.completion.specs.Calls.{entry-field, result-bytes, Writes}
 use Rattle.engine.specs.declared.State.{State}
 use Rattle.engine.specs.State.{whole, Held}
-use Rattle.report.specs.Fields.{Writes}
 
 -- the rules of the state s stand in slots, with their numbers beside, and its log in the form of fields 13
 pub record StateIn (tab rules lens numbers : List ℕ) (count : ℕ) (log : List ℕ) (entries : ℕ) (s : RunState) : Type 0 where

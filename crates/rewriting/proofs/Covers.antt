@@ -6,10 +6,10 @@ use mathlib.Core.List.{List, [], _∷_, _++_, List·Memᴰ·not-nil, List·Mem�
 use Prim.Native.Nat.{ℕ, suc, zero, _+_, _-_, _≤_, _<_}
 use native.Mathlib.Omega.{arith}
 use lib.ListN.{length, getD}
-use Rattle.terms.specs.Base.{count-from}
+use Rattle.terms.specs.Base.{count-from, Every, of-none, of-cons}
 use Rattle.terms.specs.Term.{Term, Pair, size}
 use Rattle.terms.proofs.Places.{size-pos}
-use Rattle.terms.proofs.Every.{Every, of-none, of-cons, every-append, every-left, every-right, every-map, every-head, counted}
+use Rattle.terms.proofs.Every.{every-append, every-left, every-right, every-map, every-head, counted}
 use Rattle.rewriting.specs.Overlap.{Rule, sides-of, Place, places, positions, places-with, places-self, all-places}
 use Rattle.rewriting.proofs.Relations.{Of}
 use Rattle.rewriting.proofs.Finite.{none-such}

@@ -10,14 +10,13 @@ use native.Mathlib.Decide.{decLt}
 use lib.Dec.{ltb}
 use lib.ListN.{length, length-append}
 use borrow.Author.Tests.{lt-ltb, le-ltb}
-use Rattle.terms.specs.Base.{if_then_else_, mapped, or-else}
+use Rattle.terms.specs.Base.{if_then_else_, mapped, or-else, Every, of-none, of-cons}
 use Rattle.terms.specs.Term.{Term, Terms, var, node, nil, cons, size, sizes, term-bytes, subterm-at, subterm-in, replace-at, replace-in}
 use Rattle.terms.proofs.Shape.{none≢some, some-inj}
 use Rattle.terms.proofs.Context.{hole, plug}
 use Rattle.terms.proofs.Places.{number, size-pos}
 use Rattle.terms.proofs.Positions.{at-zero, in-first, in-later, replace-plug, subterm-below, subterm-in-below}
 use Rattle.terms.proofs.Bytes.{Around, around, around-in, length-bytes, length-bytes-all}
-use Rattle.terms.proofs.Every.{Every, of-none, of-cons}
 use Rattle.unify.specs.Unify.{Binding}
 use Rattle.rewriting.specs.Overlap.{Rule}
 use Rattle.rewriting.specs.Rewrite.{matching, instantiate, root-step, step, step-in, too-large, stop, Paying, return, and-then, _>>=_, end-if, end-with, pay, hold, normalise}

@@ -1,5 +1,6 @@
 // Rewriting: definitions, theory, and the verdicts' numbers. The code that rewrites stands in `redex` and `normaliser`.
-// A verdict is GOES_ON, or document 01's number of the end at which the work stopped (`end-number` of specs/Rewrite).
+// A verdict is GOES_ON, or document 01's number of the end at which the work stopped (`end-number` of specs/Rewrite): so a turn and a run answer.
+// `redex` and `normaliser` have two more of their own, REWRITTEN and NO_TERM, which are no ends.
 
 // No end: the work goes on. No end has this number.
 pub const GOES_ON: u8 = 1;

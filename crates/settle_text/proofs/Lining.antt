@@ -7,8 +7,7 @@ use Prim.Native.Nat.{ℕ, _+_, _-_, _*_, _/_, _%_, _≤_, _<_}
 use native.Mathlib.Omega.{arith}
 use lib.ListN.{length, getD, take, drop, length-append, length-drop}
 use lib.Seq.{take-at, drop-at, getD-drop, drop-drop, length-take-le}
-use Rattle.terms.specs.Base.{number-bytes, Tagged, field-bytes}
-use Rattle.terms.proofs.Every.{Every, of-cons}
+use Rattle.terms.specs.Base.{number-bytes, Field, field-bytes, Every, of-cons}
 use Rattle.completion.specs.Settle.{line}
 use Rattle.store.specs.Slots.{patched}
 use Rattle.report.specs.Fields.{PutsSome, tagged}
@@ -16,12 +15,12 @@ use Rattle.report.proofs.Appending.{patched-none, patched-behind, patched-front
 use Rattle.report.proofs.Putting.{puts-length}
 use Rattle.settle_text.specs.Text.{Lines}
 
-abbrev Short : List Tagged → Type 0
-Short fs = Every (λ (f : Tagged). length (f .contents) < 65_536) fs
+abbrev Short : List Field → Type 0
+Short fs = Every (λ (f : Field). length (f .contents) < 65_536) fs
 
 -- the fields that are still to print
-pub record Lining (result out₀ : List ℕ) (fs : List Tagged) (i a : ℕ) (out : List ℕ) : Type 0 where
-  pub rest : List Tagged
+pub record Lining (result out₀ : List ℕ) (fs : List Field) (i a : ℕ) (out : List ℕ) : Type 0 where
+  pub rest : List Field
   pub short : Short rest
   pub left : drop i result ≡ flatMap field-bytes rest
   pub to-do : patched a (flatMap line rest) out ≡ patched 0 (flatMap line fs) out₀
@@ -32,7 +31,7 @@ pub record Printing (result out₀ out : List ℕ) (i a : ℕ) : Type 0 where
   pub within : i ≤ length result
   pub same : length out ≡ length out₀
   pub room : a ≤ 4 * i
-  pub lines : (fs : List Tagged) → Short fs → result ≡ flatMap field-bytes fs → Lining result out₀ fs i a out
+  pub lines : (fs : List Field) → Short fs → result ≡ flatMap field-bytes fs → Lining result out₀ fs i a out
 
 pub printing-start : (result out : List ℕ) → Printing result out out 0 0
 printing-start result out = record {
@@ -43,7 +42,7 @@ printing-start result out = record {
 }
 
 -- the bytes of the first of some fields
-pub record Head (l : List ℕ) (f : Tagged) (fs : List Tagged) : Type 0 where
+pub record Head (l : List ℕ) (f : Field) (fs : List Field) : Type 0 where
   pub tag : getD l 0 0 ≡ f .tag
   pub number : 256 * getD l 1 0 + getD l 2 0 ≡ length (f .contents)
   pub long : 3 + length (f .contents) ≤ length l
@@ -53,7 +52,7 @@ pub record Head (l : List ℕ) (f : Tagged) (fs : List Tagged) : Type 0 where
 two : (n : ℕ) → n < 65_536 → 256 * (n / 256 % 256) + n % 256 ≡ n
 two n h = omega arith
 
-head-of : (l : List ℕ) (f : Tagged) (fs : List Tagged) → length (f .contents) < 65_536 → l ≡ flatMap field-bytes (f ∷ fs) → Head l f fs
+head-of : (l : List ℕ) (f : Field) (fs : List Field) → length (f .contents) < 65_536 → l ≡ flatMap field-bytes (f ∷ fs) → Head l f fs
 unfolding flatMap field-bytes number-bytes
 head-of l f fs h e =
     let n : ℕ = length (f .contents) in
@@ -66,12 +65,12 @@ head-of l f fs h e =
       behind = sym (drop-drop n 3 (f .tag ∷ (number-bytes 2 n ++ f .contents) ++ more)) ∙ drop-at (f .contents) more n refl;
     })
 
-no-bytes : (fs : List Tagged) → length (flatMap field-bytes fs) ≡ 0 → fs ≡ []
+no-bytes : (fs : List Field) → length (flatMap field-bytes fs) ≡ 0 → fs ≡ []
 unfolding flatMap field-bytes
 no-bytes [] e = refl
 no-bytes (f ∷ fs) e = absurd (omega arith)
 
-lines-cons : (f : Tagged) (fs : List Tagged) → flatMap line (f ∷ fs) ≡ line f ++ flatMap line fs
+lines-cons : (f : Field) (fs : List Field) → flatMap line (f ∷ fs) ≡ line f ++ flatMap line fs
 unfolding flatMap
 lines-cons f fs = refl
 
@@ -85,12 +84,12 @@ no-lines = refl
 
 module _ (result out₀ : List ℕ) (big : 4 * length result ≤ length out₀) (out : List ℕ) (i a : ℕ) (p : Printing result out₀ out i a) where
   -- what is left begins with a field
-  with-next : {C : Type 0} (fs : List Tagged) → Short fs → result ≡ flatMap field-bytes fs → i < length result →
-      ((f : Tagged) (rest : List Tagged) → Head (drop i result) f rest → Short rest →
+  with-next : {C : Type 0} (fs : List Field) → Short fs → result ≡ flatMap field-bytes fs → i < length result →
+      ((f : Field) (rest : List Field) → Head (drop i result) f rest → Short rest →
       patched a (line f ++ flatMap line rest) out ≡ patched 0 (flatMap line fs) out₀ → a + length (line f ++ flatMap line rest) ≡ length (flatMap line fs) → C) → C
   with-next {C} fs h e l k = let q : Lining result out₀ fs i a out = p .lines fs h e in go (q .rest) (q .short) (q .left) (q .to-do) (q .total)
     where
-      go : (rest : List Tagged) → Short rest → drop i result ≡ flatMap field-bytes rest → patched a (flatMap line rest) out ≡ patched 0 (flatMap line fs) out₀ →
+      go : (rest : List Field) → Short rest → drop i result ≡ flatMap field-bytes rest → patched a (flatMap line rest) out ≡ patched 0 (flatMap line fs) out₀ →
           a + length (flatMap line rest) ≡ length (flatMap line fs) → C
       go [] s left to-do total = absurd (omega (arith, length-drop i result, ap length left ∙ none-left))
       go (f ∷ rest) (of-cons q s) left to-do total =
@@ -100,7 +99,7 @@ module _ (result out₀ : List ℕ) (big : 4 * length result ≤ length out₀) 
   pub no-head : i < length result → length result - i < 3 → (r : ℕ) → Lines result out₀ out r
   no-head l few r fs h e = absurd (with-next fs h e l λ f rest head s t u. let x = head .long in omega (arith, length-drop i result))
 
-  number-is : (f : Tagged) (rest : List Tagged) → Head (drop i result) f rest → 256 * getD result (i + 1) 0 + getD result (i + 2) 0 ≡ length (f .contents)
+  number-is : (f : Field) (rest : List Field) → Head (drop i result) f rest → 256 * getD result (i + 1) 0 + getD result (i + 2) 0 ≡ length (f .contents)
   number-is f rest head = ap₂ (λ (x y : ℕ). 256 * x + y) (sym (getD-drop i result 1 0)) (sym (getD-drop i result 2 0)) ∙ head .number
 
   pub no-contents : i < length result → (n : ℕ) → n ≡ 256 * getD result (i + 1) 0 + getD result (i + 2) 0 → length result - i - 3 < n → (r : ℕ) → Lines result out₀ out r

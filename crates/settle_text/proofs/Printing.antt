@@ -1,5 +1,5 @@
 -- What settle prints, from the answer of `complete` and the bytes that it leaves in the buffer. Assumes nothing.
--- Read first: complete/specs/Answer (told, counted), specs/Text, proofs/Settling.
+-- Read first: complete/specs/Answer (completed-told, counted), specs/Text, proofs/Settling.
 use mathlib.Core.Path.{_≡_, refl, sym, ap, _∙_, subst}
 use mathlib.Core.List.{List}
 use Prim.Native.Nat.{ℕ, _-_, _≤_}
@@ -8,11 +8,10 @@ use lib.ListN.{length, take}
 use Rattle.completion.proofs.Writing.{written-front}
 use Rattle.problem.specs.Problem.{Reading, ok, refused}
 use Rattle.problem.proofs.Reading.{no-ok, ok-injective}
-use Rattle.completion.specs.Calls.{complete-call, after-complete}
+use Rattle.completion.specs.Calls.{complete-call, after-complete, Writes}
 use Rattle.completion.specs.Settle.{settle}
 use Rattle.completion.proofs.Capacity.{complete-writes}
-use Rattle.report.specs.Fields.{Writes}
-use Rattle.complete.specs.Answer.{told, counted}
+use Rattle.complete.specs.Answer.{completed-told, counted}
 use Rattle.complete.specs.declared.Completed.{Completed}
 use Rattle.complete.specs.declared.Completed.the-variants.{Written, Refused}
 use Rattle.settle_text.specs.Text.{Lines, Refusal}
@@ -23,10 +22,10 @@ pub record Got (problem : List ℕ) (buffer n : ℕ) (after : List ℕ) : Type 0
   pub is : complete-call problem buffer ≡ ok (take (n - 0) after)
   pub few : n ≤ 13_715
 
-pub got : (problem before after : List ℕ) (r : Completed) (n buffer : ℕ) → r ≡ Written n → told r ≡ counted (complete-call problem buffer) →
+pub got : (problem before after : List ℕ) (r : Completed) (n buffer : ℕ) → r ≡ Written n → completed-told r ≡ counted (complete-call problem buffer) →
     after ≡ after-complete (complete-call problem buffer) before → Got problem buffer n after
-unfolding told counted after-complete
-got problem before after r n buffer w a b = go (complete-call problem buffer) refl (sym (ap told w) ∙ a) b
+unfolding completed-told counted after-complete
+got problem before after r n buffer w a b = go (complete-call problem buffer) refl (sym (ap completed-told w) ∙ a) b
   where
     go : (c : Reading (List ℕ)) → complete-call problem buffer ≡ c → ok n ≡ counted c → after ≡ after-complete c before → Got problem buffer n after
     go (refused k at) e a b = absurd (no-ok (sym a))
@@ -39,9 +38,9 @@ pub prints-lines : (problem after : List ℕ) (n buffer : ℕ) (out out′ : Lis
 prints-lines problem after n buffer out out′ r G big h = settle-lines problem buffer big (take (n - 0) after) out out′ r (G .is) h
 
 pub prints-refused : (problem : List ℕ) (c : Completed) (n n′ at buffer : ℕ) (out out′ : List ℕ) (r : ℕ) → c ≡ Refused n at →
-    told c ≡ counted (complete-call problem buffer) → n′ ≡ n → 16_384 ≤ buffer → Refusal n′ at out out′ r → Writes out (settle problem) out′ r
-unfolding told counted after-complete
-prints-refused problem c n n′ at buffer out out′ r w a wide big h = go (complete-call problem buffer) refl (sym (ap told w) ∙ a)
+    completed-told c ≡ counted (complete-call problem buffer) → n′ ≡ n → 16_384 ≤ buffer → Refusal n′ at out out′ r → Writes out (settle problem) out′ r
+unfolding completed-told counted after-complete
+prints-refused problem c n n′ at buffer out out′ r w a wide big h = go (complete-call problem buffer) refl (sym (ap completed-told w) ∙ a)
   where
     go : (d : Reading (List ℕ)) → complete-call problem buffer ≡ d → refused n at ≡ counted d → Writes out (settle problem) out′ r
     go (ok bytes) e a = absurd (no-ok a)

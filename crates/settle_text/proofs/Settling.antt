@@ -10,11 +10,10 @@ use Rattle.terms.proofs.Every.{every-map}
 use Rattle.problem.specs.Problem.{Reading, ok, refused, _>>=_, Problem, parse}
 use Rattle.problem.proofs.Reading.{no-ok, ok-injective}
 use Rattle.completion.specs.Turn.{run}
-use Rattle.completion.specs.Calls.{result-fields, result-bytes, complete-call}
+use Rattle.completion.specs.Calls.{result-fields, result-bytes, complete-call, Writes}
 use Rattle.completion.specs.Settle.{settle}
 use Rattle.completion.proofs.Accepts.{accepts}
 use Rattle.completion.proofs.Result.{fields-fit}
-use Rattle.report.specs.Fields.{Writes}
 use Rattle.settle_text.specs.Text.{Lines, Refusal}
 
 module _ (problem : List ℕ) (buffer : ℕ) (big : 16_384 ≤ buffer) where

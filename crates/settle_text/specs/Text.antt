@@ -3,15 +3,14 @@ use mathlib.Core.Path.{_≡_}
 use mathlib.Core.List.{List, _++_, flatMap}
 use Prim.Native.Nat.{ℕ, _<_}
 use lib.ListN.{length}
-use Rattle.terms.specs.Base.{Tagged, field-bytes}
-use Rattle.terms.proofs.Every.{Every}
+use Rattle.terms.specs.Base.{Field, field-bytes, Every}
 use Rattle.completion.specs.Settle.{ascii, decimal, line}
-use Rattle.report.specs.Fields.{Writes}
+use Rattle.completion.specs.Calls.{Writes}
 
 -- "a line a field": for all fields that the bytes may be
 abbrev pub Lines : List ℕ → List ℕ → List ℕ → ℕ → Type 0
 Lines result before after r =
-    (fs : List Tagged) → Every (λ (f : Tagged). length (f .contents) < 65_536) fs → result ≡ flatMap field-bytes fs → Writes before (flatMap line fs) after r
+    (fs : List Field) → Every (λ (f : Field). length (f .contents) < 65_536) fs → result ≡ flatMap field-bytes fs → Writes before (flatMap line fs) after r
 
 -- "A refusal prints "refused 4 at 0"."
 abbrev pub Refusal : ℕ → ℕ → List ℕ → List ℕ → ℕ → Type 0

@@ -4,7 +4,8 @@ ghost use mathlib.Core.List.{[], _∷_, flatMap};
 ghost use Prim.Native.Nat.{_+_, _*_, _<_, _≤_};
 ghost use lib.ListN.{length};
 ghost use Rattle.completion.specs.Settle.{hex-digit, hex-byte, decimal, line, settle};
-ghost use Rattle.report.specs.Fields.{Puts, PutsSome, tagged, Writes};
+ghost use Rattle.completion.specs.Calls.{Writes};
+ghost use Rattle.report.specs.Fields.{Puts, PutsSome, tagged};
 ghost use Rattle.settle_text.specs.Text.{Lines, Refusal};
 
 // One hexadecimal digit.

@@ -7,7 +7,7 @@ use native.Mathlib.Omega.{arith}
 use lib.ListN.{length, drop}
 use Rattle.terms.specs.Term.{Term, size}
 use Rattle.terms.specs.Flat.{Starts}
-use Rattle.problem.specs.Problem.{ok, refused, _>>=_, Field, due, Equation, Problem, parse, only-equation}
+use Rattle.problem.specs.Problem.{ok, refused, _>>=_, ReadField, due, Equation, Problem, parse, only-equation}
 use Rattle.problem.specs.Parser.{field-at, ParsedAt}
 use Rattle.problem.proofs.Reading.{no-ok, ok-injective}
 use Rattle.problem.proofs.Laid.{Laid, parsed-laid}
@@ -79,7 +79,7 @@ module _ (l : List ℕ) where
         go [] i L = absurd (z (sym (A .number) ∙ ap length i))
         go (q ∷ []) i L = absurd (h (sym (A .number) ∙ ap length i))
         go (q ∷ q′ ∷ qs) i L =
-            let f : L .0 ≡ k = ap (λ (f : Field). f .end) (ok-injective (sym (L .1) ∙ d)) in
+            let f : L .0 ≡ k = ap (λ (f : ReadField). f .end) (ok-injective (sym (L .1) ∙ d)) in
             single-is P (A .is) ∙ bind-refused _ (rw i (ap (refused 12) (L .5 .4 .first-is ∙ f)))
 
 -- `sides` returns

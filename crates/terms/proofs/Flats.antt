@@ -7,12 +7,12 @@ use mathlib.Core.Option.{some}
 use Prim.Native.Nat.{ℕ, zero, suc, _+_, _-_, _≤_, _<_}
 use native.Mathlib.Omega.{arith}
 use lib.Dec.{ltb}
-use Rattle.terms.specs.Term.{Term, var, node, Terms, nil, cons, term-bytes, terms-bytes, size, variables, variables-of, subst-term, subst-terms, subterm-at, subterm-in, replace-at, replace-in}
-use Rattle.terms.specs.Scan.{arity, count, skip}
+use Rattle.terms.specs.Term.{Term, var, node, Terms, nil, cons, term-bytes, terms-bytes, size, variables, variables-of, subst-term, subst-terms, subterm-at, subterm-in, replace-at, replace-in, count}
+use Rattle.terms.specs.Scan.{arity, skip}
 use Rattle.terms.specs.Flat.{Wf, Wfs}
 use Rattle.terms.proofs.Subst.{Subst, In, VarsIn, count-subst}
 use Rattle.terms.proofs.Shape.{either-has}
-use Rattle.terms.proofs.Every.{Every}
+use Rattle.terms.specs.Base.{Every}
 use Rattle.terms.proofs.Positions.{Inherits, subterm-inherits, subterm-in-inherits}
 use Rattle.terms.proofs.Limits.{Made, MadeAll, made-vars, made-bytes}
 use Rattle.terms.proofs.Scans.{skip-bytes, skip-none}

@@ -12,8 +12,8 @@ use lib.Dec.{eqb}
 use lib.ListN.{length, getD, drop, drop-of-length-le}
 use lib.Seq.{drop-cons}
 use borrow.Author.Tests.{eq-eqb, ne-eqb}
-use Rattle.terms.specs.Term.{Term, var, node, Terms, nil, cons, term-bytes, terms-bytes, same, sames}
-use Rattle.terms.specs.Scan.{arity, count, owes}
+use Rattle.terms.specs.Term.{Term, var, node, Terms, nil, cons, term-bytes, terms-bytes, same, sames, count}
+use Rattle.terms.specs.Scan.{arity, owes}
 use Rattle.terms.specs.Flat.{Wf, Wfs, IsSame}
 use Rattle.terms.proofs.Scans.{owes-symbol, owes-other}
 use Rattle.terms.proofs.Shape.{Says, eqb-says, dec-agree, dec-map, eqb-dec}

@@ -12,8 +12,8 @@ use lib.ListN.{length, getD, drop, drop-of-length-le, List·getD-eq-default}
 use lib.Seq.{drop-cons}
 use borrow.Author.Tests.{lt-ltb, le-ltb, le-leb, lt-leb, ltb-true, ltb-false}
 use Rattle.terms.specs.Base.{if_then_else_}
-use Rattle.terms.specs.Term.{Term, var, node, Terms, nil, cons, term-bytes, terms-bytes, size, sizes}
-use Rattle.terms.specs.Scan.{arity, count, owes, skip, is-node, scan}
+use Rattle.terms.specs.Term.{Term, var, node, Terms, nil, cons, term-bytes, terms-bytes, size, sizes, count}
+use Rattle.terms.specs.Scan.{arity, owes, skip, is-node, scan}
 use Rattle.terms.specs.Flat.{Wf, Wfs}
 use Rattle.terms.specs.declared.Ends.the-variants.{At, Bad}
 

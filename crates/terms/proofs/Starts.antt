@@ -8,8 +8,8 @@ use native.Mathlib.Omega.{arith}
 use native.Mathlib.Nat.{zero-add}
 use lib.ListN.{length, getD, take, drop, length-drop}
 use lib.Seq.{take-all, drop-at}
-use Rattle.terms.specs.Term.{Term, var, node, Terms, nil, cons, term-bytes, terms-bytes, size, subterm-at}
-use Rattle.terms.specs.Scan.{count, owes, skip}
+use Rattle.terms.specs.Term.{Term, var, node, Terms, nil, cons, term-bytes, terms-bytes, size, subterm-at, count}
+use Rattle.terms.specs.Scan.{owes, skip}
 use Rattle.terms.specs.Flat.{Wf, Starts, StartAll}
 use Rattle.terms.proofs.Bytes.{length-bytes, around}
 use Rattle.terms.proofs.Scans.{owes-symbol}

@@ -5,17 +5,12 @@ use Prim.Native.Nat.{ℕ, zero, suc, _+_}
 use lib.Dec.{ltb, leb}
 use lib.ListN.{length, getD}
 use Rattle.terms.specs.Base.{if_then_else_}
-use Rattle.terms.specs.Term.{Terms, nil, cons}
 use Rattle.terms.specs.declared.Ends.{Ends}
 use Rattle.terms.specs.declared.Ends.the-variants.{At, Bad}
 
 -- A table has two bytes a symbol: its arity and its rank.
 abbrev pub arity : List ℕ → ℕ → ℕ
 arity tab f = getD tab (f + f) 0
-
-unfoldable pub count : Terms → ℕ
-count nil = 0
-count (cons t ts) = suc (count ts)
 
 -- how many subterms follow the byte b
 unfoldable pub owes : List ℕ → ℕ → ℕ

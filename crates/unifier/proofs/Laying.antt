@@ -9,8 +9,8 @@ use native.Mathlib.Omega.{arith}
 use native.Mathlib.Nat.{le-of-suc-le-suc}
 use lib.ListN.{length, getD, drop, length-append, drop-of-length-le}
 use lib.Seq.{drop-cons, drop-at}
-use Rattle.terms.specs.Term.{Term, var, node, Terms, nil, cons, size, sizes, term-bytes, terms-bytes, subterm-at, subterm-in}
-use Rattle.terms.specs.Scan.{owes, count}
+use Rattle.terms.specs.Term.{Term, var, node, Terms, nil, cons, size, sizes, term-bytes, terms-bytes, subterm-at, subterm-in, count}
+use Rattle.terms.specs.Scan.{owes}
 use Rattle.terms.specs.Flat.{Wf, Wfs}
 use Rattle.terms.proofs.Bytes.{length-bytes, length-bytes-all, around-in}
 use Rattle.terms.proofs.Flats.{unique, wf-subterm-in}

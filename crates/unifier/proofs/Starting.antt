@@ -9,8 +9,8 @@ use native.Mathlib.Decide.{decLt}
 use lib.ListN.{length, drop, set, length-drop}
 use lib.Seq.{drop-at, drop-cons, drop-drop}
 use mathlib.Core.Option.{some}
-use Rattle.terms.specs.Term.{Term, var, node, Terms, nil, cons, size, sizes, term-bytes, terms-bytes, subst-term, subterm-in}
-use Rattle.terms.specs.Scan.{skip, count}
+use Rattle.terms.specs.Term.{Term, var, node, Terms, nil, cons, size, sizes, term-bytes, terms-bytes, subst-term, subterm-in, count}
+use Rattle.terms.specs.Scan.{skip}
 use Rattle.terms.specs.Flat.{Wf, Wfs}
 use Rattle.terms.proofs.Scans.{owes-symbol}
 use Rattle.terms.proofs.Flats.{skip-term, wf-subterm-in}

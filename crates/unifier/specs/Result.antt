@@ -6,8 +6,8 @@ use mathlib.Core.Option.{none, some}
 use Prim.Native.Nat.{ℕ, _+_, _-_, _<_, _≤_}
 use lib.ListN.{length, drop}
 use Rattle.terms.specs.Base.{is-some}
-use Rattle.terms.specs.Term.{Term, Terms, term-bytes, terms-bytes, subterm-in}
-use Rattle.terms.specs.Scan.{skip, count}
+use Rattle.terms.specs.Term.{Term, Terms, term-bytes, terms-bytes, subterm-in, count}
+use Rattle.terms.specs.Scan.{skip}
 use Rattle.terms.specs.Flat.{Wf, Wfs}
 use Rattle.unify.specs.Unify.{mgu}
 use Rattle.classes.specs.Arena.{Classes, AllClosed}

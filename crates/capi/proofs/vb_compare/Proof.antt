@@ -1,30 +1,30 @@
--- `vb_compare`: the code of each answer is that of what `calls::compare` told. Assumes nothing.
--- Read first: specs/Codes (answer-code), calls/specs/Answers (told).
+-- `vb_compare`: the code of each answer is that of what `calls::compare` compared-told. Assumes nothing.
+-- Read first: specs/Codes (answer-code), calls/specs/Answers (compared-told).
 use mathlib.Core.Path.{ap, _∙_}
-use Rattle.calls.specs.Answers.{told}
+use Rattle.calls.specs.Answers.{compared-told}
 use Rattle.capi.specs.Codes.{answer-code}
 use borrow.Author.Needs.{needs}
 use Rattle.capi.proofs.vb_compare.Statement.{statement}
 use Rattle.capi.proofs.vb_compare.Tie as tie
 
 returns : tie.Need-returns
-unfolding told answer-code
+unfolding compared-told answer-code
 returns c = c .code .ensures ∙ ap answer-code (rw (c .before .enum-told .given .1) at (c .before .before .before .compare .ensures))
 
 returns-2 : tie.Need-returns-2
-unfolding told answer-code
+unfolding compared-told answer-code
 returns-2 c = c .code2 .ensures ∙ ap answer-code (rw (c .before .enum-told2 .given .1) at (c .before .before .before .compare .ensures))
 
 returns-3 : tie.Need-returns-3
-unfolding told answer-code
+unfolding compared-told answer-code
 returns-3 c = c .code3 .ensures ∙ ap answer-code (rw (c .before .enum-told3 .given .1) at (c .before .before .before .compare .ensures))
 
 returns-4 : tie.Need-returns-4
-unfolding told answer-code
+unfolding compared-told answer-code
 returns-4 c = c .code4 .ensures ∙ ap answer-code (rw (c .before .enum-told4 .given .1) at (c .before .before .before .compare .ensures))
 
 returns-5 : tie.Need-returns-5
-unfolding told answer-code
+unfolding compared-told answer-code
 returns-5 c = c .code5 .ensures ∙ ap answer-code (rw (c .before .before .number .given .1) at (c .before .before .before .before .compare .ensures))
 
 pub vb-compare-spec : {M : Type 1} → statement M

@@ -1,8 +1,8 @@
--- `vb_complete`: the code of each answer is that of what `complete::complete` told; the buffer is as that call leaves it; demand 3 follows from that
+-- `vb_complete`: the code of each answer is that of what `complete::complete` completed-told; the buffer is as that call leaves it; demand 3 follows from that
 -- call's (`code-delivers`). Assumes nothing.
--- Read first: specs/Codes (answer-code, CodeDelivers), complete/specs/Answer (told, counted, Delivery), proofs/Delivering.
+-- Read first: specs/Codes (answer-code, CodeDelivers), complete/specs/Answer (completed-told, counted, Delivery), proofs/Delivering.
 use mathlib.Core.Path.{ap, _∙_}
-use Rattle.complete.specs.Answer.{told}
+use Rattle.complete.specs.Answer.{completed-told}
 use Rattle.capi.specs.Codes.{answer-code}
 use Rattle.capi.proofs.Delivering.{code-delivers}
 use borrow.Author.Needs.{needs}
@@ -32,7 +32,7 @@ same-length : tie.Need-same-length
 same-length c = search needs
 
 returns : tie.Need-returns
-unfolding told answer-code
+unfolding completed-told answer-code
 returns c =
     let q = c .before .before .before .before .before .before .complete .ensures in
     let a = c .code .ensures ∙ ap answer-code (rw (c .before .before .n .given .1) at (q .0)) in
@@ -42,7 +42,7 @@ same-length-2 : tie.Need-same-length-2
 same-length-2 c = search needs
 
 returns-2 : tie.Need-returns-2
-unfolding told answer-code
+unfolding completed-told answer-code
 returns-2 c =
     let q = c .before .before .before .before .before .before .complete .ensures in
     let a = c .code2 .ensures ∙ ap answer-code (rw (c .before .before .number .given .1) at (q .0)) in

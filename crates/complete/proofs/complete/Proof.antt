@@ -1,5 +1,5 @@
 -- `complete`: a lemma for each return: short buffer, refused problem, written result; demand 3 follows from each (`delivers`). Assumes nothing.
--- Read first: specs/Answer (told, counted, Delivery), completion/specs/Calls (complete-call), proofs/Completing.
+-- Read first: specs/Answer (completed-told, counted, Delivery), completion/specs/Calls (complete-call), proofs/Completing.
 use Rattle.complete.proofs.Completing.{accepted-needs, answers-short, answers-refused, answers-written, delivers}
 use native.Mathlib.Omega.{arith}
 use borrow.Author.Needs.{needs}
