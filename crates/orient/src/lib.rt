@@ -1,8 +1,8 @@
 // Steps 4 and 5 of a turn: the taken pair's variables are counted, and its upper side becomes the left side of a new rule.
 ghost use mathlib.Core.List.{[], _∷_, _++_, List·Memᴰ};
-ghost use Prim.Native.Nat.{ℕ, _+_, _-_, _<_, _≤_};
-ghost use lib.ListN.{length, take, drop};
-ghost use Rattle.store.specs.Slots.{SlotRoom, SlotHolds, OnlySlot};
+ghost use Prim.Native.Nat.{ℕ, _<_, _≤_};
+ghost use lib.ListN.{length};
+ghost use Rattle.store.specs.Slots.{SlotRoom};
 ghost use Rattle.orient.specs.Oriented.{PutRenamed, RulePlaced};
 ghost use Rattle.orient.specs.Seen.{Seen, Counted};
 
@@ -40,16 +40,6 @@ pub fn variable_count(left: &[u8], right: &[u8]) -> u32
     u32::count_ones(seen)
 }
 
-// The bytes to n and those from n to e into slot k.
-fn put_parts(out: &[u8], n: usize, e: usize, rules: &mut [u8], lens: &mut [u8], k: usize)
-    requires { ⌜ SlotRoom (now rules) (now lens) k ⌝ }
-    requires { ⌜ (n ≤ e) × (e ≤ length (now out)) × (n ≤ 120) × (e ≤ n + 120) ⌝ }
-    ensures { λ _. ⌜ SlotHolds (now (rules .exit)) (now (lens .exit)) k (take (n - 0) (drop 0 (now (out .entry)))) (take (e - n) (drop n (now (out .entry)))) ⌝ }
-    ensures { λ _. ⌜ OnlySlot (now (rules .entry)) (now (lens .entry)) k (now (rules .exit)) (now (lens .exit)) ⌝ }
-{
-    store::put(rules, lens, k, &out[0..n], &out[n..e]);
-}
-
 // The pair, renamed, into slot k.
 fn put_renamed(left: &[u8], right: &[u8], rules: &mut [u8], lens: &mut [u8], k: usize)
     requires { ⌜ SlotRoom (now rules) (now lens) k ⌝ }
@@ -62,7 +52,7 @@ fn put_renamed(left: &[u8], right: &[u8], rules: &mut [u8], lens: &mut [u8], k: 
     store::paste(&mut out, 0, left);
     store::paste(&mut out, n, right);
     naming::rename_front(&mut out, e);
-    put_parts(&out, n, e, rules, lens, k);
+    store::put_parts(rules, lens, k, &out, n, e);
 }
 
 // The new rule of a taken pair into slot k: GOES_ON, or the number of the end.

@@ -26,6 +26,16 @@ pub fn put(bytes: &mut [u8], lens: &mut [u8], k: usize, left: &[u8], right: &[u8
     lens[2 * k + 1] = right.len() as u8;
 }
 
+// The bytes to n and those from n to e into slot k.
+pub fn put_parts(bytes: &mut [u8], lens: &mut [u8], k: usize, from: &[u8], n: usize, e: usize)
+    requires { ⌜ SlotRoom (now bytes) (now lens) k ⌝ }
+    requires { ⌜ (n ≤ e) × (e ≤ length (now from)) × (n ≤ 120) × (e ≤ n + 120) ⌝ }
+    ensures { λ _. ⌜ SlotHolds (now (bytes .exit)) (now (lens .exit)) k (take (n - 0) (drop 0 (now (from .entry)))) (take (e - n) (drop n (now (from .entry)))) ⌝ }
+    ensures { λ _. ⌜ OnlySlot (now (bytes .entry)) (now (lens .entry)) k (now (bytes .exit)) (now (lens .exit)) ⌝ }
+{
+    put(bytes, lens, k, &from[0..n], &from[n..e]);
+}
+
 // Another right side into slot k.
 pub fn put_right(bytes: &mut [u8], lens: &mut [u8], k: usize, right: &[u8])
     requires { ⌜ SlotRoom (now bytes) (now lens) k ⌝ }

@@ -11,9 +11,9 @@ use Rattle.orient.proofs.put_renamed.Statement.{statement}
 use Rattle.orient.proofs.put_renamed.Tie as tie
 use Rattle.orient.proofs.put_renamed.Reads as reads
 use Rattle.orient.proofs.put_renamed.Lts as lts
-use Rattle.orient.proofs.put_parts.Reads as put-parts-reads
 use Rattle.naming.proofs.rename_front.Reads as rename-front-reads
 use Rattle.store.proofs.paste.Reads as paste-reads
+use Rattle.store.proofs.put_parts.Reads as put-parts-reads
 
 rename-front-requires : tie.Need-rename-front-requires
 rename-front-requires c κs =
