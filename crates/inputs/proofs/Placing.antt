@@ -7,7 +7,7 @@ use Prim.Native.Nat.{ℕ, _+_, _-_, _≤_}
 use native.Mathlib.Omega.{arith}
 use native.Mathlib.Nat.{sub-zero}
 use lib.ListN.{length, drop, take, length-drop, length-take, length-append}
-use lib.Seq.{take-all, take-at, drop-at, take-add, drop-drop, take-length, length-take-le}
+use lib.Seq.{take-append-le, drop-append-le, take-at, drop-at, take-add, drop-drop, take-length, length-take-le}
 use Rattle.terms.specs.Term.{Pair, size, term-bytes, renamed}
 use Rattle.terms.proofs.Every.{every-append, every-in}
 use Rattle.terms.proofs.Bytes.{length-bytes}
@@ -23,41 +23,27 @@ use Rattle.problem.specs.Parser.{field-at}
 use Rattle.problem.proofs.Reading.{no-ok, ok-injective}
 use Rattle.inputs.specs.Inputs.{KnownBytes, PairAt, SideEnd, PutSides, PutEquation}
 
--- `put_run`
-pub run-holds : (b l : List ℕ) (k : ℕ) (run : List ℕ) (m : ℕ) → SlotHolds b l k (take (m - 0) run) (take (length run - m) (drop m run)) → SlotHolds b l k (take m run) (drop m run)
-run-holds b l k run m h =
-    subst₂ (λ x y. SlotHolds b l k x y) (ap (λ n. take n run) (sub-zero m)) (take-all (length run - m) (drop m run) (omega (arith, length-drop m run))) h
-
--- `put_renamed`: the run is copied to the front of a buffer
+-- `put_renamed`: the sides are copied to the front of a buffer
 module _ (s h h₁ : List ℕ) (c : h₁ ≡ take (length s) s ++ drop (length s) h) where
-  pub copied-front : take (length s - 0) h₁ ≡ s
-  copied-front =
-      ap₂ take (sub-zero (length s)) c ∙ ap (λ y. take (length s) (y ++ drop (length s) h)) (take-length s) ∙ take-at s (drop (length s) h) (length s) refl
+  copied-front : take (length s) h₁ ≡ s
+  copied-front = ap (take (length s)) (c ∙ ap (λ y. y ++ drop (length s) h) (take-length s)) ∙ take-at s (drop (length s) h) (length s) refl
 
-  pub names-few : KnownBytes s → length (collect [] (take (length s - 0) h₁)) ≤ 127
+  pub names-few : KnownBytes s → length (collect [] (take (length s) h₁)) ≤ 127
   names-few k = subst (λ y. length (collect [] y) ≤ 127) (sym copied-front) (omega (arith, few-names 16 s (λ b i. every-in k i)))
 
-  -- renamed there, it comes back as q
-  module _ (q : List ℕ) (e : q ≡ renamed-bytes (take (length s - 0) h₁)) where
-    q-is : q ≡ renamed-bytes s
-    q-is = e ∙ ap renamed-bytes copied-front
+  -- renamed there, the buffer is h₂
+  module _ (h₂ : List ℕ) (e : h₂ ≡ renamed-bytes (take (length s) h₁) ++ drop (length s) h₁) where
+    front-is : h₂ ≡ renamed-bytes s ++ drop (length s) h₁
+    front-is = e ∙ ap (λ y. renamed-bytes y ++ drop (length s) h₁) copied-front
 
-    pub renamed-front : take (length s - 0) (q ++ drop (length s - 0) h₁) ≡ renamed-bytes s
-    renamed-front =
-        ap₂ (λ n y. take n (y ++ drop (length s - 0) h₁)) (sub-zero (length s)) q-is ∙ take-at (renamed-bytes s) (drop (length s - 0) h₁) (length s) (length-renamed s)
-
-    pub renamed-long : length s ≤ length (q ++ drop (length s - 0) h₁)
-    renamed-long = omega (arith, length-append q (drop (length s - 0) h₁), ap length q-is, length-renamed s)
-
-    pub renamed-fits : (m : ℕ) → m ≤ length s → m ≤ 120 → length s ≤ m + 120 →
-        (m ≤ length (take (length s - 0) (q ++ drop (length s - 0) h₁))) × (m ≤ 120) × (length (take (length s - 0) (q ++ drop (length s - 0) h₁)) ≤ m + 120)
-    renamed-fits m i j k =
-        let n : length (take (length s - 0) (q ++ drop (length s - 0) h₁)) ≡ length s = ap length renamed-front ∙ length-renamed s in
-        (omega arith, j, omega arith)
-
-    pub renamed-holds : (b l : List ℕ) (k m : ℕ) → SlotHolds b l k (take m (take (length s - 0) (q ++ drop (length s - 0) h₁))) (drop m (take (length s - 0) (q ++ drop (length s - 0) h₁))) →
+    pub renamed-holds : (b l : List ℕ) (k m : ℕ) → m ≤ length s → SlotHolds b l k (take (m - 0) h₂) (take (length s - m) (drop m h₂)) →
         SlotHolds b l k (take m (renamed-bytes s)) (drop m (renamed-bytes s))
-    renamed-holds b l k m h = subst (λ y. SlotHolds b l k (take m y) (drop m y)) renamed-front h
+    renamed-holds b l k m i g =
+        let R : List ℕ = renamed-bytes s in
+        let n : m ≤ length R = omega (arith, length-renamed s) in
+        subst₂ (λ x y. SlotHolds b l k x y) (ap₂ take (sub-zero m) front-is ∙ take-append-le m R (drop (length s) h₁) n)
+        (ap (λ y. take (length s - m) (drop m y)) front-is ∙ ap (take (length s - m)) (drop-append-le m R (drop (length s) h₁) n)
+        ∙ take-at (drop m R) (drop (length s) h₁) (length s - m) (omega (arith, length-drop m R, length-renamed s))) g
 
 -- `put_sides`
 module _ (tab l : List ℕ) (at m e : ℕ) (a : SideEnd tab l at m) (b : SideEnd tab l m e) where

@@ -1,5 +1,5 @@
 // The input equations of a problem, each renamed as a pair, in slots.
-ghost use Prim.Native.Nat.{_+_, _-_, _*_, _<_, _≤_};
+ghost use Prim.Native.Nat.{_+_, _*_, _≤_};
 ghost use lib.ListN.{length, drop, take};
 ghost use Rattle.naming.specs.Names.{renamed-bytes};
 ghost use Rattle.store.specs.Slots.{SlotRoom, SlotHolds, OnlySlot};
@@ -24,17 +24,7 @@ fn side_end(problem: &[u8], table: &[u8], at: usize) -> usize
     i
 }
 
-// Two sides, the left one of m bytes, into slot k.
-fn put_run(run: &[u8], m: usize, bytes: &mut [u8], lens: &mut [u8], k: usize)
-    requires { ⌜ SlotRoom (now bytes) (now lens) k ⌝ }
-    requires { ⌜ (m ≤ length (now run)) × (m ≤ 120) × (length (now run) ≤ m + 120) ⌝ }
-    ensures { λ _. ⌜ SlotHolds (now (bytes .exit)) (now (lens .exit)) k (take m (now (run .entry))) (drop m (now (run .entry))) ⌝ }
-    ensures { λ _. ⌜ OnlySlot (now (bytes .entry)) (now (lens .entry)) k (now (bytes .exit)) (now (lens .exit)) ⌝ }
-{
-    store::put(bytes, lens, k, &run[0..m], &run[m..]);
-}
-
-// Two sides, renamed together, into slot k.
+// Two sides, the left one of m bytes, renamed together, into slot k.
 fn put_renamed(sides: &[u8], m: usize, bytes: &mut [u8], lens: &mut [u8], k: usize)
     requires { ⌜ SlotRoom (now bytes) (now lens) k ⌝ }
     requires { ⌜ (m ≤ length (now sides)) × (m ≤ 120) × (length (now sides) ≤ m + 120) × KnownBytes (now sides) ⌝ }
@@ -43,10 +33,9 @@ fn put_renamed(sides: &[u8], m: usize, bytes: &mut [u8], lens: &mut [u8], k: usi
 {
     let n = sides.len();
     let mut held = [0u8; 240];
-    let mut names = [0u8; 240];
     bytes::copy(sides, &mut held);
-    naming::rename(&mut held[0..n], &mut names);
-    put_run(&held[0..n], m, bytes, lens, k);
+    naming::rename_front(&mut held, n);
+    store::put_parts(bytes, lens, k, &held, m, n);
 }
 
 // The two sides that start at `at`, into slot k.
