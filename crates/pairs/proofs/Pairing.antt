@@ -38,16 +38,6 @@ module _ (l tab ends cs : List ℕ) (rd : Ready l tab ends cs) (low : VariablesL
     lows-variables none x j = absurd (List·Memᴰ·not-nil j)
     lows-variables (more {t = t} r s) x j = ⊎-elim (λ k. low-variables r x k) (λ k. lows-variables s x k) (List·Memᴰ·append-cases (variables t) j)
 
--- the two parts of what was renamed
-first-part : (q rest X Y : List ℕ) (e : ℕ) → q ≡ X ++ Y → length X ≡ e → take (e - 0) (drop 0 (q ++ rest)) ≡ X
-first-part q rest X Y e h n =
-    ap₂ (λ k m. take k (m ++ rest)) (sub-zero e) h ∙ ap (take e) (append-assoc X Y rest) ∙ take-at X (Y ++ rest) e n
-
-second-part : (q rest X Y : List ℕ) (e f : ℕ) → q ≡ X ++ Y → length X ≡ e → length Y ≡ f - e → take (f - e) (drop e (q ++ rest)) ≡ Y
-second-part q rest X Y e f h n m =
-    ap (λ z. take (f - e) (drop e (z ++ rest))) h ∙ ap (λ z. take (f - e) (drop e z)) (append-assoc X Y rest)
-    ∙ ap (take (f - e)) (drop-at X (Y ++ rest) e n) ∙ take-at Y rest (f - e) m
-
 -- L begins with S now
 abbrev Copied : List ℕ → List ℕ → List ℕ → Type 0
 Copied S L L′ = L′ ≡ take (length S) S ++ drop (length S) L
@@ -109,21 +99,22 @@ module _ (l tab ends cs : List ℕ) (rd : Ready l tab ends cs) (low : VariablesL
           ∙ ap₂ (λ k m. put k (term-bytes z ++ []) m) k (w₁ .bytes (cons y nil) one ∙ ap (λ k. put 0 k d) (append-nil (term-bytes y)))
           ∙ sym (put-append 0 (term-bytes y) (term-bytes z ++ []) d)
 
-      written : take (f - 0) (drop 0 d₂) ≡ terms-bytes (cons y (cons z nil))
+      written : take f d₂ ≡ terms-bytes (cons y (cons z nil))
       unfolding terms-bytes
       written =
           let k : length (term-bytes y ++ (term-bytes z ++ [])) ≡ f =
           length-append (term-bytes y) (term-bytes z ++ []) ∙ omega (arith, length-append (term-bytes z) [], length-bytes y, length-bytes z, second-end) in
-          ap₂ (λ j h. take j h) (sub-zero f ∙ sym k) whole ∙ put-reads (terms-bytes (cons y (cons z nil))) d (omega (arith, k, second-end, s .4, s .5))
+          ap₂ (λ j h. take j h) (sym k) whole ∙ put-reads (terms-bytes (cons y (cons z nil))) d (omega (arith, k, second-end, s .4, s .5))
 
       lows-both : Lows (cons y (cons z nil))
       unfolding Lows
       lows-both = (spells-lows one .0, spells-lows two)
 
-      pub pair-names : (m : ℕ) → 240 ≤ m → (length (take (f - 0) (drop 0 d₂)) ≤ m) × (length (collect [] (take (f - 0) (drop 0 d₂))) ≤ 127)
-      unfolding variables-of terms-bytes
-      pair-names m g = (
-        omega (arith, ap length written, length-append (term-bytes y) (term-bytes z ++ []), length-append (term-bytes z) [], length-bytes y, length-bytes z, s .4, s .5),
+      pub pair-names : (f ≤ length d₂) × (f ≤ 240) × (length (collect [] (take f d₂)) ≤ 127)
+      unfolding variables-of
+      pair-names = (
+        pair-within .1,
+        pair-within .2,
         omega (
           arith,
           ap (λ k. length (collect [] k)) written,
@@ -132,10 +123,14 @@ module _ (l tab ends cs : List ℕ) (rd : Ready l tab ends cs) (low : VariablesL
         ),
       )
 
-      module _ (q : List ℕ) (h : q ≡ renamed-bytes (take (f - 0) (drop 0 d₂))) where
-        halves : q ≡ term-bytes (renamed pair .left) ++ term-bytes (renamed pair .right)
+      -- the buffer with its front renamed
+      module _ (d₃ : List ℕ) (h : d₃ ≡ renamed-bytes (take f d₂) ++ drop f d₂) where
+        halves : d₃ ≡ term-bytes (renamed pair .left) ++ (term-bytes (renamed pair .right) ++ drop f d₂)
         unfolding terms-bytes Lows
-        halves = h ∙ ap renamed-bytes (written ∙ ap (λ k. term-bytes y ++ k) (append-nil (term-bytes z))) ∙ renamed-pair pair (lows-both .0) (lows-both .1 .0)
+        halves =
+            h ∙ ap (λ k. renamed-bytes k ++ drop f d₂) (written ∙ ap (λ k. term-bytes y ++ k) (append-nil (term-bytes z)))
+            ∙ ap (λ k. k ++ drop f d₂) (renamed-pair pair (lows-both .0) (lows-both .1 .0))
+            ∙ append-assoc (term-bytes (renamed pair .left)) (term-bytes (renamed pair .right)) (drop f d₂)
 
         left-length : length (term-bytes (renamed pair .left)) ≡ e
         left-length = length-bytes (renamed pair .left) ∙ renamed-left-size pair ∙ sym first-end
@@ -143,44 +138,45 @@ module _ (l tab ends cs : List ℕ) (rd : Ready l tab ends cs) (low : VariablesL
         right-length : length (term-bytes (renamed pair .right)) ≡ f - e
         right-length = length-bytes (renamed pair .right) ∙ renamed-right-size pair ∙ omega (arith, first-end, second-end)
 
-        abbrev rest : List ℕ
-        rest = drop (f - 0) (drop 0 d₂)
-
-        pub pair-out : (e ≤ length (q ++ rest)) × (f ≤ length (q ++ rest))
+        pub pair-out : (e ≤ length d₃) × (f ≤ length d₃)
         pair-out =
-            let k = length-append q rest in
-            let m : length q ≡ f = ap length halves ∙ length-append (term-bytes (renamed pair .left)) (term-bytes (renamed pair .right)) ∙ omega (arith, left-length, right-length, pair-within .0) in
-            (omega (arith, pair-within .0), omega arith)
+            let k = length-append (term-bytes (renamed pair .left)) (term-bytes (renamed pair .right) ++ drop f d₂) in
+            let m = length-append (term-bytes (renamed pair .right)) (drop f d₂) in
+            let n : f ≤ length d₃ = omega (arith, ap length halves, left-length, right-length, pair-within .0) in
+            (omega (arith, pair-within .0), n)
 
-        is-left : take (e - 0) (drop 0 (q ++ rest)) ≡ term-bytes (renamed pair .left)
-        is-left = first-part q rest (term-bytes (renamed pair .left)) (term-bytes (renamed pair .right)) e halves left-length
+        is-left : take (e - 0) d₃ ≡ term-bytes (renamed pair .left)
+        is-left = ap₂ take (sub-zero e) halves ∙ take-at (term-bytes (renamed pair .left)) (term-bytes (renamed pair .right) ++ drop f d₂) e left-length
 
-        is-right : take (f - e) (drop e (q ++ rest)) ≡ term-bytes (renamed pair .right)
-        is-right = second-part q rest (term-bytes (renamed pair .left)) (term-bytes (renamed pair .right)) e f halves left-length right-length
+        is-right : take (f - e) (drop e d₃) ≡ term-bytes (renamed pair .right)
+        is-right =
+            ap (λ k. take (f - e) (drop e k)) halves
+            ∙ ap (take (f - e)) (drop-at (term-bytes (renamed pair .left)) (term-bytes (renamed pair .right) ++ drop f d₂) e left-length)
+            ∙ take-at (term-bytes (renamed pair .right)) (drop f d₂) (f - e) right-length
 
-        pub left-fits : (m : ℕ) → 120 ≤ m → length (take (e - 0) (drop 0 (q ++ rest))) ≤ m
+        pub left-fits : (m : ℕ) → 120 ≤ m → length (take (e - 0) d₃) ≤ m
         left-fits m h = omega (arith, ap length is-left, left-length, pair-within .3)
 
-        pub right-fits : (m : ℕ) → 120 ≤ m → length (take (f - e) (drop e (q ++ rest))) ≤ m
+        pub right-fits : (m : ℕ) → 120 ≤ m → length (take (f - e) (drop e d₃)) ≤ m
         right-fits m h = omega (arith, ap length is-right, right-length, pair-within .4)
 
-        module _ (L R L′ R′ : List ℕ) (c₁ : Copied (take (e - 0) (drop 0 (q ++ rest))) L L′) (c₂ : Copied (take (f - e) (drop e (q ++ rest))) R R′) (m₁ : 120 ≤ length L) (m₂ : 120 ≤ length R) where
+        module _ (L R L′ R′ : List ℕ) (c₁ : Copied (take (e - 0) d₃) L L′) (c₂ : Copied (take (f - e) (drop e d₃)) R R′) (m₁ : 120 ≤ length L) (m₂ : 120 ≤ length R) where
           pair-bytes : (y′ z′ : Term) → y ≡ y′ → z ≡ z′ →
               (take (size y′) L′ ≡ term-bytes (renamed (record { left = y′; right = z′ }) .left)) × (take (size z′) R′ ≡ term-bytes (renamed (record { left = y′; right = z′ }) .right))
           pair-bytes y′ z′ p r =
               subst₂
               (λ u v. (take (size u) L′ ≡ term-bytes (renamed (record { left = u; right = v }) .left)) × (take (size v) R′ ≡ term-bytes (renamed (record { left = u; right = v }) .right)))
               p r (
-                copied (take (e - 0) (drop 0 (q ++ rest))) (term-bytes (renamed pair .left)) L L′ (size y) is-left c₁ (left-length ∙ first-end),
-                copied (take (f - e) (drop e (q ++ rest))) (term-bytes (renamed pair .right)) R R′ (size z) is-right c₂ (right-length ∙ omega (arith, first-end, second-end)),
+                copied (take (e - 0) d₃) (term-bytes (renamed pair .left)) L L′ (size y) is-left c₁ (left-length ∙ first-end),
+                copied (take (f - e) (drop e d₃)) (term-bytes (renamed pair .right)) R R′ (size z) is-right c₂ (right-length ∙ omega (arith, first-end, second-end)),
               )
 
           pub pair-put : PutPair (arena l tab ends) (at cs) a b L R L′ R′
           pair-put =
               record {
                 kept = record {
-                  left = copied-length (take (e - 0) (drop 0 (q ++ rest))) L L′ c₁ (left-fits (length L) m₁);
-                  right = copied-length (take (f - e) (drop e (q ++ rest))) R R′ c₂ (right-fits (length R) m₂);
+                  left = copied-length (take (e - 0) d₃) L L′ c₁ (left-fits (length L) m₁);
+                  right = copied-length (take (f - e) (drop e d₃)) R R′ c₂ (right-fits (length R) m₂);
                 };
                 bytes = λ y′ z′ p r. pair-bytes y′ z′ (spells-one (arena l tab ends) (s .2) p) (spells-one (arena l tab ends) (s .3) r);
               }

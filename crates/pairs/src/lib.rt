@@ -31,10 +31,9 @@ fn put_pair(
     ensures { λ r. ⌜ PutPair (arena (now (nodes .entry)) (now (table .entry)) (now (ends .entry))) (at (now (class .entry))) a b (now (left .entry)) (now (right .entry)) (now (left .exit)) (now (right .exit)) ⌝ }
 {
     let mut out = [0u8; 240];
-    let mut names = [0u8; 240];
     let e = unifier::write(nodes, table, ends, class, a, 1, &mut out, 0);
     let f = unifier::write(nodes, table, ends, class, b, 1, &mut out, e);
-    naming::rename(&mut out[0..f], &mut names);
+    naming::rename_front(&mut out, f);
     bytes::copy(&out[0..e], left);
     bytes::copy(&out[e..f], right);
 }
