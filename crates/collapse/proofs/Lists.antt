@@ -1,18 +1,15 @@
--- Lists kept in the front of an array: without the first element, with a number more; the six bytes of an origin. Assumes nothing.
+-- Lists kept in the front of an array: without the first element, with a number more. Assumes nothing.
 -- Read first: store/proofs/Patching (`front-more`), store/proofs/Slotting (`shift-end`).
-use mathlib.Core.Path.{_≡_, refl, ap, _∙_}
+use mathlib.Core.Path.{_≡_, ap, _∙_}
 use mathlib.Core.List.{List, [], _∷_, _++_}
-use Prim.Native.Nat.{ℕ, _+_, _-_, _/_, _%_, _<_, _≤_}
+use Prim.Native.Nat.{ℕ, _+_, _-_, _<_, _≤_}
 use native.Mathlib.Omega.{arith}
 use native.Mathlib.Numerals.{add-one}
 use lib.ListN.{length, drop, take, set, length-drop}
 use lib.Seq.{drop-at, take-append-le, take-suc-set}
 use Rattle.terms.proofs.Lists.{take-drop}
-use Rattle.terms.specs.Base.{number-bytes}
 use Rattle.redex.specs.Stored.{Layout}
 use Rattle.redex.proofs.Choosing.{layout-front}
-use Rattle.completion.specs.Turn.{removed-rule}
-use Rattle.completion.specs.Calls.{origin-bytes}
 
 -- the front without its first
 pub front-less : (k m : ℕ) (d d′ x y : List ℕ) → d′ ≡ drop k d ++ drop (length d - k) d → m + k ≤ length d → take (m + k) d ≡ x ++ y → length x ≡ k → take m d′ ≡ y
@@ -21,11 +18,6 @@ front-less k m d d′ x y e h f g =
     ap (take m) e
     ∙ take-append-le m (drop k d) (drop (length d - k) d) (omega (arith, length-drop k d))
     ∙ take-drop k m d ∙ ap (λ n. drop k (take n d)) c ∙ ap (drop k) f ∙ drop-at x y k g
-
--- the six bytes of an origin
-pub removed-bytes : (n : ℕ) → 2 ∷ (n / 256 % 256) ∷ (n % 256) ∷ 0 ∷ 0 ∷ 0 ∷ [] ≡ origin-bytes (removed-rule n)
-unfolding origin-bytes number-bytes
-removed-bytes n = refl
 
 -- a layout does not depend on the table
 pub any-table : (tab′ tab b l : List ℕ) (n : ℕ) → Layout tab b l n → Layout tab′ b l n

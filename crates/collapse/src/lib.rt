@@ -19,22 +19,12 @@ fn rewrites(rules: &[u8], lens: &[u8], i: usize, new: &[u8], sizes: &[u8], table
     normaliser::reducible(&rules[a..a + n], table, new, sizes, 1)
 }
 
-// The kind of a removed rule's origin.
-const REMOVED_RULE: u8 = 2;
-
 // The origin of a removed rule at place w.
 fn put_origin(origins: &mut [u8], w: usize, number: u16)
     requires { ⌜ 6 * (w + 1) ≤ length (now origins) ⌝ }
     ensures { λ _. ⌜ now (origins .exit) ≡ patched (6 * w) (origin-bytes (removed-rule number)) (now (origins .entry)) ⌝ }
 {
-    let e = [
-        REMOVED_RULE,
-        (number / 256 % 256) as u8,
-        (number % 256) as u8,
-        0,
-        0,
-        0,
-    ];
+    let e = origins::origin(origins::REMOVED_RULE, number, 0, 0);
     store::paste(origins, 6 * w, &e);
 }
 

@@ -2,13 +2,12 @@
 -- Read first: specs/State (Represents), specs/Steps (FirstState, numbered), store/proofs/Listing.
 use mathlib.Core.Path.{_≡_, refl, sym, ap, ap₂, _∙_, subst}
 use mathlib.Core.List.{List, [], _∷_, _++_, append-assoc, append-nil, map, flatMap}
-use Prim.Native.Nat.{ℕ, zero, suc, _+_, _-_, _*_, _/_, _%_, _<_, _≤_}
+use Prim.Native.Nat.{ℕ, zero, suc, _+_, _-_, _*_, _<_, _≤_}
 use native.Mathlib.Omega.{arith}
 use native.Mathlib.Nat.{sub-zero}
 use native.Mathlib.Numerals.{add-one}
 use lib.ListN.{length, getD, drop, take, length-map, List·getD-append}
 use lib.Seq.{length-take-le, getD-take, take-append-le, drop-append-le}
-use Rattle.terms.specs.Base.{number-bytes}
 use Rattle.terms.specs.Term.{Pair, renamed}
 use Rattle.redex.specs.Stored.{Layout, Stored}
 use Rattle.problem.specs.Problem.{Equation, Problem}
@@ -23,14 +22,6 @@ use Rattle.collapse.specs.Sifting.{origins-bytes}
 use Rattle.collapse.proofs.Lists.{any-table}
 use Rattle.engine.specs.State.{Whole, Represents}
 use Rattle.engine.specs.Steps.{numbered, FirstState}
-
--- `put_input`
-pub input-bytes : (n : ℕ) → n < 256 → 1 ∷ 0 ∷ n ∷ 0 ∷ 0 ∷ 0 ∷ [] ≡ origin-bytes (waiting-input n)
-unfolding origin-bytes number-bytes
-input-bytes n h =
-    let a : n / 256 ≡ 0 = native.Mathlib.Nat.div-eq-of-lt h in
-    let b : n % 256 ≡ n = native.Mathlib.Nat.mod-eq-of-lt h in
-    sym (ap₂ (λ x y. 1 ∷ (x % 256) ∷ y ∷ 0 ∷ 0 ∷ 0 ∷ []) a b)
 
 -- `number_inputs`
 numbered-more : (k n : ℕ) → numbered k (suc n) ≡ numbered k n ++ origin-bytes (waiting-input (k + n))

@@ -155,9 +155,6 @@ impl State {
     }
 }
 
-// The kind of a waiting input's origin.
-const WAITING_INPUT: u8 = 1;
-
 // The origins of the first n input equations, which are numbered from 1.
 fn number_inputs(origins: &mut [u8], n: usize)
     requires { ⌜ (6 * n ≤ length (now origins)) × (n ≤ 16) ⌝ }
@@ -174,7 +171,7 @@ fn put_input(origins: &mut [u8], i: usize)
     requires { ⌜ (6 * (i + 1) ≤ length (now origins)) × (i < 16) ⌝ }
     ensures { λ _. ⌜ now (origins .exit) ≡ patched (6 * i) (origin-bytes (waiting-input (i + 1))) (now (origins .entry)) ⌝ }
 {
-    let e = [WAITING_INPUT, 0, (i + 1) as u8, 0, 0, 0];
+    let e = origins::origin(origins::WAITING_INPUT, (i + 1) as u16, 0, 0);
     store::paste(origins, 6 * i, &e);
 }
 

@@ -1,5 +1,4 @@
 // The scan: the overlaps of the rules in order, then the input equations, up to the first pair with two different normal forms.
-mod origins;
 mod spots;
 
 ghost use Prim.Native.Nat.{_<_, _≤_};

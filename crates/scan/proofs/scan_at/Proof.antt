@@ -9,7 +9,7 @@ use Rattle.scan.proofs.scan_at.Tie as tie
 use Rattle.scan.proofs.scan_at.Reads as reads
 use Rattle.scan.proofs.scan_at.Lts as lts
 use Rattle.overlaps.proofs.overlap.Reads as overlap-reads
-use Rattle.scan.proofs.origins.origin.Reads as origin-reads
+use Rattle.origins.proofs.origin.Reads as origin-reads
 use Rattle.joining.proofs.join_pair.Reads as join-pair-reads
 use Rattle.joining.proofs.stopped.Reads as stopped-reads
 

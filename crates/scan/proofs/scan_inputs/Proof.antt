@@ -11,7 +11,7 @@ use Rattle.scan.proofs.scan_inputs.Statement.{statement}
 use Rattle.scan.proofs.scan_inputs.Tie as tie
 use Rattle.scan.proofs.scan_inputs.Reads as reads
 use Rattle.scan.proofs.scan_inputs.Lts as lts
-use Rattle.scan.proofs.origins.origin.Reads as origin-reads
+use Rattle.origins.proofs.origin.Reads as origin-reads
 use Rattle.joining.proofs.join_slot.Reads as join-slot-reads
 use Rattle.joining.proofs.stopped.Reads as stopped-reads
 

@@ -1,10 +1,14 @@
-// Where a pair came from, as an entry of the log has it.
+// Where a pair came from, in six bytes, as an entry of the log has it. Assumes of a position that it fits in one byte.
 ghost use mathlib.Core.Path.{_≡_};
 ghost use mathlib.Core.List.{_∷_, _++_};
 ghost use Prim.Native.Nat.{_<_};
 ghost use Rattle.terms.specs.Base.{number-bytes};
 
-// The kinds of the scan's origins.
+// The kinds: "1 waiting input, 2 waiting from a removed rule, 3 input at the scan, 4 overlap".
+pub const WAITING_INPUT: u8 = 1;
+
+pub const REMOVED_RULE: u8 = 2;
+
 pub const SCANNED_INPUT: u8 = 3;
 
 pub const OVERLAPPING: u8 = 4;

@@ -1,12 +1,12 @@
 -- `origin`: the six bytes are the definition's by computation. Assumes nothing.
--- Read first: `origin` in src/origins.rt, terms/specs/Base (number-bytes).
+-- Read first: `origin` in src/lib.rt, terms/specs/Base (number-bytes).
 use Rattle.terms.specs.Base.{number-bytes}
 use mathlib.Core.Path.{refl}
 use borrow.Author.Needs.{needs}
-use Rattle.scan.proofs.origins.origin.Statement.{statement}
-use Rattle.scan.proofs.origins.origin.Tie as tie
-use Rattle.scan.proofs.origins.origin.Reads as reads
-use Rattle.scan.proofs.origins.origin.Lts as lts
+use Rattle.origins.proofs.origin.Statement.{statement}
+use Rattle.origins.proofs.origin.Tie as tie
+use Rattle.origins.proofs.origin.Reads as reads
+use Rattle.origins.proofs.origin.Lts as lts
 
 returns : tie.Need-returns
 unfolding number-bytes
