@@ -1,5 +1,5 @@
 -- Field 14: two terms laid one behind the other and renamed as a pair. Assumes nothing.
--- Read first: specs/Fields (Puts, forms-bytes), naming/specs/Names (renamed-bytes), orient/proofs/Placing.
+-- Read first: specs/Fields (forms-bytes), fields/specs/Puts, naming/specs/Names (renamed-bytes), orient/proofs/Placing.
 use mathlib.Core.Path.{_≡_, sym, ap, subst₂, _∙_}
 use mathlib.Core.List.{List, [], _++_}
 use Prim.Native.Nat.{ℕ, _+_, _-_, _≤_}
@@ -12,7 +12,7 @@ use Rattle.store.proofs.Patching.{length-patched}
 use Rattle.naming.specs.Names.{collect, renamed-bytes}
 use Rattle.naming.proofs.Renaming.{length-renamed}
 use Rattle.orient.proofs.Placing.{both-sides}
-use Rattle.report.specs.Fields.{Puts, tagged}
+use Rattle.fields.specs.Puts.{Puts, tagged}
 
 module _ (left right p₀ p₁ p₂ : List ℕ) (room : length p₀ ≡ 240) (a : length left ≤ 120) (b : length right ≤ 120)
     (first : p₁ ≡ patched 0 left p₀) (second : p₂ ≡ patched (length left) right p₁) where

@@ -1,6 +1,4 @@
-pub mod Appending
-pub mod Numbering
-pub mod Putting
+pub mod RuleField
 pub mod Listing
 pub mod Forms
 pub mod Lowness

@@ -1,5 +1,5 @@
 -- Fields 12, one behind the other: what is still to put is the fields of the slots to come. Assumes nothing.
--- Read first: specs/Fields (slot-fields, PutsSome), proofs/Putting.
+-- Read first: specs/Fields (slot-fields), fields/specs/Puts (PutsSome), fields/proofs/Putting.
 use mathlib.Core.Path.{_≡_, refl, sym, ap, ap₂, _∙_}
 use mathlib.Core.List.{List, [], _++_, flatMap}
 use Prim.Native.Nat.{ℕ, zero, suc, _+_, _-_, _*_, _≤_, _<_}
@@ -8,9 +8,10 @@ use native.Mathlib.Nat.{sub-zero}
 use lib.ListN.{length, length-append}
 use Rattle.terms.specs.Base.{field-bytes}
 use Rattle.store.specs.Slots.{patched}
-use Rattle.report.specs.Fields.{PutsSome, slot-field, slot-fields}
-use Rattle.report.proofs.Appending.{patched-none, patched-behind}
-use Rattle.report.proofs.Putting.{puts-length}
+use Rattle.fields.specs.Puts.{PutsSome}
+use Rattle.report.specs.Fields.{slot-field, slot-fields}
+use Rattle.fields.proofs.Appending.{patched-none, patched-behind}
+use Rattle.fields.proofs.Putting.{puts-length}
 
 module _ (rules lens numbers : List ℕ) where
   pub fields-bytes : ℕ → ℕ → List ℕ

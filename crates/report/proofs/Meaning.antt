@@ -17,7 +17,8 @@ use Rattle.naming.proofs.Renaming.{Low}
 use Rattle.naming.proofs.Pairs.{wf-low, renamed-pair}
 use Rattle.completion.specs.Turn.{Finished}
 use Rattle.completion.specs.Calls.{pair-bytes, rule-field, entry-field, forms-field, result-fields, result-bytes, Writes}
-use Rattle.report.specs.Fields.{tagged, slot-bytes, slot-field, slot-fields, low, forms-bytes, all-bytes}
+use Rattle.fields.specs.Puts.{tagged}
+use Rattle.report.specs.Fields.{slot-bytes, slot-field, slot-fields, low, forms-bytes, all-bytes}
 use Rattle.terms.proofs.Lists.{flatMap-append, flatMap-map}
 use Rattle.report.proofs.Lowness.{term-low}
 use Rattle.report.specs.Report.{StateIn, EndIn}

@@ -1,5 +1,5 @@
 -- Field 14 is put or left out, and all fields one behind the other fill the front of the buffer, which has room for them. Assumes nothing.
--- Read first: specs/Fields (all-bytes, forms-bytes), completion/specs/Calls (Writes), proofs/Putting.
+-- Read first: specs/Fields (all-bytes, forms-bytes), completion/specs/Calls (Writes), fields/proofs/Putting.
 use mathlib.Core.Path.{_≡_, refl, sym, _∙_}
 use mathlib.Core.Bool.{true, false}
 use mathlib.Core.List.{List, [], _++_, flatMap}
@@ -10,9 +10,10 @@ use borrow.Author.Tests.{eq-eqb, ne-eqb}
 use Rattle.terms.specs.Base.{if_then_else_, number-bytes, Field, field-bytes}
 use Rattle.naming.specs.Names.{renamed-bytes}
 use Rattle.completion.specs.Calls.{written, Writes}
-use Rattle.report.specs.Fields.{Puts, PutsSome, tagged, low, forms-bytes, all-bytes}
-use Rattle.report.proofs.Appending.{patched-none, patched-front}
-use Rattle.report.proofs.Putting.{puts-length, puts-then, puts-counted}
+use Rattle.fields.specs.Puts.{Puts, PutsSome, tagged}
+use Rattle.report.specs.Fields.{low, forms-bytes, all-bytes}
+use Rattle.fields.proofs.Appending.{patched-none, patched-front}
+use Rattle.fields.proofs.Putting.{puts-length, puts-then, puts-counted}
 
 -- `put_forms_if`
 module _ (out left right : List ℕ) (at end : ℕ) where

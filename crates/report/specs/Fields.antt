@@ -1,5 +1,4 @@
--- The result's fields as they are written: bytes at a place of the buffer, and field 12 from a rule's slot. Assumes nothing.
-use mathlib.Core.Path.{_≡_}
+-- The result's fields as they are written: field 12 from a rule's slot, field 14 from two terms. Assumes nothing.
 use mathlib.Core.Bool.{Bool, true, _&&_}
 use mathlib.Core.List.{List, [], _∷_, _++_, flatMap}
 use Prim.Native.Nat.{ℕ, zero, suc, _+_, _*_, _≤_}
@@ -8,22 +7,7 @@ use lib.ListN.{length, getD, take, drop}
 use Rattle.terms.specs.Base.{if_then_else_, number-bytes, Field, field-bytes}
 use Rattle.redex.specs.Stored.{Layout}
 use Rattle.naming.specs.Names.{renamed-bytes}
-use Rattle.completion.specs.Calls.{written}
-use Rattle.store.specs.Slots.{patched}
-
--- the n bytes ys stand at the place `at`, all else is as it was, and r is the place behind them
-pub record Puts (before : List ℕ) (at n : ℕ) (ys after : List ℕ) (r : ℕ) : Type 0 where
-  pub bytes : after ≡ patched at ys before
-  pub counted : length ys ≡ n
-  pub next : r ≡ at + n
-
--- the same of k fields, each of at most `most` bytes
-pub record PutsSome (most : ℕ) (before : List ℕ) (at k : ℕ) (ys after : List ℕ) (r : ℕ) : Type 0 where
-  pub puts : Puts before at (length ys) ys after r
-  pub room : r ≤ at + most * k
-
-abbrev pub tagged : ℕ → List ℕ → Field
-tagged tag contents = record { tag = tag; contents = contents }
+use Rattle.fields.specs.Puts.{tagged}
 
 -- the two sides in slot k
 unfoldable pub slot-bytes : List ℕ → List ℕ → ℕ → List ℕ

@@ -1,12 +1,13 @@
-// The result's bytes: fields put one behind the other into a lent buffer.
+// The result's bytes: its fields, one behind the other.
 ghost use mathlib.Core.Path.{_≡_};
-ghost use mathlib.Core.List.{[], _∷_, _++_, flatMap};
+ghost use mathlib.Core.List.{[], _++_, flatMap};
 ghost use Prim.Native.Nat.{_+_, _*_, _<_, _≤_};
-ghost use lib.ListN.{length, take, drop};
-ghost use Rattle.terms.specs.Base.{number-bytes, field-bytes};
+ghost use lib.ListN.{length};
+ghost use Rattle.terms.specs.Base.{field-bytes};
 ghost use Rattle.redex.specs.Stored.{Layout};
 ghost use Rattle.naming.specs.Names.{collect, renamed-bytes};
-ghost use Rattle.report.specs.Fields.{Puts, PutsSome, Lent, tagged, slot-field, slot-fields, low, forms-bytes};
+ghost use Rattle.fields.specs.Puts.{Puts, PutsSome, tagged};
+ghost use Rattle.report.specs.Fields.{Lent, slot-field, slot-fields, low, forms-bytes};
 ghost use Rattle.report.specs.Report.{Reports, OfState};
 
 // The tags of the result's fields. Those of the log, 0x13, stand in the log.
@@ -17,58 +18,6 @@ const UNITS: u8 = 0x11;
 const RULE: u8 = 0x12;
 
 const FORMS: u8 = 0x14;
-
-// A number in so many bytes, high byte first: the place behind it.
-fn put_number(out: &mut [u8], at: usize, width: usize, n: u32) -> usize
-    requires { ⌜ at + width ≤ length (now out) ⌝ }
-    ensures { λ r. ⌜ Puts (now (out .entry)) at width (number-bytes width n) (now (out .exit)) r ⌝ }
-{
-    let mut left = width;
-    let mut m = n;
-    while left > 0 {
-        left -= 1;
-        out[at + left] = (m % 256) as u8;
-        m /= 256;
-    }
-    at + width
-}
-
-// A field's tag and the length of its contents.
-fn put_head(out: &mut [u8], at: usize, tag: u8, len: usize) -> usize
-    requires { ⌜ (at + 3 ≤ length (now out)) × (len < 65536) ⌝ }
-    ensures { λ r. ⌜ Puts (now (out .entry)) at 3 (tag ∷ number-bytes 2 len) (now (out .exit)) r ⌝ }
-{
-    out[at] = tag;
-    put_number(out, at + 1, 2, len as u32)
-}
-
-pub fn put_field(out: &mut [u8], at: usize, tag: u8, contents: &[u8]) -> usize
-    requires { ⌜ (at + 3 + length (now contents) ≤ length (now out)) × (length (now contents) < 65536) ⌝ }
-    ensures { λ r. ⌜ Puts (now (out .entry)) at (3 + length (now (contents .entry))) (field-bytes (tagged tag (now (contents .entry)))) (now (out .exit)) r ⌝ }
-{
-    let a = put_head(out, at, tag, contents.len());
-    store::paste(out, a, contents);
-    a + contents.len()
-}
-
-// A field that holds a number.
-fn put_number_field(out: &mut [u8], at: usize, tag: u8, width: usize, n: u32) -> usize
-    requires { ⌜ (at + 3 + width ≤ length (now out)) × (width < 65536) ⌝ }
-    ensures { λ r. ⌜ Puts (now (out .entry)) at (3 + width) (field-bytes (tagged tag (number-bytes width n))) (now (out .exit)) r ⌝ }
-{
-    let a = put_head(out, at, tag, width);
-    put_number(out, a, width, n)
-}
-
-// n bytes of `from`, those from a on.
-fn put_part(out: &mut [u8], at: usize, from: &[u8], a: usize, n: usize) -> usize
-    requires { ⌜ (at + n ≤ length (now out)) × (a + n ≤ length (now from)) ⌝ }
-    ensures { λ r. ⌜ Puts (now (out .entry)) at n (take n (drop a (now (from .entry)))) (now (out .exit)) r ⌝ }
-{
-    let e = a + n;
-    store::paste(out, at, &from[a..e]);
-    at + n
-}
 
 // Field 12 of the rule in slot k.
 fn put_rule(
@@ -85,10 +34,10 @@ fn put_rule(
 {
     let n = terms::wide(lens[2 * k]);
     let m = terms::wide(lens[2 * k + 1]);
-    let a = put_head(out, at, RULE, 2 + n + m);
-    let b = put_number(out, a, 2, numbers[k] as u32);
-    let c = put_part(out, b, rules, 240 * k, n);
-    put_part(out, c, rules, 240 * k + 120, m)
+    let a = fields::put_head(out, at, RULE, 2 + n + m);
+    let b = fields::put_number(out, a, 2, numbers[k] as u32);
+    let c = fields::put_part(out, b, rules, 240 * k, n);
+    fields::put_part(out, c, rules, 240 * k + 120, m)
 }
 
 // Field 12, once a rule.
@@ -125,7 +74,7 @@ fn put_forms(out: &mut [u8], at: usize, left: &[u8], right: &[u8]) -> usize
     store::paste(&mut pair, 0, left);
     store::paste(&mut pair, n, right);
     naming::rename_front(&mut pair, e);
-    put_field(out, at, FORMS, &pair[0..e])
+    fields::put_field(out, at, FORMS, &pair[0..e])
 }
 
 // Whether every byte is below 160: that of a symbol or of a variable below 32.
@@ -177,10 +126,10 @@ pub fn report(
     requires { ⌜ Lent (now rules) (now lens) (now numbers) count (now log) entries (now left) (now right) ⌝ }
     ensures { λ r. ⌜ Reports end units (now (rules .entry)) (now (lens .entry)) (now (numbers .entry)) count (now (log .entry)) entries (now (left .entry)) (now (right .entry)) (now (out .entry)) (now (out .exit)) r ⌝ }
 {
-    let a = put_number_field(out, 0, END, 1, end as u32);
-    let b = put_number_field(out, a, UNITS, 4, units);
+    let a = fields::put_number_field(out, 0, END, 1, end as u32);
+    let b = fields::put_number_field(out, a, UNITS, 4, units);
     let c = put_rules(out, b, rules, lens, numbers, count);
-    let d = put_part(out, c, log, 0, 11 * entries);
+    let d = fields::put_part(out, c, log, 0, 11 * entries);
     put_forms_if(out, d, end, left, right)
 }
 

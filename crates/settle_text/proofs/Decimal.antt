@@ -1,6 +1,6 @@
 -- Numbers in decimal: the last digit behind those of a tenth, how many digits there are, and the loops of `digits` and `put_decimal`. Assumes
 -- nothing.
--- Read first: completion/specs/Settle (decimal), report/specs/Fields (Puts), report/proofs/Appending.
+-- Read first: completion/specs/Settle (decimal), fields/specs/Puts, fields/proofs/Appending.
 use mathlib.Core.Path.{_≡_, refl, sym, ap, _∙_}
 use mathlib.Core.Bool.{Bool, true, false}
 use mathlib.Core.List.{List, [], _∷_, _++_}
@@ -13,8 +13,8 @@ use borrow.Author.Tests.{lt-ltb, le-ltb, ltb-false}
 use Rattle.terms.specs.Base.{if_then_else_}
 use Rattle.completion.specs.Settle.{decimal-in, decimal}
 use Rattle.store.specs.Slots.{patched}
-use Rattle.report.specs.Fields.{Puts}
-use Rattle.report.proofs.Appending.{patched-before, patched-one}
+use Rattle.fields.specs.Puts.{Puts}
+use Rattle.fields.proofs.Appending.{patched-before, patched-one}
 
 in-small : (k n : ℕ) → n < 10 → decimal-in (suc k) n ≡ (48 + n) ∷ []
 unfolding decimal-in if_then_else_

@@ -1,5 +1,5 @@
 -- Bytes in hexadecimal, and from them a field's line and the text of a refusal, part behind part. Assumes nothing.
--- Read first: completion/specs/Settle (hex-byte, line), report/specs/Fields (Puts), report/proofs/Putting, proofs/Decimal.
+-- Read first: completion/specs/Settle (hex-byte, line), fields/specs/Puts, fields/proofs/Putting, proofs/Decimal.
 use mathlib.Core.Path.{_≡_, refl, sym, ap, ap₂, _∙_}
 use mathlib.Core.List.{List, [], _∷_, _++_, flatMap}
 use Prim.Native.Nat.{ℕ, _+_, _*_, _/_, _%_, _≤_, _<_}
@@ -11,9 +11,9 @@ use borrow.Author.Tests.{lt-ltb, le-ltb}
 use Rattle.terms.specs.Base.{if_then_else_}
 use Rattle.completion.specs.Settle.{ascii, hex-digit, hex-byte, decimal, line}
 use Rattle.store.specs.Slots.{patched}
-use Rattle.report.specs.Fields.{Puts, PutsSome, tagged}
-use Rattle.report.proofs.Appending.{patched-none, patched-behind, patched-front}
-use Rattle.report.proofs.Putting.{puts-length, puts-then, puts-counted}
+use Rattle.fields.specs.Puts.{Puts, PutsSome, tagged}
+use Rattle.fields.proofs.Appending.{patched-none, patched-behind, patched-front}
+use Rattle.fields.proofs.Putting.{puts-length, puts-then, puts-counted}
 use Rattle.settle_text.specs.Text.{Refusal}
 use Rattle.settle_text.proofs.Decimal.{few-digits, twenty-digits}
 

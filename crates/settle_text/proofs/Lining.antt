@@ -1,6 +1,6 @@
 -- A line a field, from the bytes of the fields: if the result is fields, the bytes from i on are the fields whose lines are to print. Assumes
 -- nothing.
--- Read first: specs/Text (Lines), completion/specs/Settle (line), terms/specs/Base (field-bytes), report/proofs/Appending.
+-- Read first: specs/Text (Lines), completion/specs/Settle (line), terms/specs/Base (field-bytes), fields/proofs/Appending.
 use mathlib.Core.Path.{_≡_, refl, sym, ap, ap₂, _∙_}
 use mathlib.Core.List.{List, [], _∷_, _++_, flatMap}
 use Prim.Native.Nat.{ℕ, _+_, _-_, _*_, _/_, _%_, _≤_, _<_}
@@ -10,9 +10,9 @@ use lib.Seq.{take-at, drop-at, getD-drop, drop-drop, length-take-le}
 use Rattle.terms.specs.Base.{number-bytes, Field, field-bytes, Every, of-cons}
 use Rattle.completion.specs.Settle.{line}
 use Rattle.store.specs.Slots.{patched}
-use Rattle.report.specs.Fields.{PutsSome, tagged}
-use Rattle.report.proofs.Appending.{patched-none, patched-behind, patched-front}
-use Rattle.report.proofs.Putting.{puts-length}
+use Rattle.fields.specs.Puts.{PutsSome, tagged}
+use Rattle.fields.proofs.Appending.{patched-none, patched-behind, patched-front}
+use Rattle.fields.proofs.Putting.{puts-length}
 use Rattle.settle_text.specs.Text.{Lines}
 
 abbrev Short : List Field → Type 0

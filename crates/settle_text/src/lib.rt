@@ -5,7 +5,7 @@ ghost use Prim.Native.Nat.{_+_, _*_, _<_, _≤_};
 ghost use lib.ListN.{length};
 ghost use Rattle.completion.specs.Settle.{hex-digit, hex-byte, decimal, line, settle};
 ghost use Rattle.completion.specs.Calls.{Writes};
-ghost use Rattle.report.specs.Fields.{Puts, PutsSome, tagged};
+ghost use Rattle.fields.specs.Puts.{Puts, PutsSome, tagged};
 ghost use Rattle.settle_text.specs.Text.{Lines, Refusal};
 
 // One hexadecimal digit.

@@ -1,5 +1,5 @@
 -- `put_forms`: the two terms laid one behind the other and renamed as a pair are the contents of field 14, by `puts-forms`. Assumes nothing.
--- Read first: specs/Fields (Puts), proofs/Forms.
+-- Read first: fields/specs/Puts, proofs/Forms.
 use mathlib.Core.Path.{refl}
 use Rattle.report.proofs.Forms.{laid-ready, puts-forms}
 use borrow.Author.Needs.{needs}
@@ -7,7 +7,7 @@ use Rattle.report.proofs.put_forms.Statement.{statement}
 use Rattle.report.proofs.put_forms.Tie as tie
 use Rattle.report.proofs.put_forms.Reads as reads
 use Rattle.report.proofs.put_forms.Lts as lts
-use Rattle.report.proofs.put_field.Reads as put-field-reads
+use Rattle.fields.proofs.put_field.Reads as put-field-reads
 use Rattle.naming.proofs.rename_front.Reads as rename-front-reads
 use Rattle.store.proofs.paste.Reads as paste-reads
 

@@ -1,5 +1,5 @@
 -- `put_forms_if`: another end or bytes of no term put nothing; else low bytes have few names, so `put_forms` may be called. Assumes nothing.
--- Read first: specs/Fields (forms-bytes, PutsSome), proofs/Whole, proofs/Lowness.
+-- Read first: specs/Fields (forms-bytes), fields/specs/Puts (PutsSome), proofs/Whole, proofs/Lowness.
 use Rattle.report.proofs.Whole.{forms-put, forms-none, left-high, right-high}
 use Rattle.report.proofs.Lowness.{low-names, is-low, is-high}
 use borrow.Author.Needs.{needs}

@@ -1,15 +1,15 @@
 -- `put_rule`: head, number and the two sides of slot k are field 12, of at most 245 bytes, by `puts-rule`. Assumes nothing.
--- Read first: specs/Fields (slot-field, PutsSome), proofs/Putting.
+-- Read first: specs/Fields (slot-field), fields/specs/Puts (PutsSome), proofs/RuleField.
 use native.Mathlib.Omega.{arith}
-use Rattle.report.proofs.Putting.{slot-short, puts-rule}
+use Rattle.report.proofs.RuleField.{slot-short, puts-rule}
 use borrow.Author.Needs.{needs}
 use Rattle.report.proofs.put_rule.Statement.{statement}
 use Rattle.report.proofs.put_rule.Tie as tie
 use Rattle.report.proofs.put_rule.Reads as reads
 use Rattle.report.proofs.put_rule.Lts as lts
-use Rattle.report.proofs.put_head.Reads as put-head-reads
-use Rattle.report.proofs.put_number.Reads as put-number-reads
-use Rattle.report.proofs.put_part.Reads as put-part-reads
+use Rattle.fields.proofs.put_head.Reads as put-head-reads
+use Rattle.fields.proofs.put_number.Reads as put-number-reads
+use Rattle.fields.proofs.put_part.Reads as put-part-reads
 use Rattle.terms.proofs.wide.Reads as wide-reads
 
 cast-put-number : tie.Need-cast-put-number

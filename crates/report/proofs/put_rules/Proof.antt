@@ -1,5 +1,5 @@
 -- `put_rules`: the invariant is that the fields of the slots from i on, put at a, give the whole list; count - i falls. Assumes nothing.
--- Read first: specs/Fields (slot-fields, PutsSome), proofs/Listing (Listing).
+-- Read first: specs/Fields (slot-fields), fields/specs/Puts (PutsSome), proofs/Listing (Listing).
 use Prim.Native.Nat.{_-_}
 use Rattle.redex.proofs.Choosing.{layout-below}
 use Rattle.report.proofs.Listing.{Listing, listing-start, listing-more, listing-end}

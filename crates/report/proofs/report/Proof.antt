@@ -9,8 +9,8 @@ use Rattle.report.proofs.report.Tie as tie
 use Rattle.report.proofs.report.Reads as reads
 use Rattle.report.proofs.report.Lts as lts
 use Rattle.report.proofs.put_forms_if.Reads as put-forms-if-reads
-use Rattle.report.proofs.put_number_field.Reads as put-number-field-reads
-use Rattle.report.proofs.put_part.Reads as put-part-reads
+use Rattle.fields.proofs.put_number_field.Reads as put-number-field-reads
+use Rattle.fields.proofs.put_part.Reads as put-part-reads
 use Rattle.report.proofs.put_rules.Reads as put-rules-reads
 
 returns : tie.Need-returns

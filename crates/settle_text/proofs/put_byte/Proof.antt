@@ -1,6 +1,6 @@
 -- `put_byte`: a byte that is set is a byte that is put, by `puts-byte`. Assumes nothing.
--- Read first: report/specs/Fields (Puts), proofs/Hex.
-use Rattle.report.proofs.Putting.{puts-byte}
+-- Read first: fields/specs/Puts, proofs/Hex.
+use Rattle.fields.proofs.Putting.{puts-byte}
 use borrow.Author.Needs.{needs}
 use Rattle.settle_text.proofs.put_byte.Statement.{statement}
 use Rattle.settle_text.proofs.put_byte.Tie as tie

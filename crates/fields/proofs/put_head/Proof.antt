@@ -1,14 +1,14 @@
 -- `put_head`: one byte, then a number of two bytes, is a field's head, by `puts-head`. Assumes nothing.
--- Read first: specs/Fields (Puts), proofs/Putting.
+-- Read first: specs/Puts, proofs/Putting.
 use mathlib.Core.Path.{_∙_}
-use Rattle.report.proofs.Putting.{puts-head, puts-length}
+use Rattle.fields.proofs.Putting.{puts-head, puts-length}
 use lib.ListN.{length-set}
 use borrow.Author.Needs.{needs}
-use Rattle.report.proofs.put_head.Statement.{statement}
-use Rattle.report.proofs.put_head.Tie as tie
-use Rattle.report.proofs.put_head.Reads as reads
-use Rattle.report.proofs.put_head.Lts as lts
-use Rattle.report.proofs.put_number.Reads as put-number-reads
+use Rattle.fields.proofs.put_head.Statement.{statement}
+use Rattle.fields.proofs.put_head.Tie as tie
+use Rattle.fields.proofs.put_head.Reads as reads
+use Rattle.fields.proofs.put_head.Lts as lts
+use Rattle.fields.proofs.put_number.Reads as put-number-reads
 
 put-number-requires : tie.Need-put-number-requires
 put-number-requires c κs = simp length-set (search needs)

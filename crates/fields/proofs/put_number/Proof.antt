@@ -1,11 +1,11 @@
 -- `put_number`: the invariant is that the rest m of the number, put in the `left` bytes still free, gives the whole; `left` falls. Assumes nothing.
--- Read first: specs/Fields (Puts), proofs/Numbering (Numbering).
-use Rattle.report.proofs.Numbering.{Numbering, numbering-start, numbering-more, numbering-end}
+-- Read first: specs/Puts, proofs/Numbering (Numbering).
+use Rattle.fields.proofs.Numbering.{Numbering, numbering-start, numbering-more, numbering-end}
 use borrow.Author.Needs.{needs}
-use Rattle.report.proofs.put_number.Statement.{statement}
-use Rattle.report.proofs.put_number.Tie as tie
-use Rattle.report.proofs.put_number.Reads as reads
-use Rattle.report.proofs.put_number.Lts as lts
+use Rattle.fields.proofs.put_number.Statement.{statement}
+use Rattle.fields.proofs.put_number.Tie as tie
+use Rattle.fields.proofs.put_number.Reads as reads
+use Rattle.fields.proofs.put_number.Lts as lts
 
 abbrev Inv-loop : tie.InvT-loop
 Inv-loop out₀ at width n left₀ m₀ out left m = Numbering out₀ at width n out left m

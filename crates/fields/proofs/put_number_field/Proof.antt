@@ -1,13 +1,13 @@
 -- `put_number_field`: a head and a number behind it are the field's bytes, by `puts-field`. Assumes nothing.
--- Read first: specs/Fields (Puts, tagged), terms/specs/Base (field-bytes), proofs/Putting.
-use Rattle.report.proofs.Putting.{puts-field}
+-- Read first: specs/Puts, terms/specs/Base (field-bytes), proofs/Putting.
+use Rattle.fields.proofs.Putting.{puts-field}
 use borrow.Author.Needs.{needs}
-use Rattle.report.proofs.put_number_field.Statement.{statement}
-use Rattle.report.proofs.put_number_field.Tie as tie
-use Rattle.report.proofs.put_number_field.Reads as reads
-use Rattle.report.proofs.put_number_field.Lts as lts
-use Rattle.report.proofs.put_head.Reads as put-head-reads
-use Rattle.report.proofs.put_number.Reads as put-number-reads
+use Rattle.fields.proofs.put_number_field.Statement.{statement}
+use Rattle.fields.proofs.put_number_field.Tie as tie
+use Rattle.fields.proofs.put_number_field.Reads as reads
+use Rattle.fields.proofs.put_number_field.Lts as lts
+use Rattle.fields.proofs.put_head.Reads as put-head-reads
+use Rattle.fields.proofs.put_number.Reads as put-number-reads
 
 returns : tie.Need-returns
 returns c = puts-field _ _ _ _ _ _ _ _ _ (c .before .before .before .before .before .before .before .before .before .pre .0) (c .before .before .before .before .before .before .put-head .ensures) (c .before .before .put-number .ensures)

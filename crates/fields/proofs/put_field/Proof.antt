@@ -1,13 +1,13 @@
 -- `put_field`: a head and the contents pasted behind it are the field's bytes, by `puts-field`. Assumes nothing.
--- Read first: specs/Fields (Puts, tagged), terms/specs/Base (field-bytes), proofs/Putting.
+-- Read first: specs/Puts, terms/specs/Base (field-bytes), proofs/Putting.
 use mathlib.Core.Path.{refl}
-use Rattle.report.proofs.Putting.{puts-field, puts-pasted}
+use Rattle.fields.proofs.Putting.{puts-field, puts-pasted}
 use borrow.Author.Needs.{needs}
-use Rattle.report.proofs.put_field.Statement.{statement}
-use Rattle.report.proofs.put_field.Tie as tie
-use Rattle.report.proofs.put_field.Reads as reads
-use Rattle.report.proofs.put_field.Lts as lts
-use Rattle.report.proofs.put_head.Reads as put-head-reads
+use Rattle.fields.proofs.put_field.Statement.{statement}
+use Rattle.fields.proofs.put_field.Tie as tie
+use Rattle.fields.proofs.put_field.Reads as reads
+use Rattle.fields.proofs.put_field.Lts as lts
+use Rattle.fields.proofs.put_head.Reads as put-head-reads
 use Rattle.store.proofs.paste.Reads as paste-reads
 
 returns : tie.Need-returns

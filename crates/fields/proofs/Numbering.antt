@@ -1,5 +1,5 @@
 -- A number's bytes put from the last to the first: what is still to put is the rest of the number in the bytes left. Assumes nothing.
--- Read first: terms/specs/Base (number-bytes), specs/Fields (Puts), proofs/Appending.
+-- Read first: terms/specs/Base (number-bytes), specs/Puts, proofs/Appending.
 use mathlib.Core.Path.{_≡_, refl, sym, ap, _∙_}
 use mathlib.Core.List.{List, [], _∷_}
 use Prim.Native.Nat.{ℕ, suc, _+_, _-_, _/_, _%_, _≤_, _<_}
@@ -8,8 +8,8 @@ use lib.ListN.{length, set, length-set}
 use Rattle.terms.specs.Base.{number-bytes}
 use Rattle.terms.proofs.Limits.{length-number-bytes}
 use Rattle.store.specs.Slots.{patched}
-use Rattle.report.specs.Fields.{Puts}
-use Rattle.report.proofs.Appending.{patched-none, patched-before, patched-one}
+use Rattle.fields.specs.Puts.{Puts}
+use Rattle.fields.proofs.Appending.{patched-none, patched-before, patched-one}
 
 -- what is still to put is the number m in so many bytes as are left
 pub record Numbering (out₀ : List ℕ) (at width n : ℕ) (out : List ℕ) (left m : ℕ) : Type 0 where

@@ -1,11 +1,11 @@
 -- `put_part`: the n bytes from a on are what was pasted, by `puts-part`. Assumes nothing.
--- Read first: specs/Fields (Puts), proofs/Putting.
-use Rattle.report.proofs.Putting.{puts-part}
+-- Read first: specs/Puts, proofs/Putting.
+use Rattle.fields.proofs.Putting.{puts-part}
 use borrow.Author.Needs.{needs}
-use Rattle.report.proofs.put_part.Statement.{statement}
-use Rattle.report.proofs.put_part.Tie as tie
-use Rattle.report.proofs.put_part.Reads as reads
-use Rattle.report.proofs.put_part.Lts as lts
+use Rattle.fields.proofs.put_part.Statement.{statement}
+use Rattle.fields.proofs.put_part.Tie as tie
+use Rattle.fields.proofs.put_part.Reads as reads
+use Rattle.fields.proofs.put_part.Lts as lts
 use Rattle.store.proofs.paste.Reads as paste-reads
 
 returns : tie.Need-returns
