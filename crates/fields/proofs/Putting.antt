@@ -27,15 +27,11 @@ puts-then l at n m xs ys l₁ l₂ a r room p q =
       next = q .next ∙ omega (arith, p .next);
     }
 
--- what was pasted
-pub puts-pasted : (l : List ℕ) (at n : ℕ) (xs l′ : List ℕ) → l′ ≡ patched at xs l → length xs ≡ n → Puts l at n xs l′ (at + n)
-puts-pasted l at n xs l′ e h = record { bytes = e; counted = h; next = refl }
-
 -- a part of another list
 pub puts-part : (l from l′ : List ℕ) (at a n : ℕ) → a + n ≤ length from → l′ ≡ patched at (take (a + n - a) (drop a from)) l → Puts l at n (take n (drop a from)) l′ (at + n)
 puts-part l from l′ at a n h e =
     let z : a + n - a ≡ n = omega arith in
-    puts-pasted l at n (take n (drop a from)) l′ (rw z at e) (length-take-le n (drop a from) (omega (arith, length-drop a from)))
+    record { bytes = rw z at e; counted = length-take-le n (drop a from) (omega (arith, length-drop a from)); next = refl }
 
 -- one byte
 pub puts-byte : (l : List ℕ) (at b : ℕ) → at < length l → Puts l at 1 (b ∷ []) (set l at b) (at + 1)

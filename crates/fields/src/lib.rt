@@ -36,7 +36,7 @@ pub fn put_field(out: &mut [u8], at: usize, tag: u8, contents: &[u8]) -> usize
 {
     let a = put_head(out, at, tag, contents.len());
     store::paste(out, a, contents);
-    a + contents.len()
+    at + 3 + contents.len()
 }
 
 // A field that holds a number.

@@ -1,25 +1,11 @@
 // The most general common instance of two terms, renamed, as a field of the result.
-ghost use mathlib.Core.Path.{_≡_};
 ghost use Prim.Native.Nat.{_≤_};
 ghost use lib.ListN.{length};
-ghost use Rattle.terms.specs.Base.{field-bytes};
 ghost use Rattle.classes.specs.Steps.{Ready};
-ghost use Rattle.completion.specs.Calls.{written};
 ghost use Rattle.instances.specs.Common.{TwoSides, SidesUnify, Spelt, WritesSpelt};
 
-// Writes a field of tag 15 (hexadecimal) with these contents, and answers how many bytes it has.
-fn put_field(contents: &[u8], result: &mut [u8]) -> usize
-    requires { ⌜ (length (now contents) ≤ 120) × (123 ≤ length (now result)) ⌝ }
-    ensures { λ r. ⌜ r ≡ length (field-bytes (record { tag = 0x15; contents = now (contents .entry) })) ⌝ }
-    ensures { λ r. ⌜ now (result .exit) ≡ written (field-bytes (record { tag = 0x15; contents = now (contents .entry) })) (now (result .entry)) ⌝ }
-{
-    let n = contents.len();
-    result[0] = 0x15;
-    result[1] = 0;
-    result[2] = n as u8;
-    bytes::copy(contents, &mut result[3..]);
-    n + 3
-}
+// The tag of the result's field.
+const INSTANCE: u8 = 0x15;
 
 // Writes the instance of the term at node 0, renamed.
 fn write_instance(
@@ -37,7 +23,7 @@ fn write_instance(
     let mut out = [0u8; 120];
     let n = unifier::write(nodes, table, ends, class, 0, 1, &mut out, 0);
     naming::rename_front(&mut out, n);
-    put_field(&out[..n], result)
+    fields::put_field(result, 0, INSTANCE, &out[..n])
 }
 
 pub enum Found {

@@ -1,7 +1,8 @@
 -- `put_field`: a head and the contents pasted behind it are the field's bytes, by `puts-field`. Assumes nothing.
 -- Read first: specs/Puts, terms/specs/Base (field-bytes), proofs/Putting.
 use mathlib.Core.Path.{refl}
-use Rattle.fields.proofs.Putting.{puts-field, puts-pasted}
+use native.Mathlib.Omega.{arith}
+use Rattle.fields.proofs.Putting.{puts-field}
 use borrow.Author.Needs.{needs}
 use Rattle.fields.proofs.put_field.Statement.{statement}
 use Rattle.fields.proofs.put_field.Tie as tie
@@ -11,8 +12,10 @@ use Rattle.fields.proofs.put_head.Reads as put-head-reads
 use Rattle.store.proofs.paste.Reads as paste-reads
 
 returns : tie.Need-returns
-returns c = puts-field _ _ _ _ _ _ _ _ _ (c .before .before .before .before .before .before .before .before .before .before .pre .0) (c .before .before .before .before .before .before .put-head .ensures) (puts-pasted _ _ _ _ _ (c .before .before .paste .ensures) refl)
+returns c =
+    let head = c .before .before .before .before .before .before .put-head .ensures in
+    puts-field _ _ _ _ _ _ _ _ _ (c .before .before .before .before .before .before .before .before .before .before .pre .0) head (record { bytes = c .before .before .paste .ensures; counted = refl; next = omega (arith, head .next) })
 
 pub put-field-spec : {M : Type 1} → statement M
 put-field-spec =
-    tie.close (tie.spec (λ c κs. search needs) (λ c κs. search needs) (λ c. search needs) (λ c. search needs) returns)
+    tie.close (tie.spec (λ c κs. search needs) (λ c κs. search needs) (λ c. search needs) (λ c. search needs) (λ c. search needs) returns)

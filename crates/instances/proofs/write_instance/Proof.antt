@@ -15,13 +15,13 @@ rename-front-requires : tie.Need-rename-front-requires
 rename-front-requires c κs = let f = spelt-few _ _ _ _ (c .before .before .before .before .before .before .before .before .before .pre .1 .0) _ _ _ refl (c .before .before .write .ensures) in front-room _ (c .before .before .write .last .1 .1 .1 .1 .1 .1 .0) (omega (arith, f)) (f .1)
 
 array-share-prefix-out : tie.Need-array-share-prefix-out
-array-share-prefix-out c = let f = spelt-few _ _ _ _ (c .before .before .before .before .before .before .before .before .before .before .before .pre .1 .0) _ _ _ refl (c .before .before .before .before .write .ensures) in omega (arith, f, c .out4 .given)
+array-share-prefix-out c = let f = spelt-few _ _ _ _ (c .before .before .before .before .before .before .before .before .before .before .before .before .pre .1 .0) _ _ _ refl (c .before .before .before .before .before .write .ensures) in omega (arith, f, c .before .out4 .given)
 
 slice-aggregate-put-field : tie.Need-slice-aggregate-put-field
-slice-aggregate-put-field c = let f = spelt-few _ _ _ _ (c .before .before .before .before .before .before .before .before .before .before .before .before .pre .1 .0) _ _ _ refl (c .before .before .before .before .before .write .ensures) in omega (arith, f, c .before .out4 .given, length-take (c .before .before .before .before .before .write .result) (c .before .before .rename-front .last .0))
+slice-aggregate-put-field c = let f = spelt-few _ _ _ _ (c .before .before .before .before .before .before .before .before .before .before .before .before .before .pre .1 .0) _ _ _ refl (c .before .before .before .before .before .before .write .ensures) in omega (arith, f, c .before .before .out4 .given, length-take (c .before .before .before .before .before .before .write .result) (c .before .before .before .rename-front .last .0))
 
 put-field-requires : tie.Need-put-field-requires
-put-field-requires c κs = let f = spelt-few _ _ _ _ (c .before .before .before .before .before .before .before .before .before .before .before .before .before .pre .1 .0) _ _ _ refl (c .before .before .before .before .before .before .write .ensures) in (omega (arith, f, length-take (c .before .before .before .before .before .before .write .result) (c .before .before .before .rename-front .last .0)), c .before .before .before .before .before .before .before .before .before .before .before .before .before .pre .1 .1)
+put-field-requires c κs = let f = spelt-few _ _ _ _ (c .before .before .before .before .before .before .before .before .before .before .before .before .before .pre .1 .0) _ _ _ refl (c .before .before .before .before .before .before .write .ensures) in let n = length-take (c .before .before .before .before .before .before .write .result) (c .before .before .before .rename-front .last .0) in (omega (arith, f, n, c .before .before .before .before .before .before .before .before .before .before .before .before .before .pre .1 .1), omega (arith, f, n))
 
 returns : tie.Need-returns
 returns c = spelt-written _ _ _ _ (c .before .before .before .before .before .before .before .before .before .before .before .before .before .before .before .before .pre .1 .0) _ _ _ refl (c .before .before .before .before .before .before .before .before .before .write .ensures) _ (c .before .before .before .before .before .before .rename-front .ensures) _ _ _ (c .before .before .put-field .ensures)
