@@ -38,9 +38,9 @@ pub named-neither : (n : ℕ) → n ≡ 4 → compared-told Neither ≡ ok n
 unfolding compared-told
 named-neither n h = ap ok (sym h)
 
-range : (r : ℕ → ℕ) (s t : Term) → (1 ≤ comparison r s t) × (comparison r s t ≤ 4)
+pub comparison-range : (r : ℕ → ℕ) (s t : Term) → (1 ≤ comparison r s t) × (comparison r s t ≤ 4)
 unfolding comparison if_then_else_
-range r s t = go (above r s t) (above r t s) (same s t)
+comparison-range r s t = go (above r s t) (above r t s) (same s t)
   where
     go : (a b d : Bool) → (1 ≤ (if a then 1 else if b then 2 else if d then 3 else 4)) × ((if a then 1 else if b then 2 else if d then 3 else 4) ≤ 4)
     go true b d = (omega arith, omega arith)
@@ -62,7 +62,7 @@ module _ (l : List ℕ) where
       compared = h (left-side S) (right-side S) (rw (from-drop l a) (left-starts l e a b c S A)) (rw (from-drop l b) (right-starts l e a b c S A))
 
       pub compare-range : (1 ≤ n) × (n ≤ 4)
-      compare-range = rw compared (range (rank (table l e)) (left-side S) (right-side S))
+      compare-range = rw compared (comparison-range (rank (table l e)) (left-side S) (right-side S))
 
       pub compare-read : (r : Compared) → compared-told r ≡ ok n → compared-told r ≡ compare-call l
       unfolding compare-call

@@ -13,6 +13,7 @@ use Rattle.terms.proofs.Bytes.{length-bytes}
 use Rattle.terms.proofs.Every.{every-head, every-tail}
 use Rattle.problem.specs.Problem.{Reading, ok, refused, _>>=_, refuse-if, ReadField, read-field, due, Symbol, arity-of, read-symbols, symbol-field, budget-field, Byte, symbol, variable, neither, byte-of, ReadPart, read-term, read-terms, read-side, Equation, equation-field, equation-fields, Problem, parse, only-equation}
 use Rattle.completion.specs.Calls.{enough, complete-call, Single, parse-single, compare-call, unify-call}
+use Rattle.completion.proofs.Accepts.{only-fits}
 use Rattle.problem.proofs.Reading.{ReadsTo, reads, from-bind, no-ok, ok-injective, passed}
 
 -- If a reading is refused, the number is at most 12 and the place at most e.
@@ -207,12 +208,6 @@ only-within end [] h k = was-refused 12 end (omega arith) h
 only-within end (d ∷ []) h k = was-read
 only-within end (d ∷ d′ ∷ es) h k = was-refused 12 (d′ .first) (omega arith) (every-head (every-tail k))
 
-only-first : {e : ℕ} (end : ℕ) (es : List Equation) (q : Equation) → Every (λ (q : Equation). q .first ≤ e) es → only-equation end es ≡ ok q → q .first ≤ e
-unfolding only-equation
-only-first end [] q h p = absurd (no-ok p)
-only-first end (d ∷ []) q h p = let r : d ≡ q = ok-injective p in rw (← r) (every-head h)
-only-first end (d ∷ d′ ∷ es) q h p = absurd (no-ok p)
-
 single-within : (bytes : List ℕ) → RefusesWithin 8192 (parse-single bytes)
 unfolding parse-single
 single-within bytes =
@@ -226,7 +221,7 @@ single-first bytes S q =
     from-bind _ _ S q λ P p q.
     from-bind _ _ S q λ e h q.
     let r : record { symbols = P .symbols; equation = e } ≡ S = ok-injective q in
-    rw (← r) (only-first (length bytes) (P .equations) e (parse-firsts bytes P p .1) h)
+    rw (← r) (only-fits (λ (q : Equation). q .first ≤ 8192) (length bytes) (P .equations) e (parse-firsts bytes P p .1) h)
 
 enough-within : (buffer : ℕ) → RefusesWithin 8192 (enough buffer)
 unfolding enough

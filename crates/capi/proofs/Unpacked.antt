@@ -10,11 +10,11 @@ use lib.Dec.{ltb}
 use lib.ListN.{length, take, drop, length-take, length-drop}
 use borrow.Author.Tests.{ltb-false}
 use Rattle.terms.specs.Base.{if_then_else_, field-bytes}
-use Rattle.terms.specs.Term.{Term, Pair, size, renamed, term-bytes, subterm-at, same}
+use Rattle.terms.specs.Term.{Term, Pair, size, renamed, term-bytes, subterm-at}
 use Rattle.terms.proofs.Bytes.{length-bytes, subterm-run}
 use Rattle.terms.proofs.Limits.{length-field-bytes, renamed-left-size}
 use Rattle.terms.proofs.Positions.{subterm-below}
-use Rattle.order.specs.Order.{above, comparison}
+use Rattle.order.specs.Order.{comparison}
 use Rattle.unify.specs.Unify.{Binding, under, mgu}
 use Rattle.rewriting.specs.Rewrite.{end-number}
 use Rattle.problem.specs.Problem.{Reading, ok, refused, rank-of}
@@ -24,6 +24,7 @@ use Rattle.completion.proofs.Accepts.{single-fits}
 use Rattle.completion.proofs.Capacity.{complete-writes}
 use Rattle.complete.specs.Answer.{counted}
 use Rattle.calls.specs.Answers.{Returned, bytes-written, none-common, number-only, number-and-place, unify-returns}
+use Rattle.calls.proofs.Comparing.{comparison-range}
 use Rattle.capi.specs.Codes.{code, answer-code, unify-code, part-code, kind-in, number-in, value-in, start-in}
 use Rattle.capi.proofs.Refusals.{RefusesWithin, was-refused, single-first, complete-within, compare-within, unify-within}
 
@@ -59,20 +60,12 @@ complete-unpacks problem buffer = go (complete-call problem buffer) refl (comple
     go (ok bytes) q h = code-unpacks 1 0 (length bytes) (omega arith) (omega (arith, complete-writes problem buffer bytes q .few))
     go (refused n at) q (was-refused _ _ a b) = code-unpacks 0 n at (omega arith) (omega arith)
 
-comparison-few : (rank : ℕ → ℕ) (s t : Term) → comparison rank s t ≤ 4
-unfolding comparison if_then_else_
-comparison-few rank s t = go (above rank s t) 1 _ (omega arith) (go (above rank t s) 2 _ (omega arith) (go (same s t) 3 4 (omega arith) (omega arith)))
-  where
-    go : (b : Bool) (m n : ℕ) → m ≤ 4 → n ≤ 4 → (if b then m else n) ≤ 4
-    go true m n h k = h
-    go false m n h k = k
-
 compare-few : (problem : List ℕ) (v : ℕ) → compare-call problem ≡ ok v → v ≤ 4
 unfolding compare-call
 compare-few problem v q =
     from-bind _ _ v q λ S _ q.
     let r : comparison (rank-of (S .symbols)) (S .equation .sides .left) (S .equation .sides .right) ≡ v = ok-injective q in
-    rw (← r) (comparison-few (rank-of (S .symbols)) (S .equation .sides .left) (S .equation .sides .right))
+    rw (← r) (comparison-range (rank-of (S .symbols)) (S .equation .sides .left) (S .equation .sides .right) .1)
 
 pub compare-unpacks : (problem : List ℕ) → UnpacksAnswer (answer-code (compare-call problem)) (compare-call problem)
 unfolding answer-code

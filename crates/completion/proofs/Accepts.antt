@@ -114,7 +114,7 @@ accepts bytes P e =
     rw (← q) (record { symbols-few = symbols-few s Σ a; budget-few = budget-few b budget c; equations-few = k .few; equations-fit = k .fit; equations-over = k .over })
 
 -- So does the equation of a problem that has exactly one.
-only-fits : (Q : Equation → Type 0) (end : ℕ) (es : List Equation) (e : Equation) → Every Q es → only-equation end es ≡ ok e → Q e
+pub only-fits : (Q : Equation → Type 0) (end : ℕ) (es : List Equation) (e : Equation) → Every Q es → only-equation end es ≡ ok e → Q e
 unfolding only-equation
 only-fits Q end [] e h q = absurd (no-ok q)
 only-fits Q end (d ∷ []) e h q = let r : d ≡ e = cc in rw (← r) (every-head h)
