@@ -16,31 +16,53 @@ use Rattle.engine.proofs.State.with_entry.Reads as with-entry-reads
 use Rattle.making.proofs.stopped.Reads as stopped-reads
 use Rattle.store.proofs.paste.Reads as paste-reads
 
+-- Places, found by their types: the only field of a type is the place itself.
+abbrev entry-of-compose : tie.After-compose → tie.Start
+entry-of-compose at = search depth 0
+
+abbrev compose-of-paste : tie.After-paste → tie.After-compose
+compose-of-paste at = search depth 0
+
+abbrev compose-of-else1 : tie.Else1 → tie.After-compose
+compose-of-else1 at = search depth 0
+
 compose-requires : tie.Need-compose-requires
 compose-requires c κs =
-    layout-front _ _ _ _ _ _ (c .before .before .before .before .before .before .before .before .pre .0 .0) (let p = c .before .before .before .before .before .before .before .before .pre .0 .1 in omega arith)
+    let entry : tie.Start = search depth 0 in
+    layout-front _ _ _ _ _ _ (entry .pre .0 .0) (let p = entry .pre .0 .1 in omega arith)
 
 returns : tie.Need-returns
 returns c =
+    let at-compose : tie.After-compose = search depth 0 in
+    let entry = entry-of-compose at-compose in
     record {
       kept = λ _. (refl, refl);
-      finishes = λ waiting fine. finishes-stop _ _ _ _ _ _ _ _ _ (c .before .before .before .before .before .before .compose .ensures) (let p = c .before .before .before .before .before .before .before .before .before .before .before .before .before .before .before .pre .0 .1 in omega arith) (c .before .if1 .taken) _ (stays (c .stopped .ensures) _ _ _);
+      finishes = λ waiting fine. finishes-stop _ _ _ _ _ _ _ _ _ (at-compose .compose .ensures)
+          (let p = entry .pre .0 .1 in omega arith) (c .before .if1 .taken) _ (stays (c .stopped .ensures) _ _ _);
     }
 
 same-length-2 : tie.Need-same-length-2
-same-length-2 c = c .before .before .before .before .before .before .before .before .before .before .before .before .before .before .before .before .before .compose .ensures .kept .same-bytes
+same-length-2 c =
+    let at-compose = compose-of-paste (search depth 0) in
+    at-compose .compose .ensures .kept .same-bytes
 
 returns-2 : tie.Need-returns-2
 returns-2 c =
-    let p = c .before .before .before .before .before .before .before .before .before .before .before .before .before .before .before .before .before .before .before .before .before .before .before .before .before .before .pre .0 .1 in
-    let long = c .before .before .before .before .before .before .before .before .before .before .before .before .before .before .before .before .before .compose .ensures .kept .same-bytes ∙ c .before .before .before .before .before .before .before .before .before .before .before .before .before .before .before .before .before .before .before .before .before .before .before .before .before .before .pre .1 .0 in
-    let room = pasted-room _ _ _ _ long (c .before .before .before .before .before .before .before .before .before .before .before .before .before .before .before .before .before .before .before .before .before .before .before .before .before .before .pre .0 .0 .few) (c .before .before .before .before .before .before .before .paste .ensures) (c .before .before .before .before .before .before .before .before .before .before .before .before .before .before .before .before .before .before .before .before .before .before .before .before .before .before .pre .1 .1) in
-    let C = copied _ _ _ _ long (c .before .before .before .before .before .before .before .before .before .before .before .before .before .before .before .before .before .before .before .before .before .before .before .before .before .before .pre .0 .0 .few) (c .before .before .before .before .before .before .before .paste .ensures) room in
+    let at-with-entry : tie.After-with-entry = search depth 0 in
+    let at-paste : tie.After-paste = search depth 0 in
+    let in-else1 : tie.Else1 = search depth 0 in
+    let at-compose = compose-of-else1 in-else1 in
+    let entry = entry-of-compose at-compose in
+    let p = entry .pre .0 .1 in
+    let long = at-compose .compose .ensures .kept .same-bytes ∙ entry .pre .1 .0 in
+    let room = pasted-room _ _ _ _ long (entry .pre .0 .0 .few) (at-paste .paste .ensures) (entry .pre .1 .1) in
+    let C = copied _ _ _ _ long (entry .pre .0 .0 .few) (at-paste .paste .ensures) room in
     record {
       kept = λ v. absurd (v (c .stopped2 .ensures .verdict-is));
       finishes = λ waiting fine.
-          finishes-done _ _ _ _ _ _ _ _ _ (c .before .before .before .before .before .before .before .before .before .before .before .before .before .before .before .before .before .compose .ensures) (omega arith) (c .before .before .before .before .before .before .before .before .before .before .before .before .if1 .left) _
-          (logged-copy _ _ _ _ _ C (c .before .before .before .with-entry .ensures .logged _ waiting (composed-fine _ _ _ _ _ _ _ (c .before .before .before .before .before .before .before .before .before .before .before .before .before .before .before .before .before .compose .ensures) (omega arith) fine))) (stays (c .stopped2 .ensures) _ _ _);
+          finishes-done _ _ _ _ _ _ _ _ _ (at-compose .compose .ensures) (omega arith) (in-else1 .if1 .left) _
+          (logged-copy _ _ _ _ _ C (at-with-entry .with-entry .ensures .logged _ waiting
+          (composed-fine _ _ _ _ _ _ _ (at-compose .compose .ensures) (omega arith) fine))) (stays (c .stopped2 .ensures) _ _ _);
     }
 
 pub finish-spec : {M : Type 1} → statement M

@@ -12,17 +12,30 @@ use Rattle.orient.proofs.place.Reads as place-reads
 use Rattle.making.proofs.stopped.Reads as stopped-reads
 use Rattle.making.proofs.with_rule.Reads as with-rule-reads
 
+-- Places, found by their types: the only field of a type is the place itself.
+abbrev entry-of-place : tie.After-place → tie.Start
+entry-of-place at = search depth 0
+
 returns : tie.Need-returns
 returns c =
-    makes-unplaced _ _ _ _ _ _ _ _ _ _ _ _ (c .before .before .before .before .place .ensures) (c .before .if1 .taken) (c .before .before .before .before .before .before .before .before .before .before .before .before .before .pre .1 .0) (c .before .before .before .before .before .before .before .before .before .before .before .before .before .pre .1 .1) (stops (c .stopped .ensures) _ _ _ _ _ _ refl refl)
+    let at-place : tie.After-place = search depth 0 in
+    let entry = entry-of-place at-place in
+    makes-unplaced _ _ _ _ _ _ _ _ _ _ _ _ (at-place .place .ensures) (c .before .if1 .taken) (entry .pre .1 .0)
+    (entry .pre .1 .1) (stops (c .stopped .ensures) _ _ _ _ _ _ refl refl)
 
 with-rule-requires : tie.Need-with-rule-requires
 with-rule-requires c κs =
-    (c .before .before .before .before .before .before .before .before .before .before .before .before .before .before .before .before .before .pre .0, one-slot _ _ _ (search needs) (search needs) (c .before .before .before .before .before .before .before .before .place .ensures .short (c .before .before .before .before .before .if1 .left)))
+    let in-else1 : tie.Else1 = search depth 0 in
+    let at-place : tie.After-place = search depth 0 in
+    let entry = entry-of-place at-place in
+    (entry .pre .0, one-slot _ _ _ (search needs) (search needs) (at-place .place .ensures .short (in-else1 .if1 .left)))
 
 returns-2 : tie.Need-returns-2
 returns-2 c =
-    makes-with _ _ _ _ _ _ _ _ _ _ _ _ (c .before .before .before .before .before .before .before .before .before .before .before .before .before .before .before .place .ensures) (c .before .before .before .before .before .before .before .before .before .before .before .before .if1 .left) (c .before .before .before .before .before .before .with-rule .ensures)
+    let at-with-rule : tie.After-with-rule = search depth 0 in
+    let in-else1 : tie.Else1 = search depth 0 in
+    let at-place : tie.After-place = search depth 0 in
+    makes-with _ _ _ _ _ _ _ _ _ _ _ _ (at-place .place .ensures) (in-else1 .if1 .left) (at-with-rule .with-rule .ensures)
 
 pub make-rule-spec : {M : Type 1} → statement M
 make-rule-spec =

@@ -21,14 +21,22 @@ returns c =
 
 with-entry-requires : tie.Need-with-entry-requires
 with-entry-requires c κs =
-    (let p = c .before .before .before .before .before .if1 .left in let q = c .before .before .before .take .ensures .entries in omega arith, c .before .before .before .before .before .before .before .before .before .pre .2)
+    let at-take : tie.After-take = search depth 0 in
+    let in-else1 : tie.Else1 = search depth 0 in
+    let entry : tie.Start = search depth 0 in
+    (let p = in-else1 .if1 .left in let q = at-take .take .ensures .entries in omega arith, entry .pre .2)
 
 returns-2 : tie.Need-returns-2
 returns-2 c =
+    let at-with-entry : tie.After-with-entry = search depth 0 in
+    let at-take : tie.After-take = search depth 0 in
+    let in-else1 : tie.Else1 = search depth 0 in
+    let entry : tie.Start = search depth 0 in
     record {
       settles = λ rules fine.
-          let K = c .before .before .before .before .before .before .before .take .ensures .taken rules (c .before .before .before .before .before .before .before .before .before .before .before .before .before .args .log .now) fine in
-          settled-done _ _ _ _ (c .before .before .before .before .before .before .before .before .before .if1 .left) _ _ K (c .before .before .before .with-entry .ensures .logged rules _ (one-behind _ (K .fine))) (stays (c .stopped2 .ensures) _ _ _);
+          let K = at-take .take .ensures .taken rules (entry .args .log .now) fine in
+          settled-done _ _ _ _ (in-else1 .if1 .left) _ _ K
+          (at-with-entry .with-entry .ensures .logged rules _ (one-behind _ (K .fine))) (stays (c .stopped2 .ensures) _ _ _);
     }
 
 pub settled-spec : {M : Type 1} → statement M

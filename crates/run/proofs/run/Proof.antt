@@ -26,45 +26,91 @@ abbrev μ-loop : tie.MeasureT-loop
 μ-loop inputs sizes number table budget rules₀ waiting₀ log₀ left₀ right₀ st₀ rules waiting log left right st =
     512 - st .entries
 
+-- Places, found by their types: the only field of a type is the place itself.
+abbrev entry-of-at-loop : tie.At-loop Inv-loop μ-loop → tie.Start Inv-loop μ-loop
+entry-of-at-loop at = search depth 0
+
+abbrev turn-of-ended : tie.After-ended Inv-loop μ-loop → tie.After-turn Inv-loop μ-loop
+turn-of-ended at = search depth 0
+
+abbrev at-loop-of-turn : tie.After-turn Inv-loop μ-loop → tie.At-loop Inv-loop μ-loop
+at-loop-of-turn at = search depth 0
+
+abbrev at-loop-of-ended : tie.After-ended Inv-loop μ-loop → tie.At-loop Inv-loop μ-loop
+at-loop-of-ended at = at-loop-of-turn (turn-of-ended at)
+
+abbrev entry-of-turn : tie.After-turn Inv-loop μ-loop → tie.Start Inv-loop μ-loop
+entry-of-turn at = entry-of-at-loop (at-loop-of-turn at)
+
+abbrev entry-of-ended : tie.After-ended Inv-loop μ-loop → tie.Start Inv-loop μ-loop
+entry-of-ended at = entry-of-turn (turn-of-ended at)
+
 initial-requires : tie.Need-initial-requires Inv-loop μ-loop
 initial-requires c κs =
-    ((layout-front _ _ _ _ _ _ (c .before .before .before .before .before .before .before .pre .0 .0) (omega arith), c .before .before .before .before .before .before .before .pre .0 .1), c .before .before .before .before .before .before .before .pre .1 .1)
+    let entry : tie.Start Inv-loop μ-loop = search depth 0 in
+    ((layout-front _ _ _ _ _ _ (entry .pre .0 .0) (omega arith), entry .pre .0 .1), entry .pre .1 .1)
 
 loop-holds : tie.Need-loop-holds Inv-loop μ-loop
 loop-holds c =
-    (looping-begins _ _ _ _ (c .before .before .before .before .before .before .before .before .before .before .args .budget) _ _ (c .before .before .initial .ensures .first _ _ (c .before .before .before .before .before .before .before .before .before .before .pre .1 .0) (c .before .before .before .before .before .before .before .before .before .before .pre .1 .2)) refl, refl, refl)
+    let entry : tie.Start Inv-loop μ-loop = search depth 0 in (
+      looping-begins _ _ _ _ (entry .args .budget) _ _
+          (c .before .before .initial .ensures .first _ _ (entry .pre .1 .0) (entry .pre .1 .2)) refl,
+      refl,
+      refl,
+    )
 
 turn-requires : tie.Need-turn-requires Inv-loop μ-loop
 turn-requires c κs =
-    (c .before .before .before .before .before .loop .inv .0 .fine, (c .before .before .before .before .before .before .before .before .before .before .before .before .before .before .before .before .pre .0, (let p = c .before .before .before .before .before .loop .inv .1 in omega arith, let p = c .before .before .before .before .before .loop .inv .2 in omega arith)))
+    let at-loop : tie.At-loop Inv-loop μ-loop = search depth 0 in
+    let entry = entry-of-at-loop at-loop in (
+      at-loop .loop .inv .0 .fine,
+      (entry .pre .0, (let p = at-loop .loop .inv .1 in omega arith, let p = at-loop .loop .inv .2 in omega arith)),
+    )
 
 same-length : tie.Need-same-length Inv-loop μ-loop
 same-length c =
-    ap length (c .before .before .before .before .before .before .before .before .before .before .before .turn .ensures .stays (c .before .if1 .taken) .rules) ∙ c .before .before .before .before .before .before .before .before .before .before .before .before .before .before .before .before .before .loop .inv .0 .fine .rules-room ∙ sym (c .before .before .before .before .before .before .before .before .before .before .before .before .before .before .before .before .before .before .before .before .before .before .before .before .before .before .before .before .pre .1 .0)
+    let at-turn : tie.After-turn Inv-loop μ-loop = search depth 0 in
+    let at-loop : tie.At-loop Inv-loop μ-loop = search depth 0 in
+    let entry = entry-of-at-loop at-loop in
+    ap length (at-turn .turn .ensures .stays (c .before .if1 .taken) .rules) ∙ at-loop .loop .inv .0 .fine .rules-room ∙ sym
+    (entry .pre .1 .0)
 
 same-length-2 : tie.Need-same-length-2 Inv-loop μ-loop
 same-length-2 c =
-    let p = c .before .before .before .before .before .before .before .before .before .before .before .before .before .before .before .before .before .loop .inv .0 .fine .waiting-room in
-    let q = c .before .before .before .before .before .before .before .before .before .before .before .before .before .before .before .before .before .before .before .before .before .before .before .before .before .before .before .before .pre .1 .1 in
+    let p = at-loop-of-ended c .loop .inv .0 .fine .waiting-room in
+    let q = entry-of-ended c .pre .1 .1 in
     search needs
 
 same-length-3 : tie.Need-same-length-3 Inv-loop μ-loop
 same-length-3 c =
-    ap length (c .before .before .before .before .before .before .before .before .before .before .before .turn .ensures .stays (c .before .if1 .taken) .log) ∙ c .before .before .before .before .before .before .before .before .before .before .before .before .before .before .before .before .before .loop .inv .0 .fine .log-room ∙ sym (c .before .before .before .before .before .before .before .before .before .before .before .before .before .before .before .before .before .before .before .before .before .before .before .before .before .before .before .before .pre .1 .2)
+    let at-turn : tie.After-turn Inv-loop μ-loop = search depth 0 in
+    let at-loop : tie.At-loop Inv-loop μ-loop = search depth 0 in
+    let entry = entry-of-at-loop at-loop in
+    ap length (at-turn .turn .ensures .stays (c .before .if1 .taken) .log) ∙ at-loop .loop .inv .0 .fine .log-room ∙ sym (entry .pre .1 .2)
 
 returns : tie.Need-returns Inv-loop μ-loop
 returns c =
-    run-ended _ _ _ _ _ _ (c .before .before .before .before .before .before .before .before .before .before .before .before .before .before .before .before .before .loop .inv .0) _ _ _ _ _ _ _ _ (c .before .before .before .before .before .before .before .before .before .before .before .turn .ensures) (c .before .if1 .taken) _ (c .ended .ensures)
+    let at-turn : tie.After-turn Inv-loop μ-loop = search depth 0 in
+    let at-loop : tie.At-loop Inv-loop μ-loop = search depth 0 in
+    run-ended _ _ _ _ _ _ (at-loop .loop .inv .0) _ _ _ _ _ _ _ _ (at-turn .turn .ensures) (c .before .if1 .taken) _ (c .ended .ensures)
 
 loop-less : tie.Need-loop-less Inv-loop μ-loop
 loop-less c =
-    let g = loop-grows _ _ _ _ _ _ (c .before .before .before .before .before .before .before .before .before .before .before .before .before .before .before .before .before .loop .inv .0) _ _ _ _ _ (c .before .before .before .before .before .before .before .before .before .before .before .turn .ensures) (c .before .if1 .left) in
+    let at-turn : tie.After-turn Inv-loop μ-loop = search depth 0 in
+    let at-loop : tie.At-loop Inv-loop μ-loop = search depth 0 in
+    let g = loop-grows _ _ _ _ _ _ (at-loop .loop .inv .0) _ _ _ _ _ (at-turn .turn .ensures) (c .before .if1 .left) in
     let a = ap (λ (x : State). x .entries) (c .next .ensures) in
     omega (arith, a, g .0, g .1)
 
 loop-again : tie.Need-loop-again Inv-loop μ-loop
 loop-again c =
-    (looping-next _ _ _ _ _ _ (c .before .before .before .before .before .before .before .before .before .before .before .turn .result) _ _ _ (c .next .ensures) (loops-on _ _ _ _ _ _ (c .before .before .before .before .before .before .before .before .before .before .before .before .before .before .before .before .before .loop .inv .0) _ _ _ _ _ (c .before .before .before .before .before .before .before .before .before .before .before .turn .ensures) (c .before .if1 .left)), c .before .before .before .before .before .before .before .before .before .before .before .turn .ensures .buffers .left-kept ∙ c .before .before .before .before .before .before .before .before .before .before .before .before .before .before .before .before .before .loop .inv .1, c .before .before .before .before .before .before .before .before .before .before .before .turn .ensures .buffers .right-kept ∙ c .before .before .before .before .before .before .before .before .before .before .before .before .before .before .before .before .before .loop .inv .2)
+    let at-turn : tie.After-turn Inv-loop μ-loop = search depth 0 in
+    let at-loop : tie.At-loop Inv-loop μ-loop = search depth 0 in (
+      looping-next _ _ _ _ _ _ (at-turn .turn .result) _ _ _ (c .next .ensures)
+          (loops-on _ _ _ _ _ _ (at-loop .loop .inv .0) _ _ _ _ _ (at-turn .turn .ensures) (c .before .if1 .left)),
+      at-turn .turn .ensures .buffers .left-kept ∙ at-loop .loop .inv .1,
+      at-turn .turn .ensures .buffers .right-kept ∙ at-loop .loop .inv .2,
+    )
 
 pub run-spec : {M : Type 1} → statement M
 run-spec =

@@ -12,7 +12,8 @@ use Rattle.turn.proofs.oldest.Lts as lts
 
 returns : tie.Need-returns
 returns c =
-    let n : length (c .before .args .st .origins) ≡ 198 = search needs in six-front (c .before .args .st .origins) (omega arith)
+    let entry : tie.Start = search depth 0 in
+    let n : length (entry .args .st .origins) ≡ 198 = search needs in six-front (entry .args .st .origins) (omega arith)
 
 pub oldest-spec : {M : Type 1} → statement M
 oldest-spec =

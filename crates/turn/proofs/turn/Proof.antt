@@ -20,21 +20,52 @@ unfolding end-number
 returns c =
     whole-unpaid _ _ _ _ _ _ _ _ (c .before .if1 .taken) (stops (c .stopped .ensures) _ _ _ _ _ _ refl refl)
 
+-- Places, found by their types: the only field of a type is the place itself.
+abbrev entry-of-else1 : tie.Else1 → tie.Start
+entry-of-else1 at = search depth 0
+
 turn-waiting-requires : tie.Need-turn-waiting-requires
 turn-waiting-requires c κs =
-    ((begun-fine (c .before .before .before .before .before .before .before .before .before .before .before .before .before .before .before .before .before .before .args .st) _ _ _ _ (c .before .before .before .before .before .before .before .begin .ensures) (c .before .before .before .before .before .before .before .before .before .before .before .before .before .before .before .before .before .before .pre .0), (let p = c .before .before .before .before .before .if2 .taken in omega arith)), c .before .before .before .before .before .before .before .before .before .before .before .before .before .before .before .before .before .before .pre .1 .1)
+    let in-then2 : tie.Then2 = search depth 0 in
+    let at-begin : tie.After-begin = search depth 0 in
+    let entry = entry-of-else1 (search depth 0) in (
+      (
+        begun-fine (entry .args .st) _ _ _ _ (at-begin .begin .ensures) (entry .pre .0),
+        (let p = in-then2 .if2 .taken in omega arith),
+      ),
+      entry .pre .1 .1,
+    )
 
 returns-2 : tie.Need-returns-2
 returns-2 c =
-    begun-whole (c .before .before .before .before .before .before .before .before .before .before .before .before .before .before .before .before .before .before .before .before .before .before .before .before .before .before .before .before .before .args .st) (c .before .before .before .before .before .before .before .before .before .before .before .before .before .before .before .before .before .before .begin .result) _ _ _ (c .before .before .before .before .before .before .before .before .before .before .before .before .before .before .before .before .before .before .begin .ensures) (let p = c .before .before .before .before .before .before .before .before .before .before .before .before .before .before .before .before .before .before .before .if1 .left in omega arith) _ _ _ _ _ _ _ _ _ (takes-whole (c .before .before .before .before .before .before .before .before .before .before .turn-waiting .ensures) _ _ _)
+    let at-turn-waiting : tie.After-turn-waiting = search depth 0 in
+    let at-begin : tie.After-begin = search depth 0 in
+    let in-else1 : tie.Else1 = search depth 0 in
+    let entry = entry-of-else1 in-else1 in
+    begun-whole (entry .args .st) (at-begin .begin .result) _ _ _ (at-begin .begin .ensures)
+    (let p = in-else1 .if1 .left in omega arith) _ _ _ _ _ _ _ _ _
+    (takes-whole (at-turn-waiting .turn-waiting .ensures) _ _ _)
 
 turn-scan-requires : tie.Need-turn-scan-requires
 turn-scan-requires c κs =
-    ((begun-fine (c .before .before .before .before .before .before .before .before .before .before .before .before .before .before .before .before .before .before .args .st) _ _ _ _ (c .before .before .before .before .before .before .before .begin .ensures) (c .before .before .before .before .before .before .before .before .before .before .before .before .before .before .before .before .before .before .pre .0), (let p = c .before .before .before .before .before .if2 .left in omega arith)), c .before .before .before .before .before .before .before .before .before .before .before .before .before .before .before .before .before .before .pre .1)
+    let in-else2 : tie.Else2 = search depth 0 in
+    let at-begin : tie.After-begin = search depth 0 in
+    let entry = entry-of-else1 (search depth 0) in (
+      (
+        begun-fine (entry .args .st) _ _ _ _ (at-begin .begin .ensures) (entry .pre .0),
+        (let p = in-else2 .if2 .left in omega arith),
+      ),
+      entry .pre .1,
+    )
 
 returns-3 : tie.Need-returns-3
 returns-3 c =
-    begun-whole (c .before .before .before .before .before .before .before .before .before .before .before .before .before .before .before .before .before .before .before .before .before .before .before .before .before .before .before .before .before .args .st) (c .before .before .before .before .before .before .before .before .before .before .before .before .before .before .before .before .before .before .begin .result) _ _ _ (c .before .before .before .before .before .before .before .before .before .before .before .before .before .before .before .before .before .before .begin .ensures) (let p = c .before .before .before .before .before .before .before .before .before .before .before .before .before .before .before .before .before .before .before .if1 .left in omega arith) _ _ _ _ _ _ _ _ _ (c .before .before .before .before .before .before .before .before .before .before .turn-scan .ensures)
+    let at-turn-scan : tie.After-turn-scan = search depth 0 in
+    let at-begin : tie.After-begin = search depth 0 in
+    let in-else1 : tie.Else1 = search depth 0 in
+    let entry = entry-of-else1 in-else1 in
+    begun-whole (entry .args .st) (at-begin .begin .result) _ _ _ (at-begin .begin .ensures)
+    (let p = in-else1 .if1 .left in omega arith) _ _ _ _ _ _ _ _ _ (at-turn-scan .turn-scan .ensures)
 
 pub turn-spec : {M : Type 1} → statement M
 turn-spec =
