@@ -9,7 +9,9 @@ use Rattle.capi.proofs.code.Tie as tie
 
 returns : tie.Need-returns
 unfolding code
-returns c = ap (λ (n : ℕ). c .before .args .kind * 281_474_976_710_656 + n * 4_294_967_296 + c .before .args .value % 4_294_967_296) (c .wide .ensures .0)
+returns c =
+    let entry : tie.Start = search depth 0 in
+    ap (λ (n : ℕ). entry .args .kind * 281_474_976_710_656 + n * 4_294_967_296 + entry .args .value % 4_294_967_296) (c .wide .ensures .0)
 
 pub code-spec : {M : Type 1} → statement M
 code-spec =

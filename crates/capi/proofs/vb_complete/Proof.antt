@@ -34,7 +34,8 @@ same-length c = search needs
 returns : tie.Need-returns
 unfolding completed-told answer-code
 returns c =
-    let q = c .before .before .before .before .before .before .complete .ensures in
+    let at-complete : tie.After-complete = search depth 0 in
+    let q = at-complete .complete .ensures in
     let a = c .code .ensures ∙ ap answer-code (rw (c .before .before .n .given .1) at (q .0)) in
     (a, (q .1 .0, code-delivers _ _ _ _ _ (q .0) (q .1 .1) a))
 
@@ -44,7 +45,8 @@ same-length-2 c = search needs
 returns-2 : tie.Need-returns-2
 unfolding completed-told answer-code
 returns-2 c =
-    let q = c .before .before .before .before .before .before .complete .ensures in
+    let at-complete : tie.After-complete = search depth 0 in
+    let q = at-complete .complete .ensures in
     let a = c .code2 .ensures ∙ ap answer-code (rw (c .before .before .number .given .1) at (q .0)) in
     (a, (q .1 .0, code-delivers _ _ _ _ _ (q .0) (q .1 .1) a))
 

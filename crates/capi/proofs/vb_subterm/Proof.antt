@@ -9,7 +9,10 @@ use Rattle.capi.proofs.vb_subterm.Tie as tie
 
 returns : tie.Need-returns
 unfolding part-code
-returns c = ap₂ (λ (a b : ℕ). a % 4_294_967_296 * 4_294_967_296 + b % 4_294_967_296) (c .before .subterm-bounds .ensures .start) (c .before .subterm-bounds .ensures .bytes)
+returns c =
+    let at-subterm-bounds : tie.After-subterm-bounds = search depth 0 in
+    ap₂ (λ (a b : ℕ). a % 4_294_967_296 * 4_294_967_296 + b % 4_294_967_296)
+    (at-subterm-bounds .subterm-bounds .ensures .start) (at-subterm-bounds .subterm-bounds .ensures .bytes)
 
 pub vb-subterm-spec : {M : Type 1} → statement M
 vb-subterm-spec =

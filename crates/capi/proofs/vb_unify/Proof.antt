@@ -10,19 +10,35 @@ use Rattle.capi.proofs.vb_unify.Tie as tie
 
 returns : tie.Need-returns
 unfolding unified-told unify-code
-returns c = (c .code .ensures ∙ ap unify-code (rw (c .before .before .n .given .1) at (c .before .before .before .before .before .before .unify .ensures .told)), c .before .before .before .before .before .before .unify .ensures .leaves)
+returns c =
+    let at-unify : tie.After-unify = search depth 0 in (
+      c .code .ensures ∙ ap unify-code (rw (c .before .before .n .given .1) at (at-unify .unify .ensures .told)),
+      at-unify .unify .ensures .leaves,
+    )
 
 returns-2 : tie.Need-returns-2
 unfolding unified-told unify-code
-returns-2 c = (c .code2 .ensures ∙ ap unify-code (rw (c .before .enum-told .given .1) at (c .before .before .before .before .before .unify .ensures .told)), c .before .before .before .before .before .unify .ensures .leaves)
+returns-2 c =
+    let at-unify : tie.After-unify = search depth 0 in (
+      c .code2 .ensures ∙ ap unify-code (rw (c .before .enum-told .given .1) at (at-unify .unify .ensures .told)),
+      at-unify .unify .ensures .leaves,
+    )
 
 returns-3 : tie.Need-returns-3
 unfolding unified-told unify-code end-number
-returns-3 c = (c .code3 .ensures ∙ ap unify-code (rw (c .before .enum-told2 .given .1) at (c .before .before .before .before .before .unify .ensures .told)), c .before .before .before .before .before .unify .ensures .leaves)
+returns-3 c =
+    let at-unify : tie.After-unify = search depth 0 in (
+      c .code3 .ensures ∙ ap unify-code (rw (c .before .enum-told2 .given .1) at (at-unify .unify .ensures .told)),
+      at-unify .unify .ensures .leaves,
+    )
 
 returns-4 : tie.Need-returns-4
 unfolding unified-told unify-code
-returns-4 c = (c .code4 .ensures ∙ ap unify-code (rw (c .before .before .number .given .1) at (c .before .before .before .before .before .before .unify .ensures .told)), c .before .before .before .before .before .before .unify .ensures .leaves)
+returns-4 c =
+    let at-unify : tie.After-unify = search depth 0 in (
+      c .code4 .ensures ∙ ap unify-code (rw (c .before .before .number .given .1) at (at-unify .unify .ensures .told)),
+      at-unify .unify .ensures .leaves,
+    )
 
 pub vb-unify-spec : {M : Type 1} → statement M
 vb-unify-spec =

@@ -16,15 +16,28 @@ returns c =
 
 accepted-requires : tie.Need-accepted-requires
 accepted-requires c κs =
-    let q = accepted-needs _ _ _ _ (rw (c .before .before .table-end .given .1) at (c .before .before .before .before .parse .ensures .1)) in ((q .low, q .within, q .small), (q .few, q .budget, (let p = c .before .before .before .before .before .if1 .left in omega arith)))
+    let at-parse : tie.After-parse = search depth 0 in
+    let in-else1 : tie.Else1 = search depth 0 in
+    let q = accepted-needs _ _ _ _ (rw (c .before .before .table-end .given .1) at (at-parse .parse .ensures .1)) in
+    ((q .low, q .within, q .small), (q .few, q .budget, (let p = in-else1 .if1 .left in omega arith)))
 
 returns-2 : tie.Need-returns-2
 returns-2 c =
-    let a = answers-refused _ _ (c .before .before .before .before .if1 .left) _ _ (rw (c .before .number .given .1) at (c .before .before .before .parse .ensures .1)) in (a .answer, (a .bytes, delivers _ _ _ _ a))
+    let at-parse : tie.After-parse = search depth 0 in
+    let in-else1 : tie.Else1 = search depth 0 in
+    let a = answers-refused _ _ (in-else1 .if1 .left) _ _
+    (rw (c .before .number .given .1) at (at-parse .parse .ensures .1)) in
+    (a .answer, (a .bytes, delivers _ _ _ _ a))
 
 returns-3 : tie.Need-returns-3
 returns-3 c =
-    let q = rw (c .before .before .before .before .before .table-end .given .1) at (c .before .before .before .before .before .before .before .parse .ensures .1) in let a = answers-written _ _ (c .before .before .before .before .before .before .before .before .if1 .left) (q .0) (q .1 .is) _ _ (c .before .before .accepted .ensures (q .0) (q .1)) in (a .answer, (a .bytes, delivers _ _ _ _ a))
+    let at-table-end : tie.After-table-end = search depth 0 in
+    let at-parse : tie.After-parse = search depth 0 in
+    let in-else1 : tie.Else1 = search depth 0 in
+    let q = rw (at-table-end .table-end .given .1) at (at-parse .parse .ensures .1) in
+    let a = answers-written _ _ (in-else1 .if1 .left) (q .0) (q .1 .is) _ _
+    (c .before .before .accepted .ensures (q .0) (q .1)) in
+    (a .answer, (a .bytes, delivers _ _ _ _ a))
 
 pub complete-spec : {M : Type 1} → statement M
 complete-spec =

@@ -14,23 +14,26 @@ use Rattle.report.proofs.of_state.Reads as of-state-reads
 -- each bound from those of both forms
 part-of-state-end : tie.Need-part-of-state-end
 part-of-state-end c =
-    let l : length (c .before .before .before .before .before .before .before .args .ran .left) ≡ 120 = search needs in
-    let r : length (c .before .before .before .before .before .before .before .args .ran .right) ≡ 120 = search needs in
-    let p = c .before .before .before .before .before .before .before .pre .1 .0 in
-    let q = c .before .before .before .before .before .before .before .pre .1 .1 in
+    let entry : tie.Start = search depth 0 in
+    let l : length (entry .args .ran .left) ≡ 120 = search needs in
+    let r : length (entry .args .ran .right) ≡ 120 = search needs in
+    let p = entry .pre .1 .0 in
+    let q = entry .pre .1 .1 in
     omega arith
 
 part-of-state-end-2 : tie.Need-part-of-state-end-2
 part-of-state-end-2 c =
-    let l : length (c .before .before .before .before .before .before .before .before .before .args .ran .left) ≡ 120 = search needs in
-    let r : length (c .before .before .before .before .before .before .before .before .before .args .ran .right) ≡ 120 = search needs in
-    let p = c .before .before .before .before .before .before .before .before .before .pre .1 .0 in
-    let q = c .before .before .before .before .before .before .before .before .before .pre .1 .1 in
+    let entry : tie.Start = search depth 0 in
+    let l : length (entry .args .ran .left) ≡ 120 = search needs in
+    let r : length (entry .args .ran .right) ≡ 120 = search needs in
+    let p = entry .pre .1 .0 in
+    let q = entry .pre .1 .1 in
     omega arith
 
 of-state-requires : tie.Need-of-state-requires
 of-state-requires c κs =
-    let P = c .before .before .before .before .before .before .before .before .before .before .before .pre in
+    let entry : tie.Start = search depth 0 in
+    let P = entry .pre in
     let p = P .1 .0 in
     let q = P .1 .1 in
     (P .1 .2, (P .0, (search needs, search needs)))

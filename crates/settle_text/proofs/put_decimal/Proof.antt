@@ -20,25 +20,37 @@ loop-holds : tie.Need-loop-holds Inv-loop μ-loop
 loop-holds c = tens-start _ _ _ _ (c .digits .ensures)
 
 sub-left : tie.Need-sub-left Inv-loop μ-loop
-sub-left c = omega (arith, tens-left _ _ _ (c .before .before .before .before .pre) _ _ _ (c .before .loop .inv) (c .loop-test .taken))
+sub-left c =
+    let entry : tie.Start Inv-loop μ-loop = search depth 0 in
+    omega (arith, tens-left _ _ _ (entry .pre) _ _ _ (c .before .loop .inv) (c .loop-test .taken))
 
 add-out-2 : tie.Need-add-out-2 Inv-loop μ-loop
-add-out-2 c = omega (arith, tens-left _ _ _ (c .before .before .before .before .pre) _ _ _ (c .before .loop .inv) (c .loop-test .taken))
+add-out-2 c =
+    let entry : tie.Start Inv-loop μ-loop = search depth 0 in
+    omega (arith, tens-left _ _ _ (entry .pre) _ _ _ (c .before .loop .inv) (c .loop-test .taken))
 
 slice-write-out : tie.Need-slice-write-out Inv-loop μ-loop
-slice-write-out c = omega (arith, tens-left _ _ _ (c .before .before .before .before .pre) _ _ _ (c .before .loop .inv) (c .loop-test .taken))
+slice-write-out c =
+    let entry : tie.Start Inv-loop μ-loop = search depth 0 in
+    omega (arith, tens-left _ _ _ (entry .pre) _ _ _ (c .before .loop .inv) (c .loop-test .taken))
 
 loop-again : tie.Need-loop-again Inv-loop μ-loop
-loop-again c = tens-more _ _ _ (c .before .before .before .before .pre) _ _ _ (c .before .loop .inv) (c .loop-test .taken)
+loop-again c =
+    let entry : tie.Start Inv-loop μ-loop = search depth 0 in
+    tens-more _ _ _ (entry .pre) _ _ _ (c .before .loop .inv) (c .loop-test .taken)
 
 slice-write-out-2 : tie.Need-slice-write-out-2 Inv-loop μ-loop
-slice-write-out-2 c = tens-room _ _ _ (c .before .before .before .before .pre) _ _ _ (c .before .loop .inv) (c .loop-test .left)
+slice-write-out-2 c =
+    let entry : tie.Start Inv-loop μ-loop = search depth 0 in
+    tens-room _ _ _ (entry .pre) _ _ _ (c .before .loop .inv) (c .loop-test .left)
 
 same-length : tie.Need-same-length Inv-loop μ-loop
 same-length c = simp length-set (c .before .loop .inv .same)
 
 returns : tie.Need-returns Inv-loop μ-loop
-returns c = tens-end _ _ _ (c .before .before .before .before .pre) _ _ _ (c .before .loop .inv) _ (c .before .before .digits .ensures) (c .loop-test .left)
+returns c =
+    let entry : tie.Start Inv-loop μ-loop = search depth 0 in
+    tens-end _ _ _ (entry .pre) _ _ _ (c .before .loop .inv) _ (c .before .before .digits .ensures) (c .loop-test .left)
 
 pub put-decimal-spec : {M : Type 1} → statement M
 put-decimal-spec =

@@ -10,7 +10,13 @@ use Rattle.settle_text.proofs.digit.Reads as digit-reads
 use Rattle.settle_text.proofs.put_byte.Reads as put-byte-reads
 
 returns : tie.Need-returns
-returns c = puts-hex _ _ _ _ _ _ _ _ _ (c .before .before .before .before .before .before .before .before .before .before .before .pre) (c .before .before .before .before .before .before .before .before .digit .ensures) (c .before .before .before .digit2 .ensures) (c .before .before .before .before .before .before .before .put-byte .ensures) (c .before .before .put-byte2 .ensures)
+returns c =
+    let at-digit2 : tie.After-digit2 = search depth 0 in
+    let at-put-byte : tie.After-put-byte = search depth 0 in
+    let at-digit : tie.After-digit = search depth 0 in
+    let entry : tie.Start = search depth 0 in
+    puts-hex _ _ _ _ _ _ _ _ _ (entry .pre) (at-digit .digit .ensures) (at-digit2 .digit2 .ensures)
+    (at-put-byte .put-byte .ensures) (c .before .before .put-byte2 .ensures)
 
 pub put-hex-spec : {M : Type 1} → statement M
 put-hex-spec =

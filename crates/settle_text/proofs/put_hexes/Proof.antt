@@ -20,13 +20,19 @@ loop-holds : tie.Need-loop-holds Inv-loop μ-loop
 loop-holds c = hexing-start _ _ _
 
 loop-again : tie.Need-loop-again Inv-loop μ-loop
-loop-again c = hexing-more _ _ _ (c .before .before .before .before .before .before .before .before .before .pre) _ _ _ (c .before .before .before .before .before .before .loop .inv) _ _ (c .before .before .before .before .before .loop-test .taken) (c .before .before .put-hex .ensures)
+loop-again c =
+    let in-loop : tie.In-loop Inv-loop μ-loop = search depth 0 in
+    let at-loop : tie.At-loop Inv-loop μ-loop = search depth 0 in
+    let entry : tie.Start Inv-loop μ-loop = search depth 0 in
+    hexing-more _ _ _ (entry .pre) _ _ _ (at-loop .loop .inv) _ _ (in-loop .loop-test .taken) (c .before .before .put-hex .ensures)
 
 same-length : tie.Need-same-length Inv-loop μ-loop
 same-length c = c .before .loop .inv .same
 
 returns : tie.Need-returns Inv-loop μ-loop
-returns c = hexing-end _ _ _ (c .before .before .before .before .pre) _ _ _ (c .before .loop .inv) (c .loop-test .left)
+returns c =
+    let entry : tie.Start Inv-loop μ-loop = search depth 0 in
+    hexing-end _ _ _ (entry .pre) _ _ _ (c .before .loop .inv) (c .loop-test .left)
 
 pub put-hexes-spec : {M : Type 1} → statement M
 put-hexes-spec =

@@ -27,25 +27,63 @@ same-length : tie.Need-same-length Inv-loop μ-loop
 same-length c = c .before .before .loop .inv .same
 
 returns : tie.Need-returns Inv-loop μ-loop
-returns c = (printing-room _ _ (c .before .before .before .before .before .pre) _ _ _ (c .before .before .loop .inv), no-head _ _ (c .before .before .before .before .before .pre) _ _ _ (c .before .before .loop .inv) (c .before .loop-test .taken) (c .if1 .taken) _)
+returns c =
+    let at-loop : tie.At-loop Inv-loop μ-loop = search depth 0 in
+    let entry : tie.Start Inv-loop μ-loop = search depth 0 in (
+      printing-room _ _ (entry .pre) _ _ _ (at-loop .loop .inv),
+      no-head _ _ (entry .pre) _ _ _ (at-loop .loop .inv) (c .before .loop-test .taken) (c .if1 .taken) _,
+    )
 
 same-length-2 : tie.Need-same-length-2 Inv-loop μ-loop
-same-length-2 c = c .before .before .before .before .before .before .before .loop .inv .same
+same-length-2 c =
+    let at-loop : tie.At-loop Inv-loop μ-loop = search depth 0 in
+    at-loop .loop .inv .same
 
 returns-2 : tie.Need-returns-2 Inv-loop μ-loop
-returns-2 c = (printing-room _ _ (c .before .before .before .before .before .before .before .before .before .before .pre) _ _ _ (c .before .before .before .before .before .before .before .loop .inv), no-contents _ _ (c .before .before .before .before .before .before .before .before .before .before .pre) _ _ _ (c .before .before .before .before .before .before .before .loop .inv) (c .before .before .before .before .before .before .loop-test .taken) _ (ap₂ (λ x y. 256 * x + y) (c .before .before .before .wide .ensures .0) (c .before .wide2 .ensures .0)) (c .if2 .taken) _)
+returns-2 c =
+    let at-wide : tie.After-wide Inv-loop μ-loop = search depth 0 in
+    let in-loop : tie.In-loop Inv-loop μ-loop = search depth 0 in
+    let at-loop : tie.At-loop Inv-loop μ-loop = search depth 0 in
+    let entry : tie.Start Inv-loop μ-loop = search depth 0 in (
+      printing-room _ _ (entry .pre) _ _ _ (at-loop .loop .inv),
+      no-contents _ _ (entry .pre) _ _ _ (at-loop .loop .inv) (in-loop .loop-test .taken) _
+          (ap₂ (λ x y. 256 * x + y) (at-wide .wide .ensures .0) (c .before .wide2 .ensures .0)) (c .if2 .taken) _,
+    )
 
 put-line-requires : tie.Need-put-line-requires Inv-loop μ-loop
-put-line-requires c κs = line-room _ _ (c .before .before .before .before .before .before .before .before .before .before .before .before .before .pre) _ _ _ (c .before .before .before .before .before .before .before .before .before .before .loop .inv) (256 * c .before .before .before .before .before .before .wide .result + c .before .before .before .before .wide2 .result) (c .before .before .before .before .before .before .before .before .if1 .left) (c .before .before .before .if2 .left) (omega (arith, c .before .before .before .before .before .before .wide .ensures .1, c .before .before .before .before .wide2 .ensures .1))
+put-line-requires c κs =
+    let in-else2 : tie.Else2 Inv-loop μ-loop = search depth 0 in
+    let at-wide2 : tie.After-wide2 Inv-loop μ-loop = search depth 0 in
+    let at-wide : tie.After-wide Inv-loop μ-loop = search depth 0 in
+    let in-else1 : tie.Else1 Inv-loop μ-loop = search depth 0 in
+    let at-loop : tie.At-loop Inv-loop μ-loop = search depth 0 in
+    let entry : tie.Start Inv-loop μ-loop = search depth 0 in
+    line-room _ _ (entry .pre) _ _ _ (at-loop .loop .inv) (256 * at-wide .wide .result + at-wide2 .wide2 .result)
+    (in-else1 .if1 .left) (in-else2 .if2 .left) (omega (arith, at-wide .wide .ensures .1, at-wide2 .wide2 .ensures .1))
 
 loop-again : tie.Need-loop-again Inv-loop μ-loop
-loop-again c = printing-more _ _ (c .before .before .before .before .before .before .before .before .before .before .before .before .before .before .before .before .pre) _ _ _ (c .before .before .before .before .before .before .before .before .before .before .before .before .before .loop .inv) (c .before .before .before .before .before .before .before .before .before .before .before .before .loop-test .taken) _ (ap₂ (λ x y. 256 * x + y) (c .before .before .before .before .before .before .before .before .before .wide .ensures .0) (c .before .before .before .before .before .before .before .wide2 .ensures .0)) (c .before .before .before .before .before .before .before .before .before .before .before .if1 .left) (c .before .before .before .before .before .before .if2 .left) _ _ (c .before .before .put-line .ensures)
+loop-again c =
+    let in-else2 : tie.Else2 Inv-loop μ-loop = search depth 0 in
+    let at-wide2 : tie.After-wide2 Inv-loop μ-loop = search depth 0 in
+    let at-wide : tie.After-wide Inv-loop μ-loop = search depth 0 in
+    let in-else1 : tie.Else1 Inv-loop μ-loop = search depth 0 in
+    let in-loop : tie.In-loop Inv-loop μ-loop = search depth 0 in
+    let at-loop : tie.At-loop Inv-loop μ-loop = search depth 0 in
+    let entry : tie.Start Inv-loop μ-loop = search depth 0 in
+    printing-more _ _ (entry .pre) _ _ _ (at-loop .loop .inv) (in-loop .loop-test .taken) _
+    (ap₂ (λ x y. 256 * x + y) (at-wide .wide .ensures .0) (at-wide2 .wide2 .ensures .0)) (in-else1 .if1 .left)
+    (in-else2 .if2 .left) _ _ (c .before .before .put-line .ensures)
 
 same-length-3 : tie.Need-same-length-3 Inv-loop μ-loop
 same-length-3 c = c .before .loop .inv .same
 
 returns-3 : tie.Need-returns-3 Inv-loop μ-loop
-returns-3 c = (printing-room _ _ (c .before .before .before .before .pre) _ _ _ (c .before .loop .inv), printing-end _ _ (c .before .before .before .before .pre) _ _ _ (c .before .loop .inv) (c .loop-test .left))
+returns-3 c =
+    let at-loop : tie.At-loop Inv-loop μ-loop = search depth 0 in
+    let entry : tie.Start Inv-loop μ-loop = search depth 0 in (
+      printing-room _ _ (entry .pre) _ _ _ (at-loop .loop .inv),
+      printing-end _ _ (entry .pre) _ _ _ (at-loop .loop .inv) (c .loop-test .left),
+    )
 
 pub put-lines-spec : {M : Type 1} → statement M
 put-lines-spec =

@@ -12,23 +12,51 @@ use Rattle.settle_text.proofs.put_byte.Reads as put-byte-reads
 use Rattle.settle_text.proofs.put_decimal.Reads as put-decimal-reads
 use Rattle.store.proofs.paste.Reads as paste-reads
 
+-- Places, found by their types: the only field of a type is the place itself.
+abbrev entry-of-paste : tie.After-paste → tie.Start
+entry-of-paste at = search depth 0
+
+abbrev paste-of-paste2 : tie.After-paste2 → tie.After-paste
+paste-of-paste2 at = search depth 0
+
+abbrev entry-of-paste2 : tie.After-paste2 → tie.Start
+entry-of-paste2 at = entry-of-paste (paste-of-paste2 at)
+
 put-decimal-requires : tie.Need-put-decimal-requires
-put-decimal-requires c κs = omega (arith, twenty-digits (c .before .before .before .before .before .before .before .args .number) (search needs))
+put-decimal-requires c κs =
+    let entry : tie.Start = search depth 0 in
+    omega (arith, twenty-digits (entry .args .number) (search needs))
 
 paste-requires-2 : tie.Need-paste-requires-2
-paste-requires-2 c κs = omega (arith, twenty-digits (c .before .before .before .before .before .before .before .before .before .before .before .before .args .number) (search needs))
+paste-requires-2 c κs =
+    let entry : tie.Start = search depth 0 in
+    omega (arith, twenty-digits (entry .args .number) (search needs))
 
 add-put-decimal : tie.Need-add-put-decimal
-add-put-decimal c = omega (arith, twenty-digits (c .before .before .before .before .before .before .before .before .before .before .before .before .before .before .before .before .args .number) (search needs))
+add-put-decimal c =
+    let entry = entry-of-paste (search depth 0) in
+    omega (arith, twenty-digits (entry .args .number) (search needs))
 
 put-decimal-requires-2 : tie.Need-put-decimal-requires-2
-put-decimal-requires-2 c κs = omega (arith, twenty-digits (c .before .before .before .before .before .before .before .before .before .before .before .before .before .before .before .before .args .number) (search needs), twenty-digits (c .before .before .before .before .before .before .before .before .before .before .before .before .before .before .before .before .args .place) (search needs))
+put-decimal-requires-2 c κs =
+    let entry = entry-of-paste (search depth 0) in
+    omega (arith, twenty-digits (entry .args .number) (search needs), twenty-digits (entry .args .place) (search needs))
 
 put-byte-requires : tie.Need-put-byte-requires
-put-byte-requires c κs = omega (arith, twenty-digits (c .before .before .before .before .before .before .before .before .before .before .before .before .before .before .before .before .before .before .before .before .args .number) (search needs), twenty-digits (c .before .before .before .before .before .before .before .before .before .before .before .before .before .before .before .before .before .before .before .before .args .place) (search needs))
+put-byte-requires c κs =
+    let entry = entry-of-paste2 (search depth 0) in
+    omega (arith, twenty-digits (entry .args .number) (search needs), twenty-digits (entry .args .place) (search needs))
 
 returns : tie.Need-returns
-returns c = puts-refused _ _ _ _ _ _ _ _ _ _ _ (c .before .before .before .before .before .before .before .before .before .before .before .before .before .before .before .before .before .before .before .before .before .before .before .pre) (search needs) (search needs) (c .before .before .before .before .before .before .before .before .before .before .before .before .before .before .before .before .before .before .before .paste .ensures) (c .before .before .before .before .before .before .before .before .before .before .before .before .before .before .before .put-decimal .ensures) (c .before .before .before .before .before .before .before .before .before .before .paste2 .ensures) (c .before .before .before .before .before .before .put-decimal2 .ensures) (c .before .before .put-byte .ensures)
+returns c =
+    let at-put-decimal2 : tie.After-put-decimal2 = search depth 0 in
+    let at-paste2 : tie.After-paste2 = search depth 0 in
+    let at-put-decimal : tie.After-put-decimal = search depth 0 in
+    let at-paste : tie.After-paste = search depth 0 in
+    let entry : tie.Start = search depth 0 in
+    puts-refused _ _ _ _ _ _ _ _ _ _ _ (entry .pre) (search needs) (search needs) (at-paste .paste .ensures)
+    (at-put-decimal .put-decimal .ensures) (at-paste2 .paste2 .ensures) (at-put-decimal2 .put-decimal2 .ensures)
+    (c .before .before .put-byte .ensures)
 
 pub put-refused-spec : {M : Type 1} → statement M
 put-refused-spec =

@@ -29,11 +29,21 @@ part-put-lines-start c = search needs
 
 part-put-lines-end : tie.Need-part-put-lines-end
 part-put-lines-end c =
-    let f = (got _ _ _ _ _ _ (c .before .before .before .n .given .1) (c .before .before .before .before .before .before .complete .ensures .0) (c .before .before .before .before .before .before .complete .ensures .1 .0)) .few in omega arith
+    let at-n : tie.After-n = search depth 0 in
+    let at-complete : tie.After-complete = search depth 0 in
+    let f =
+    (got _ _ _ _ _ _ (at-n .n .given .1) (at-complete .complete .ensures .0) (at-complete .complete .ensures .1 .0)) .few in
+    omega arith
 
 put-lines-requires : tie.Need-put-lines-requires
 put-lines-requires c κs =
-    let f = (got _ _ _ _ _ _ (c .before .before .before .before .n .given .1) (c .before .before .before .before .before .before .before .complete .ensures .0) (c .before .before .before .before .before .before .before .complete .ensures .1 .0)) .few in let p = c .before .before .before .before .before .before .before .before .before .before .before .pre in search needs
+    let at-n : tie.After-n = search depth 0 in
+    let at-complete : tie.After-complete = search depth 0 in
+    let entry : tie.Start = search depth 0 in
+    let f =
+    (got _ _ _ _ _ _ (at-n .n .given .1) (at-complete .complete .ensures .0) (at-complete .complete .ensures .1 .0)) .few in
+    let p = entry .pre in
+    search needs
 
 enum-known-number : tie.Need-enum-known-number
 enum-known-number c = search needs
@@ -49,14 +59,27 @@ same-length c = search needs
 
 returns : tie.Need-returns
 returns c =
-    let g = got _ _ _ _ _ _ (c .before .before .before .before .before .before .before .n .given .1) (c .before .before .before .before .before .before .before .before .before .before .complete .ensures .0) (c .before .before .before .before .before .before .before .before .before .before .complete .ensures .1 .0) in (prints-lines _ _ _ _ _ _ _ g (search needs) (c .before .before .put-lines .ensures .1), c .before .before .put-lines .ensures .0)
+    let at-put-lines : tie.After-put-lines = search depth 0 in
+    let at-n : tie.After-n = search depth 0 in
+    let at-complete : tie.After-complete = search depth 0 in
+    let g = got _ _ _ _ _ _ (at-n .n .given .1) (at-complete .complete .ensures .0)
+    (at-complete .complete .ensures .1 .0) in
+    (prints-lines _ _ _ _ _ _ _ g (search needs) (at-put-lines .put-lines .ensures .1), at-put-lines .put-lines .ensures .0)
 
 same-length-2 : tie.Need-same-length-2
 same-length-2 c = search needs
 
 returns-2 : tie.Need-returns-2
 returns-2 c =
-    (prints-refused _ _ _ _ _ _ _ _ _ (c .before .before .before .before .before .before .number .given .1) (c .before .before .before .before .before .before .before .before .before .complete .ensures .0) (c .before .before .before .wide .ensures .0) (search needs) (c .before .before .put-refused .ensures .1), (let p = c .before .before .put-refused .ensures .0 in let q = c .before .before .before .before .before .before .before .before .before .before .before .before .before .pre in omega arith))
+    let at-put-refused : tie.After-put-refused = search depth 0 in
+    let at-wide : tie.After-wide = search depth 0 in
+    let at-number : tie.After-number = search depth 0 in
+    let at-complete : tie.After-complete = search depth 0 in
+    let entry : tie.Start = search depth 0 in (
+      prints-refused _ _ _ _ _ _ _ _ _ (at-number .number .given .1) (at-complete .complete .ensures .0)
+          (at-wide .wide .ensures .0) (search needs) (at-put-refused .put-refused .ensures .1),
+      (let p = at-put-refused .put-refused .ensures .0 in let q = entry .pre in omega arith),
+    )
 
 pub text-spec : {M : Type 1} → statement M
 text-spec =
