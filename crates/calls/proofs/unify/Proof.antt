@@ -11,38 +11,64 @@ returns : tie.Need-returns
 returns c = unify-short _ _ (c .if1 .taken)
 
 sub-common-instance : tie.Need-sub-common-instance
-sub-common-instance c = let A = rw (c .before .table-end .given .1) at (c .before .before .before .sides .ensures) in omega (arith, in-order _ _ _ _ _ _ (A .1))
+sub-common-instance c =
+    let at-sides : tie.After-sides = search depth 0 in
+    let A = rw (c .before .table-end .given .1) at (at-sides .sides .ensures) in omega (arith, in-order _ _ _ _ _ _ (A .1))
 
 part-common-instance-start : tie.Need-part-common-instance-start
-part-common-instance-start c = let A = rw (c .before .table-end .given .1) at (c .before .before .before .sides .ensures) in omega (arith, in-order _ _ _ _ _ _ (A .1))
+part-common-instance-start c =
+    let at-sides : tie.After-sides = search depth 0 in
+    let A = rw (c .before .table-end .given .1) at (at-sides .sides .ensures) in omega (arith, in-order _ _ _ _ _ _ (A .1))
 
 part-common-instance-end : tie.Need-part-common-instance-end
-part-common-instance-end c = let A = rw (c .before .table-end .given .1) at (c .before .before .before .sides .ensures) in omega (arith, in-order _ _ _ _ _ _ (A .1))
+part-common-instance-end c =
+    let at-sides : tie.After-sides = search depth 0 in
+    let A = rw (c .before .table-end .given .1) at (at-sides .sides .ensures) in omega (arith, in-order _ _ _ _ _ _ (A .1))
 
 sub-common-instance-2 : tie.Need-sub-common-instance-2
-sub-common-instance-2 c = let A = rw (c .before .before .table-end .given .1) at (c .before .before .before .before .sides .ensures) in omega (arith, in-order _ _ _ _ _ _ (A .1))
+sub-common-instance-2 c =
+    let at-sides : tie.After-sides = search depth 0 in
+    let A = rw (c .before .before .table-end .given .1) at (at-sides .sides .ensures) in omega (arith, in-order _ _ _ _ _ _ (A .1))
 
 part-common-instance-start-2 : tie.Need-part-common-instance-start-2
-part-common-instance-start-2 c = let A = rw (c .before .before .table-end .given .1) at (c .before .before .before .before .sides .ensures) in omega (arith, in-order _ _ _ _ _ _ (A .1))
+part-common-instance-start-2 c =
+    let at-sides : tie.After-sides = search depth 0 in
+    let A = rw (c .before .before .table-end .given .1) at (at-sides .sides .ensures) in omega (arith, in-order _ _ _ _ _ _ (A .1))
 
 part-common-instance-end-2 : tie.Need-part-common-instance-end-2
-part-common-instance-end-2 c = let A = rw (c .before .before .table-end .given .1) at (c .before .before .before .before .sides .ensures) in omega (arith, in-order _ _ _ _ _ _ (A .1))
+part-common-instance-end-2 c =
+    let at-sides : tie.After-sides = search depth 0 in
+    let A = rw (c .before .before .table-end .given .1) at (at-sides .sides .ensures) in omega (arith, in-order _ _ _ _ _ _ (A .1))
 
 sub-common-instance-3 : tie.Need-sub-common-instance-3
-sub-common-instance-3 c = let A = rw (c .before .before .before .table-end .given .1) at (c .before .before .before .before .before .sides .ensures) in omega (arith, in-order _ _ _ _ _ _ (A .1))
+sub-common-instance-3 c =
+    let at-table-end : tie.After-table-end = search depth 0 in
+    let at-sides : tie.After-sides = search depth 0 in
+    let A = rw (at-table-end .table-end .given .1) at (at-sides .sides .ensures) in omega (arith, in-order _ _ _ _ _ _ (A .1))
 
 common-instance-requires : tie.Need-common-instance-requires
 common-instance-requires c κs =
-    let A = rw (c .before .before .before .before .table-end .given .1) at (c .before .before .before .before .before .before .sides .ensures) in
-    (unify-two _ (c .before .before .before .before .before .before .before .before .before .before .args .result .now) (c .before .before .before .before .before .before .before .if1 .left) _ _ _ _ _ (A .1), omega (arith, c .before .before .before .before .before .before .before .if1 .left))
+    let at-table-end : tie.After-table-end = search depth 0 in
+    let at-sides : tie.After-sides = search depth 0 in
+    let in-else1 : tie.Else1 = search depth 0 in
+    let entry : tie.Start = search depth 0 in
+    let A = rw (at-table-end .table-end .given .1) at (at-sides .sides .ensures) in
+    (unify-two _ (entry .args .result .now) (in-else1 .if1 .left) _ _ _ _ _ (A .1), omega (arith, in-else1 .if1 .left))
 
 returns-2 : tie.Need-returns-2
-returns-2 c = unify-unread _ _ (c .before .before .before .before .if1 .left) _ _ (rw (c .before .number .given .1) at (c .before .before .before .sides .ensures))
+returns-2 c =
+    let at-sides : tie.After-sides = search depth 0 in
+    let in-else1 : tie.Else1 = search depth 0 in
+    unify-unread _ _ (in-else1 .if1 .left) _ _ (rw (c .before .number .given .1) at (at-sides .sides .ensures))
 
 returns-3 : tie.Need-returns-3
 returns-3 c =
-    let A = rw (c .before .before .before .before .before .before .before .before .table-end .given .1) at (c .before .before .before .before .before .before .before .before .before .before .sides .ensures) in
-    unify-answers _ _ (c .before .before .before .before .before .before .before .before .before .before .before .if1 .left) _ _ _ _ _ (A .1) _ _ _ (c .before .before .before .common-instance .ensures) (c .answer .ensures)
+    let at-common-instance : tie.After-common-instance = search depth 0 in
+    let at-table-end : tie.After-table-end = search depth 0 in
+    let at-sides : tie.After-sides = search depth 0 in
+    let in-else1 : tie.Else1 = search depth 0 in
+    let A = rw (at-table-end .table-end .given .1) at (at-sides .sides .ensures) in
+    unify-answers _ _ (in-else1 .if1 .left) _ _ _ _ _ (A .1) _ _ _ (at-common-instance .common-instance .ensures) (c .answer .ensures)
 
 pub unify-spec : {M : Type 1} → statement M
 unify-spec =

@@ -25,13 +25,26 @@ returns : tie.Need-returns Inv-loop μ-loop
 returns c = no-clash _ _ _ _
 
 returns-2 : tie.Need-returns-2 Inv-loop μ-loop
-returns-2 c = going-clash _ _ _ _ _ _ (c .before .differ .result) (c .before .before .before .before .before .before .loop .inv) (c .before .before .before .before .before .loop-test .taken) (omega (arith, c .before .before .before .before .if1 .left)) (c .before .differ .ensures) (c .if2 .taken)
+returns-2 c =
+    let at-differ : tie.After-differ Inv-loop μ-loop = search depth 0 in
+    let in-else1 : tie.Else1 Inv-loop μ-loop = search depth 0 in
+    let in-loop : tie.In-loop Inv-loop μ-loop = search depth 0 in
+    let at-loop : tie.At-loop Inv-loop μ-loop = search depth 0 in
+    going-clash _ _ _ _ _ _ (at-differ .differ .result) (at-loop .loop .inv) (in-loop .loop-test .taken)
+    (omega (arith, in-else1 .if1 .left)) (at-differ .differ .ensures) (c .if2 .taken)
 
 loop-less : tie.Need-loop-less Inv-loop μ-loop
-loop-less c = omega (arith, c .before .past .ensures .on, c .before .before .before .before .before .before .before .loop-test .taken)
+loop-less c =
+    let in-loop : tie.In-loop Inv-loop μ-loop = search depth 0 in
+    omega (arith, c .before .past .ensures .on, in-loop .loop-test .taken)
 
 loop-again : tie.Need-loop-again Inv-loop μ-loop
-loop-again c = going-next _ _ _ _ _ _ _ _ (c .before .before .before .before .before .before .before .before .loop .inv) (c .before .before .before .before .before .before .before .loop-test .taken) (omega (arith, c .before .before .before .before .before .before .if1 .left)) (c .before .past .ensures) (c .past2 .ensures)
+loop-again c =
+    let in-else1 : tie.Else1 Inv-loop μ-loop = search depth 0 in
+    let in-loop : tie.In-loop Inv-loop μ-loop = search depth 0 in
+    let at-loop : tie.At-loop Inv-loop μ-loop = search depth 0 in
+    going-next _ _ _ _ _ _ _ _ (at-loop .loop .inv) (in-loop .loop-test .taken) (omega (arith, in-else1 .if1 .left))
+    (c .before .past .ensures) (c .past2 .ensures)
 
 returns-3 : tie.Need-returns-3 Inv-loop μ-loop
 returns-3 c = no-clash _ _ _ _

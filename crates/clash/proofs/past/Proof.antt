@@ -12,7 +12,9 @@ returns : tie.Need-returns
 returns c = past-same _ _ _ _ (c .if1 .taken)
 
 returns-2 : tie.Need-returns-2
-returns-2 c = past-other _ _ _ _ _ (c .before .before .before .before .before .pre .0) (c .before .if1 .left) (c .term-end .ensures .0)
+returns-2 c =
+    let entry : tie.Start = search depth 0 in
+    past-other _ _ _ _ _ (entry .pre .0) (c .before .if1 .left) (c .term-end .ensures .0)
 
 pub past-spec : {M : Type 1} → statement M
 past-spec =

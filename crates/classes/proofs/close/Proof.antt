@@ -17,31 +17,66 @@ abbrev μ-loop : tie.MeasureT-loop
 μ-loop nodes table ends class₀ i₀ again₀ class i again = left-over nodes class i again
 
 loop-holds : tie.Need-loop-holds Inv-loop μ-loop
-loop-holds c = closing-start _ _ _ _ (c .before .before .before .before .pre)
+loop-holds c =
+    let entry : tie.Start Inv-loop μ-loop = search depth 0 in
+    closing-start _ _ _ _ (entry .pre)
 
 step-at-requires : tie.Need-step-at-requires Inv-loop μ-loop
 step-at-requires c κs = (c .before .before .loop .inv .ready, c .before .if1 .taken)
 
 loop-less : tie.Need-loop-less Inv-loop μ-loop
-loop-less c = closing-falls _ _ _ _ _ _ _ (c .before .before .before .before .before .loop .inv) (c .before .before .before .before .if1 .taken) (c .before .before .step-at .result) (c .before .before .step-at .ensures)
+loop-less c =
+    let at-step-at : tie.After-step-at Inv-loop μ-loop = search depth 0 in
+    let in-then1 : tie.Then1 Inv-loop μ-loop = search depth 0 in
+    let at-loop : tie.At-loop Inv-loop μ-loop = search depth 0 in
+    closing-falls _ _ _ _ _ _ _ (at-loop .loop .inv) (in-then1 .if1 .taken) (at-step-at .step-at .result) (at-step-at .step-at .ensures)
 
 loop-again : tie.Need-loop-again Inv-loop μ-loop
-loop-again c = closing-next _ _ _ _ _ _ _ (c .before .before .before .before .before .loop .inv) (c .before .before .before .before .if1 .taken) (c .before .before .step-at .result) (c .before .before .step-at .ensures) (c .enum-told .given .1)
+loop-again c =
+    let at-step-at : tie.After-step-at Inv-loop μ-loop = search depth 0 in
+    let in-then1 : tie.Then1 Inv-loop μ-loop = search depth 0 in
+    let at-loop : tie.At-loop Inv-loop μ-loop = search depth 0 in
+    closing-next _ _ _ _ _ _ _ (at-loop .loop .inv) (in-then1 .if1 .taken) (at-step-at .step-at .result)
+    (at-step-at .step-at .ensures) (c .enum-told .given .1)
 
 same-length : tie.Need-same-length Inv-loop μ-loop
-same-length c = c .before .before .before .before .before .loop .inv .long
+same-length c =
+    let at-loop : tie.At-loop Inv-loop μ-loop = search depth 0 in
+    at-loop .loop .inv .long
 
 returns : tie.Need-returns Inv-loop μ-loop
-returns c = closing-clash _ _ _ _ _ _ _ (c .before .before .before .before .before .loop .inv) (c .before .before .before .before .if1 .taken) (c .before .before .step-at .result) (c .before .before .step-at .ensures) (c .enum-told2 .given .1)
+returns c =
+    let at-step-at : tie.After-step-at Inv-loop μ-loop = search depth 0 in
+    let in-then1 : tie.Then1 Inv-loop μ-loop = search depth 0 in
+    let at-loop : tie.At-loop Inv-loop μ-loop = search depth 0 in
+    closing-clash _ _ _ _ _ _ _ (at-loop .loop .inv) (in-then1 .if1 .taken) (at-step-at .step-at .result)
+    (at-step-at .step-at .ensures) (c .enum-told2 .given .1)
 
 join-requires : tie.Need-join-requires Inv-loop μ-loop
-join-requires c κs = closing-requires _ _ _ _ _ _ _ (c .before .before .before .before .before .before .before .loop .inv) (c .before .before .before .before .before .before .if1 .taken) (c .before .before .before .before .step-at .result) (c .before .before .before .before .step-at .ensures) _ _ (c .before .before .s .given .1)
+join-requires c κs =
+    let at-step-at : tie.After-step-at Inv-loop μ-loop = search depth 0 in
+    let in-then1 : tie.Then1 Inv-loop μ-loop = search depth 0 in
+    let at-loop : tie.At-loop Inv-loop μ-loop = search depth 0 in
+    closing-requires _ _ _ _ _ _ _ (at-loop .loop .inv) (in-then1 .if1 .taken) (at-step-at .step-at .result)
+    (at-step-at .step-at .ensures) _ _ (c .before .before .s .given .1)
 
 loop-less-2 : tie.Need-loop-less-2 Inv-loop μ-loop
-loop-less-2 c = closing-less _ _ _ _ _ _ _ (c .before .before .before .before .before .before .before .before .before .before .loop .inv) (c .before .before .before .before .before .before .before .before .before .if1 .taken) (c .before .before .before .before .before .before .before .step-at .result) (c .before .before .before .before .before .before .before .step-at .ensures) _ _ (c .before .before .before .before .before .s .given .1) _ (c .before .before .join .ensures)
+loop-less-2 c =
+    let at-s : tie.After-s Inv-loop μ-loop = search depth 0 in
+    let at-step-at : tie.After-step-at Inv-loop μ-loop = search depth 0 in
+    let in-then1 : tie.Then1 Inv-loop μ-loop = search depth 0 in
+    let at-loop : tie.At-loop Inv-loop μ-loop = search depth 0 in
+    closing-less _ _ _ _ _ _ _ (at-loop .loop .inv) (in-then1 .if1 .taken) (at-step-at .step-at .result)
+    (at-step-at .step-at .ensures) _ _ (at-s .s .given .1) _ (c .before .before .join .ensures)
 
 loop-again-2 : tie.Need-loop-again-2 Inv-loop μ-loop
-loop-again-2 c = closing-more _ _ _ _ _ _ _ (c .before .before .before .before .before .before .before .before .before .before .loop .inv) (c .before .before .before .before .before .before .before .before .before .if1 .taken) (c .before .before .before .before .before .before .before .step-at .result) (c .before .before .before .before .before .before .before .step-at .ensures) _ _ (c .before .before .before .before .before .s .given .1) _ (c .before .before .join .ensures)
+loop-again-2 c =
+    let at-s : tie.After-s Inv-loop μ-loop = search depth 0 in
+    let at-step-at : tie.After-step-at Inv-loop μ-loop = search depth 0 in
+    let in-then1 : tie.Then1 Inv-loop μ-loop = search depth 0 in
+    let at-loop : tie.At-loop Inv-loop μ-loop = search depth 0 in
+    closing-more _ _ _ _ _ _ _ (at-loop .loop .inv) (in-then1 .if1 .taken) (at-step-at .step-at .result)
+    (at-step-at .step-at .ensures) _ _ (at-s .s .given .1) _ (c .before .before .join .ensures)
 
 same-length-2 : tie.Need-same-length-2 Inv-loop μ-loop
 same-length-2 c = c .before .before .loop .inv .long

@@ -10,10 +10,18 @@ use Rattle.classes.proofs.key.Reads as key-reads
 use Rattle.classes.proofs.relabel.Reads as relabel-reads
 
 returns : tie.Need-returns
-returns c = joined-first _ _ _ _ _ _ _ (c .before .before .before .before .before .before .key .ensures) (c .before .before .before .before .before .key2 .ensures) (c .before .before .before .before .if1 .taken) (c .before .before .relabel .ensures)
+returns c =
+    let in-then1 : tie.Then1 = search depth 0 in
+    let at-key2 : tie.After-key2 = search depth 0 in
+    let at-key : tie.After-key = search depth 0 in
+    joined-first _ _ _ _ _ _ _ (at-key .key .ensures) (at-key2 .key2 .ensures) (in-then1 .if1 .taken) (c .before .before .relabel .ensures)
 
 returns-2 : tie.Need-returns-2
-returns-2 c = joined-second _ _ _ _ _ _ _ (c .before .before .before .before .before .before .key .ensures) (c .before .before .before .before .before .key2 .ensures) (c .before .before .before .before .if1 .left) (c .before .before .relabel2 .ensures)
+returns-2 c =
+    let in-else1 : tie.Else1 = search depth 0 in
+    let at-key2 : tie.After-key2 = search depth 0 in
+    let at-key : tie.After-key = search depth 0 in
+    joined-second _ _ _ _ _ _ _ (at-key .key .ensures) (at-key2 .key2 .ensures) (in-else1 .if1 .left) (c .before .before .relabel2 .ensures)
 
 pub join-spec : {M : Type 1} → statement M
 join-spec =

@@ -20,7 +20,9 @@ loop-holds : tie.Need-loop-holds Inv-loop μ-loop
 loop-holds c = mapped-start _ _
 
 loop-again : tie.Need-loop-again Inv-loop μ-loop
-loop-again c = mapped-more _ _ _ _ _ (c .before .before .before .loop .inv) (c .before .before .loop-test .taken) (c .relabel-node .ensures)
+loop-again c =
+    let at-loop : tie.At-loop Inv-loop μ-loop = search depth 0 in
+    mapped-more _ _ _ _ _ (at-loop .loop .inv) (c .before .before .loop-test .taken) (c .relabel-node .ensures)
 
 returns : tie.Need-returns Inv-loop μ-loop
 returns c = mapped-end _ _ _ _ (c .before .loop .inv) (c .loop-test .left)

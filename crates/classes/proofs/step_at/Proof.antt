@@ -18,17 +18,37 @@ returns c = root-closed _ _ _ _ (c .before .wide .ensures .0) (c .if1 .taken)
 returns-2 : tie.Need-returns-2
 returns-2 c = λ l. absurd (omega arith)
 
+-- Places, found by their types: the only field of a type is the place itself.
+abbrev entry-of-wide : tie.After-wide → tie.Start
+entry-of-wide at = search depth 0
+
 shared-slice-read-if3 : tie.Need-shared-slice-read-if3
-shared-slice-read-if3 c = ready-within _ _ _ _ (c .before .before .before .before .before .before .before .before .before .before .pre .0) _ _ (c .before .before .before .before .before .before .before .before .before .before .pre .1) (c .before .before .before .before .wide .ensures .0)
+shared-slice-read-if3 c =
+    let at-wide : tie.After-wide = search depth 0 in
+    let entry : tie.Start = search depth 0 in
+    ready-within _ _ _ _ (entry .pre .0) _ _ (entry .pre .1) (at-wide .wide .ensures .0)
 
 returns-3 : tie.Need-returns-3
-returns-3 c = ready-clash _ _ _ _ (c .before .before .before .before .before .before .before .before .before .before .before .pre .0) _ _ (c .before .before .before .before .before .before .before .before .before .before .before .pre .1) (c .before .before .before .before .before .wide .ensures .0) (c .before .before .if2 .left) (c .if3 .taken)
+returns-3 c =
+    let at-wide : tie.After-wide = search depth 0 in
+    let entry : tie.Start = search depth 0 in
+    ready-clash _ _ _ _ (entry .pre .0) _ _ (entry .pre .1) (at-wide .wide .ensures .0) (c .before .before .if2 .left) (c .if3 .taken)
 
 apart-requires : tie.Need-apart-requires
-apart-requires c κs = ready-arguments _ _ _ _ (c .before .before .before .before .before .before .before .before .before .before .before .before .pre .0) _ _ _ (c .before .before .before .before .before .before .before .before .before .before .before .before .pre .1) (c .before .before .before .before .before .before .wide .ensures .0) (c .before .before .before .if2 .left) (c .before .if3 .left) (c .owed-by .ensures .0)
+apart-requires c κs =
+    let in-else2 : tie.Else2 = search depth 0 in
+    let at-wide : tie.After-wide = search depth 0 in
+    let entry = entry-of-wide at-wide in
+    ready-arguments _ _ _ _ (entry .pre .0) _ _ _ (entry .pre .1) (at-wide .wide .ensures .0) (in-else2 .if2 .left)
+    (c .before .if3 .left) (c .owed-by .ensures .0)
 
 returns-4 : tie.Need-returns-4
-returns-4 c = ready-step _ _ _ _ (c .before .before .before .before .before .before .before .before .before .before .before .before .before .pre .0) _ _ _ (c .before .before .before .before .before .before .before .before .before .before .before .before .before .pre .1) (c .before .before .before .before .before .before .before .wide .ensures .0) (c .before .before .before .before .if2 .left) (c .before .before .if3 .left) (c .before .owed-by .ensures .0) (c .apart .result) (c .apart .ensures)
+returns-4 c =
+    let in-else2 : tie.Else2 = search depth 0 in
+    let at-wide : tie.After-wide = search depth 0 in
+    let entry = entry-of-wide at-wide in
+    ready-step _ _ _ _ (entry .pre .0) _ _ _ (entry .pre .1) (at-wide .wide .ensures .0) (in-else2 .if2 .left)
+    (c .before .before .if3 .left) (c .before .owed-by .ensures .0) (c .apart .result) (c .apart .ensures)
 
 pub step-at-spec : {M : Type 1} → statement M
 step-at-spec =

@@ -14,17 +14,34 @@ use Rattle.collapse.proofs.rewrites.Reads as rewrites-reads
 use Rattle.store.proofs.copy_slot.Reads as copy-slot-reads
 use Rattle.store.proofs.move_slot.Reads as move-slot-reads
 
+-- Places, found by their types: the only field of a type is the place itself.
+abbrev entry-of-rewrites : tie.After-rewrites → tie.Start
+entry-of-rewrites at = search depth 0
+
 rewrites-requires : tie.Need-rewrites-requires
 rewrites-requires c κs =
-    (layout-below [] _ _ _ (c .before .before .before .before .before .before .before .before .before .before .before .args .i) (c .before .before .before .before .before .before .before .before .before .before .before .pre .0 .0 .rules-fit) (c .before .before .before .before .before .before .before .before .before .before .before .pre .1 .1), c .before .before .before .before .before .before .before .before .before .before .before .pre .0 .1)
+    let entry : tie.Start = search depth 0 in
+    (layout-below [] _ _ _ (entry .args .i) (entry .pre .0 .0 .rules-fit) (entry .pre .1 .1), entry .pre .0 .1)
 
 returns : tie.Need-returns
 returns c =
-    sift-removed _ _ _ _ _ _ _ _ (c .before .before .before .before .before .before .before .before .before .before .before .before .before .before .before .before .before .before .before .before .before .before .before .before .before .before .before .pre .0 .0) (c .before .before .before .before .before .before .before .before .before .before .before .before .before .before .before .before .before .before .before .before .before .before .before .before .before .before .before .pre .1 .0) (c .before .before .before .before .before .before .before .before .before .before .before .before .before .before .before .before .before .before .before .before .before .before .before .before .before .before .before .pre .1 .1) (c .before .before .before .before .before .before .before .before .before .before .before .before .before .before .before .before .before .before .before .before .before .before .before .before .before .before .before .pre .1 .2) (c .before .before .before .before .before .before .before .before .before .before .before .before .before .before .before .before .before .before .before .before .before .before .before .before .before .before .before .pre .1 .3) _ (c .before .before .before .before .before .before .before .before .before .before .before .before .before .before .before .rewrites .ensures) (c .before .before .before .before .before .before .before .before .before .before .before .before .before .before .if1 .taken) _ _ _ (c .before .before .before .before .before .before .before .before .before .copy-slot .ensures .0) (c .before .before .before .before .before .before .before .before .before .copy-slot .ensures .1) (c .before .before .put-origin .ensures)
+    let at-copy-slot : tie.After-copy-slot = search depth 0 in
+    let in-then1 : tie.Then1 = search depth 0 in
+    let at-rewrites : tie.After-rewrites = search depth 0 in
+    let entry = entry-of-rewrites at-rewrites in
+    sift-removed _ _ _ _ _ _ _ _ (entry .pre .0 .0) (entry .pre .1 .0) (entry .pre .1 .1) (entry .pre .1 .2)
+    (entry .pre .1 .3) _ (at-rewrites .rewrites .ensures) (in-then1 .if1 .taken) _ _ _ (at-copy-slot .copy-slot .ensures .0)
+    (at-copy-slot .copy-slot .ensures .1) (c .before .before .put-origin .ensures)
 
 returns-2 : tie.Need-returns-2
 returns-2 c =
-    sift-kept _ _ _ _ _ _ _ _ (c .before .before .before .before .before .before .before .before .before .before .before .before .before .before .before .before .before .before .before .before .before .pre .0 .0) (c .before .before .before .before .before .before .before .before .before .before .before .before .before .before .before .before .before .before .before .before .before .pre .1 .0) (c .before .before .before .before .before .before .before .before .before .before .before .before .before .before .before .before .before .before .before .before .before .pre .1 .1) (c .before .before .before .before .before .before .before .before .before .before .before .before .before .before .before .before .before .before .before .before .before .pre .1 .2) (c .before .before .before .before .before .before .before .before .before .before .before .before .before .before .before .before .before .before .before .before .before .pre .1 .3) _ (c .before .before .before .before .before .before .before .before .before .rewrites .ensures) (c .before .before .before .before .before .before .before .before .if1 .left) _ _ (c .before .before .before .before .before .move-slot .ensures .0) (c .before .before .before .before .before .move-slot .ensures .1)
+    let at-move-slot : tie.After-move-slot = search depth 0 in
+    let in-else1 : tie.Else1 = search depth 0 in
+    let at-rewrites : tie.After-rewrites = search depth 0 in
+    let entry = entry-of-rewrites at-rewrites in
+    sift-kept _ _ _ _ _ _ _ _ (entry .pre .0 .0) (entry .pre .1 .0) (entry .pre .1 .1) (entry .pre .1 .2) (entry .pre .1 .3)
+    _ (at-rewrites .rewrites .ensures) (in-else1 .if1 .left) _ _ (at-move-slot .move-slot .ensures .0)
+    (at-move-slot .move-slot .ensures .1)
 
 pub sift-spec : {M : Type 1} → statement M
 sift-spec =

@@ -17,22 +17,41 @@ abbrev μ-loop : tie.MeasureT-loop
 μ-loop rules₀ lens₀ older table units left₀ k₀ rules lens left k = older - k
 
 loop-holds : tie.Need-loop-holds Inv-loop μ-loop
-loop-holds c = sweep-start _ _ _ _ _ (c .before .before .before .pre)
+loop-holds c =
+    let entry : tie.Start Inv-loop μ-loop = search depth 0 in
+    sweep-start _ _ _ _ _ (entry .pre)
 
 compose-one-requires : tie.Need-compose-one-requires Inv-loop μ-loop
-compose-one-requires c κs = (c .before .before .before .loop .inv .kept .layout, c .before .before .loop-test .taken)
+compose-one-requires c κs =
+    let at-loop : tie.At-loop Inv-loop μ-loop = search depth 0 in
+    (at-loop .loop .inv .kept .layout, c .before .before .loop-test .taken)
 
 same-length : tie.Need-same-length Inv-loop μ-loop
-same-length c = c .before .before .before .before .before .before .compose-one .ensures .only .same-bytes ∙ c .before .before .before .before .before .before .before .before .before .before .loop .inv .kept .same-bytes
+same-length c =
+    let at-compose-one : tie.After-compose-one Inv-loop μ-loop = search depth 0 in
+    let at-loop : tie.At-loop Inv-loop μ-loop = search depth 0 in
+    at-compose-one .compose-one .ensures .only .same-bytes ∙ at-loop .loop .inv .kept .same-bytes
 
 same-length-2 : tie.Need-same-length-2 Inv-loop μ-loop
-same-length-2 c = c .before .before .before .before .before .before .compose-one .ensures .only .same-lengths ∙ c .before .before .before .before .before .before .before .before .before .before .loop .inv .kept .same-lengths
+same-length-2 c =
+    let at-compose-one : tie.After-compose-one Inv-loop μ-loop = search depth 0 in
+    let at-loop : tie.At-loop Inv-loop μ-loop = search depth 0 in
+    at-compose-one .compose-one .ensures .only .same-lengths ∙ at-loop .loop .inv .kept .same-lengths
 
 returns : tie.Need-returns Inv-loop μ-loop
-returns c = sweep-stop _ _ _ _ _ _ _ _ _ (c .before .before .before .before .before .before .before .before .before .before .loop .inv) (c .before .before .before .before .before .before .before .before .before .loop-test .taken) _ _ _ (c .before .before .before .before .before .before .compose-one .ensures) (search needs)
+returns c =
+    let at-compose-one : tie.After-compose-one Inv-loop μ-loop = search depth 0 in
+    let in-loop : tie.In-loop Inv-loop μ-loop = search depth 0 in
+    let at-loop : tie.At-loop Inv-loop μ-loop = search depth 0 in
+    sweep-stop _ _ _ _ _ _ _ _ _ (at-loop .loop .inv) (in-loop .loop-test .taken) _ _ _
+    (at-compose-one .compose-one .ensures) (search needs)
 
 loop-again : tie.Need-loop-again Inv-loop μ-loop
-loop-again c = sweep-on _ _ _ _ _ _ _ _ _ (c .before .before .before .before .before .before .before .before .before .before .loop .inv) (c .before .before .before .before .before .before .before .before .before .loop-test .taken) _ _ _ (c .before .before .before .before .before .before .compose-one .ensures) (search needs)
+loop-again c =
+    let at-compose-one : tie.After-compose-one Inv-loop μ-loop = search depth 0 in
+    let in-loop : tie.In-loop Inv-loop μ-loop = search depth 0 in
+    let at-loop : tie.At-loop Inv-loop μ-loop = search depth 0 in
+    sweep-on _ _ _ _ _ _ _ _ _ (at-loop .loop .inv) (in-loop .loop-test .taken) _ _ _ (at-compose-one .compose-one .ensures) (search needs)
 
 returns-2 : tie.Need-returns-2 Inv-loop μ-loop
 returns-2 c = sweep-end _ _ _ _ _ _ _ _ _ (c .before .loop .inv) (search needs)

@@ -12,7 +12,10 @@ use Rattle.engine.proofs.add_entry.Lts as lts
 use Rattle.store.proofs.paste.Reads as paste-reads
 
 returns : tie.Need-returns
-returns c = c .before .before .paste .ensures ∙ ap (λ z. patched (11 * (c .before .before .before .before .before .before .before .before .before .before .before .before .before .args .n)) z (c .before .before .before .before .before .before .before .before .before .before .before .before .before .args .log .now)) (entry-list (c .before .before .before .before .before .before .before .before .before .before .before .before .before .args .origin .now) (c .before .before .before .before .before .before .before .before .before .before .before .before .before .args .made) (c .before .before .before .before .before .before .before .before .before .before .before .before .before .pre .1))
+returns c =
+    let entry : tie.Start = search depth 0 in
+    c .before .before .paste .ensures ∙ ap (λ z. patched (11 * (entry .args .n)) z (entry .args .log .now))
+    (entry-list (entry .args .origin .now) (entry .args .made) (entry .pre .1))
 
 pub add-entry-spec : {M : Type 1} → statement M
 add-entry-spec =

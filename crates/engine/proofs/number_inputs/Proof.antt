@@ -21,14 +21,19 @@ loop-holds c = origins-start _ _
 
 put-input-requires : tie.Need-put-input-requires Inv-loop μ-loop
 put-input-requires c κs =
+    let entry : tie.Start Inv-loop μ-loop = search depth 0 in
     let s = c .before .before .loop .inv .same in
-    let r = c .before .before .before .before .pre .0 in
-    let f = c .before .before .before .before .pre .1 in
+    let r = entry .pre .0 in
+    let f = entry .pre .1 in
     let t = c .before .loop-test .taken in
     (omega arith, omega arith)
 
 loop-again : tie.Need-loop-again Inv-loop μ-loop
-loop-again c = origins-more _ _ _ _ _ (c .before .before .before .before .before .loop .inv) (c .before .before .before .before .loop-test .taken) (c .before .before .before .before .before .before .before .pre .0) (c .before .before .put-input .ensures)
+loop-again c =
+    let in-loop : tie.In-loop Inv-loop μ-loop = search depth 0 in
+    let at-loop : tie.At-loop Inv-loop μ-loop = search depth 0 in
+    let entry : tie.Start Inv-loop μ-loop = search depth 0 in
+    origins-more _ _ _ _ _ (at-loop .loop .inv) (in-loop .loop-test .taken) (entry .pre .0) (c .before .before .put-input .ensures)
 
 same-length : tie.Need-same-length Inv-loop μ-loop
 same-length c = c .before .loop .inv .same

@@ -14,7 +14,10 @@ use Rattle.store.proofs.paste.Reads as paste-reads
 
 returns : tie.Need-returns
 unfolding origin-bytes
-returns c = c .before .before .paste .ensures ∙ ap (λ z. patched (6 * (c .before .before .before .before .before .before .before .args .i)) z (c .before .before .before .before .before .before .before .args .origins .now)) (c .before .before .before .before .before .origin .ensures)
+returns c =
+    let at-origin : tie.After-origin = search depth 0 in
+    let entry : tie.Start = search depth 0 in
+    c .before .before .paste .ensures ∙ ap (λ z. patched (6 * (entry .args .i)) z (entry .args .origins .now)) (at-origin .origin .ensures)
 
 pub put-input-spec : {M : Type 1} → statement M
 put-input-spec =

@@ -13,8 +13,11 @@ use Rattle.store.proofs.paste.Reads as paste-reads
 
 returns : tie.Need-returns
 returns c =
-    let head = c .before .before .before .before .before .before .put-head .ensures in
-    puts-field _ _ _ _ _ _ _ _ _ (c .before .before .before .before .before .before .before .before .before .before .pre .0) head (record { bytes = c .before .before .paste .ensures; counted = refl; next = omega (arith, head .next) })
+    let at-put-head : tie.After-put-head = search depth 0 in
+    let entry : tie.Start = search depth 0 in
+    let head = at-put-head .put-head .ensures in
+    puts-field _ _ _ _ _ _ _ _ _ (entry .pre .0) head
+    (record { bytes = c .before .before .paste .ensures; counted = refl; next = omega (arith, head .next) })
 
 pub put-field-spec : {M : Type 1} → statement M
 put-field-spec =

@@ -17,7 +17,9 @@ same-length : tie.Need-same-length
 same-length c = puts-length _ _ _ _ _ _ (simp length-set (search needs)) (c .before .before .put-number .ensures) ∙ simp length-set
 
 returns : tie.Need-returns
-returns c = puts-head _ _ _ _ _ _ (c .before .before .before .before .before .pre .0) (c .before .before .put-number .ensures)
+returns c =
+    let entry : tie.Start = search depth 0 in
+    puts-head _ _ _ _ _ _ (entry .pre .0) (c .before .before .put-number .ensures)
 
 pub put-head-spec : {M : Type 1} → statement M
 put-head-spec =

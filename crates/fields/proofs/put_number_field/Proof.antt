@@ -10,7 +10,10 @@ use Rattle.fields.proofs.put_head.Reads as put-head-reads
 use Rattle.fields.proofs.put_number.Reads as put-number-reads
 
 returns : tie.Need-returns
-returns c = puts-field _ _ _ _ _ _ _ _ _ (c .before .before .before .before .before .before .before .before .before .pre .0) (c .before .before .before .before .before .before .put-head .ensures) (c .before .before .put-number .ensures)
+returns c =
+    let at-put-head : tie.After-put-head = search depth 0 in
+    let entry : tie.Start = search depth 0 in
+    puts-field _ _ _ _ _ _ _ _ _ (entry .pre .0) (at-put-head .put-head .ensures) (c .before .before .put-number .ensures)
 
 pub put-number-field-spec : {M : Type 1} → statement M
 put-number-field-spec =

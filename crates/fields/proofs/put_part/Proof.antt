@@ -9,7 +9,9 @@ use Rattle.fields.proofs.put_part.Lts as lts
 use Rattle.store.proofs.paste.Reads as paste-reads
 
 returns : tie.Need-returns
-returns c = puts-part _ (c .before .before .before .before .before .before .before .args .from .now) _ _ _ _ (c .before .before .before .before .before .before .before .pre .1) (c .before .before .paste .ensures)
+returns c =
+    let entry : tie.Start = search depth 0 in
+    puts-part _ (entry .args .from .now) _ _ _ _ (entry .pre .1) (c .before .before .paste .ensures)
 
 pub put-part-spec : {M : Type 1} → statement M
 put-part-spec =

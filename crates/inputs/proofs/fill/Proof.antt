@@ -9,7 +9,8 @@ use Rattle.inputs.proofs.fill.Statement.{statement}
 use Rattle.inputs.proofs.fill.Tie as tie
 
 abbrev Inv-loop : tie.InvT-loop
-Inv-loop problem table-end count bytes₀ lens₀ i₀ k₀ bytes lens i k = (k ≤ count) × SoFar (take (table-end - 3) (drop 3 problem)) problem (table-end + 7) bytes₀ lens₀ bytes lens k i
+Inv-loop problem table-end count bytes₀ lens₀ i₀ k₀ bytes lens i k =
+    (k ≤ count) × SoFar (take (table-end - 3) (drop 3 problem)) problem (table-end + 7) bytes₀ lens₀ bytes lens k i
 
 abbrev μ-loop : tie.MeasureT-loop
 μ-loop problem table-end count bytes₀ lens₀ i₀ k₀ bytes lens i k = count - k
@@ -18,10 +19,27 @@ loop-holds : tie.Need-loop-holds Inv-loop μ-loop
 loop-holds c = (search needs, fill-start _ _ _ _ _)
 
 put-equation-requires : tie.Need-put-equation-requires Inv-loop μ-loop
-put-equation-requires c κs = (fill-room _ _ _ _ _ _ _ _ _ _ (c .before .before .before .before .loop .inv .1) (c .before .before .before .loop-test .taken) (c .before .before .before .before .before .before .before .before .pre .1 .0) (c .before .before .before .before .before .before .before .before .pre .1 .1), c .before .before .before .before .before .before .before .before .pre .0 .2)
+put-equation-requires c κs =
+    let in-loop : tie.In-loop Inv-loop μ-loop = search depth 0 in
+    let at-loop : tie.At-loop Inv-loop μ-loop = search depth 0 in
+    let entry : tie.Start Inv-loop μ-loop = search depth 0 in (
+      fill-room _ _ _ _ _ _ _ _ _ _ (at-loop .loop .inv .1) (in-loop .loop-test .taken) (entry .pre .1 .0)
+          (entry .pre .1 .1),
+      entry .pre .0 .2,
+    )
 
 loop-again : tie.Need-loop-again Inv-loop μ-loop
-loop-again c = (search needs, fill-more _ _ _ _ _ _ _ _ _ _ _ _ (c .before .before .before .before .before .before .before .before .before .loop .inv .1) (fill-room _ _ _ _ _ _ _ _ _ _ (c .before .before .before .before .before .before .before .before .before .loop .inv .1) (c .before .before .before .before .before .before .before .before .loop-test .taken) (c .before .before .before .before .before .before .before .before .before .before .before .before .before .pre .1 .0) (c .before .before .before .before .before .before .before .before .before .before .before .before .before .pre .1 .1)) (let a = c .before .before .before .before .before .before .before .before .loop-test .taken in let b = c .before .before .before .before .before .before .before .before .before .before .before .before .before .pre .1 .2 in omega arith) (c .before .before .before .before .put-equation .ensures))
+loop-again c =
+    let at-put-equation : tie.After-put-equation Inv-loop μ-loop = search depth 0 in
+    let in-loop : tie.In-loop Inv-loop μ-loop = search depth 0 in
+    let at-loop : tie.At-loop Inv-loop μ-loop = search depth 0 in
+    let entry : tie.Start Inv-loop μ-loop = search depth 0 in (
+      search needs,
+      fill-more _ _ _ _ _ _ _ _ _ _ _ _ (at-loop .loop .inv .1)
+          (fill-room _ _ _ _ _ _ _ _ _ _ (at-loop .loop .inv .1) (in-loop .loop-test .taken) (entry .pre .1 .0)
+          (entry .pre .1 .1)) (let a = in-loop .loop-test .taken in let b = entry .pre .1 .2 in omega arith)
+          (at-put-equation .put-equation .ensures),
+    )
 
 same-length : tie.Need-same-length Inv-loop μ-loop
 same-length c = c .before .loop .inv .1 .same-bytes
@@ -30,7 +48,9 @@ same-length-2 : tie.Need-same-length-2 Inv-loop μ-loop
 same-length-2 c = c .before .loop .inv .1 .same-lengths
 
 returns : tie.Need-returns Inv-loop μ-loop
-returns c = fill-end _ _ _ _ _ _ _ _ _ (c .before .loop .inv .1) (let a = c .before .loop .inv .0 in let b = c .loop-test .left in omega arith)
+returns c =
+    let at-loop : tie.At-loop Inv-loop μ-loop = search depth 0 in
+    fill-end _ _ _ _ _ _ _ _ _ (at-loop .loop .inv .1) (let a = at-loop .loop .inv .0 in let b = c .loop-test .left in omega arith)
 
 pub fill-spec : {M : Type 1} → statement M
 fill-spec =

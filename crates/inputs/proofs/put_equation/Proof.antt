@@ -8,19 +8,37 @@ use Rattle.inputs.proofs.put_equation.Statement.{statement}
 use Rattle.inputs.proofs.put_equation.Tie as tie
 
 put-requires : tie.Need-put-requires
-put-requires c κs = (c .before .before .before .before .before .before .before .before .before .before .before .pre .0, (search needs, search needs))
+put-requires c κs =
+    let entry : tie.Start = search depth 0 in
+    (entry .pre .0, (search needs, search needs))
 
 add-put-sides : tie.Need-add-put-sides
-add-put-sides c = let d = rw (c .before .e .given .1) at (c .before .before .before .due .ensures) in omega (arith, d .1, d .2, c .before .before .before .before .before .before .before .before .pre .1)
+add-put-sides c =
+    let at-due : tie.After-due = search depth 0 in
+    let entry : tie.Start = search depth 0 in
+    let d = rw (c .before .e .given .1) at (at-due .due .ensures) in omega (arith, d .1, d .2, entry .pre .1)
 
 put-sides-requires : tie.Need-put-sides-requires
-put-sides-requires c κs = let d = rw (c .before .before .before .e .given .1) at (c .before .before .before .before .before .due .ensures) in (c .before .before .before .before .before .before .before .before .before .before .pre .0, (omega (arith, d .1, d .2), c .before .before .before .before .before .before .before .before .before .before .pre .1))
+put-sides-requires c κs =
+    let at-e : tie.After-e = search depth 0 in
+    let at-due : tie.After-due = search depth 0 in
+    let entry : tie.Start = search depth 0 in
+    let d = rw (at-e .e .given .1) at (at-due .due .ensures) in (entry .pre .0, (omega (arith, d .1, d .2), entry .pre .1))
 
 returns : tie.Need-returns
-returns c = field-none _ _ _ _ _ _ _ _ _ _ (rw (c .before .before .before .before .before .before .before .before .before .enum-told .given .1) at (c .before .before .before .before .before .before .before .before .before .before .before .due .ensures)) (c .before .before .before .before .put .ensures .0) (c .before .before .before .before .put .ensures .1)
+returns c =
+    let at-put : tie.After-put = search depth 0 in
+    let at-enum-told : tie.After-enum-told = search depth 0 in
+    let at-due : tie.After-due = search depth 0 in
+    field-none _ _ _ _ _ _ _ _ _ _ (rw (at-enum-told .enum-told .given .1) at (at-due .due .ensures))
+    (at-put .put .ensures .0) (at-put .put .ensures .1)
 
 returns-2 : tie.Need-returns-2
-returns-2 c = let d = rw (c .before .before .before .before .before .before .before .before .e .given .1) at (c .before .before .before .before .before .before .before .before .before .before .due .ensures) in field-one _ _ _ _ _ _ _ _ _ (d .0) (c .before .before .before .before .put-sides .ensures)
+returns-2 c =
+    let at-put-sides : tie.After-put-sides = search depth 0 in
+    let at-e : tie.After-e = search depth 0 in
+    let at-due : tie.After-due = search depth 0 in
+    let d = rw (at-e .e .given .1) at (at-due .due .ensures) in field-one _ _ _ _ _ _ _ _ _ (d .0) (at-put-sides .put-sides .ensures)
 
 pub put-equation-spec : {M : Type 1} → statement M
 put-equation-spec =

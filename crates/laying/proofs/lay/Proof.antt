@@ -21,10 +21,16 @@ loop-holds : tie.Need-loop-holds Inv-loop μ-loop
 loop-holds c = laying-start _ _ _ _
 
 slice-write-nodes : tie.Need-slice-write-nodes Inv-loop μ-loop
-slice-write-nodes c = omega (arith, c .before .before .loop-test .taken, c .before .before .before .loop .inv .same, c .before .before .before .before .before .before .pre .0)
+slice-write-nodes c =
+    let at-loop : tie.At-loop Inv-loop μ-loop = search depth 0 in
+    let entry : tie.Start Inv-loop μ-loop = search depth 0 in
+    omega (arith, c .before .before .loop-test .taken, at-loop .loop .inv .same, entry .pre .0)
 
 loop-again : tie.Need-loop-again Inv-loop μ-loop
-loop-again c = laying-more _ _ _ _ _ _ (c .before .before .before .loop .inv) _ (c .before .before .loop-test .taken) (c .before .before .before .before .before .before .pre .0) (c .moved .ensures)
+loop-again c =
+    let at-loop : tie.At-loop Inv-loop μ-loop = search depth 0 in
+    let entry : tie.Start Inv-loop μ-loop = search depth 0 in
+    laying-more _ _ _ _ _ _ (at-loop .loop .inv) _ (c .before .before .loop-test .taken) (entry .pre .0) (c .moved .ensures)
 
 add-result : tie.Need-add-result Inv-loop μ-loop
 add-result c = let h = c .before .loop .inv .within in search needs

@@ -14,28 +14,60 @@ use Rattle.matching.proofs.size_of.Reads as size-of-reads
 use Rattle.terms.proofs.wide.Reads as wide-reads
 
 returns : tie.Need-returns
-returns c = adv-same _ _ _ _ (c .before .before .before .before .before .before .pre .1 .1) (search needs) (c .before .before .before .if1 .taken) (sym (c .before .byte-of .ensures) ∙ c .if2 .taken)
+returns c =
+    let in-then1 : tie.Then1 = search depth 0 in
+    let entry : tie.Start = search depth 0 in
+    adv-same _ _ _ _ (entry .pre .1 .1) (search needs) (in-then1 .if1 .taken) (sym (c .before .byte-of .ensures) ∙ c .if2 .taken)
 
 returns-2 : tie.Need-returns-2
-returns-2 c = adv-other _ _ _ _ (c .before .before .before .before .before .before .pre .1 .1) (search needs) (c .before .before .before .if1 .taken) (λ e. c .if2 .left (c .before .byte-of .ensures ∙ e))
+returns-2 c =
+    let in-then1 : tie.Then1 = search depth 0 in
+    let entry : tie.Start = search depth 0 in
+    adv-other _ _ _ _ (entry .pre .1 .1) (search needs) (in-then1 .if1 .taken) (λ e. c .if2 .left (c .before .byte-of .ensures ∙ e))
 
 returns-3 : tie.Need-returns-3
-returns-3 c = adv-high _ _ _ _ (c .before .before .before .before .before .pre .1 .1) (search needs) _ (search needs) (search needs) (c .if3 .taken)
+returns-3 c =
+    let entry : tie.Start = search depth 0 in
+    adv-high _ _ _ _ (entry .pre .1 .1) (search needs) _ (search needs) (search needs) (c .if3 .taken)
 
 again-requires : tie.Need-again-requires
-again-requires c κs = let a = c .before .before .before .before .before .before .before .before .args in (search needs, held-at (a .t .now) (a .binds .now) (c .before .before .before .before .wide .result - 128) _ (c .before .before .before .before .before .before .before .before .pre .1 .1) (c .before .before .before .if3 .left) (c .before .wide2 .ensures .0) (c .if4 .taken))
+again-requires c κs =
+    let in-else3 : tie.Else3 = search depth 0 in
+    let at-wide : tie.After-wide = search depth 0 in
+    let entry : tie.Start = search depth 0 in
+    let a = entry .args in (
+      search needs,
+      held-at (a .t .now) (a .binds .now) (at-wide .wide .result - 128) _ (entry .pre .1 .1) (in-else3 .if3 .left)
+          (c .before .wide2 .ensures .0) (c .if4 .taken),
+    )
 
 returns-4 : tie.Need-returns-4
-returns-4 c = adv-bound _ _ _ _ (c .before .before .before .before .before .before .before .before .before .pre .1 .1) (search needs) _ (search needs) (search needs) (c .before .before .before .before .if3 .left) _ _ _ (c .before .before .wide2 .ensures .0) (c .before .if4 .taken) refl (c .again .ensures)
+returns-4 c =
+    let in-else3 : tie.Else3 = search depth 0 in
+    let entry : tie.Start = search depth 0 in
+    adv-bound _ _ _ _ (entry .pre .1 .1) (search needs) _ (search needs) (search needs) (in-else3 .if3 .left) _ _ _
+    (c .before .before .wide2 .ensures .0) (c .before .if4 .taken) refl (c .again .ensures)
 
 returns-5 : tie.Need-returns-5
-returns-5 c = adv-none _ _ _ _ (c .before .before .before .before .before .before .before .before .before .before .before .pre .1 .1) (search needs) _ (search needs) (search needs) (c .before .before .before .before .before .before .if3 .left) _ (c .before .size-of .ensures .0) (c .if5 .taken)
+returns-5 c =
+    let in-else3 : tie.Else3 = search depth 0 in
+    let entry : tie.Start = search depth 0 in
+    adv-none _ _ _ _ (entry .pre .1 .1) (search needs) _ (search needs) (search needs) (in-else3 .if3 .left) _
+    (c .before .size-of .ensures .0) (c .if5 .taken)
 
 returns-6 : tie.Need-returns-6
-returns-6 c = adv-long _ _ _ _ (c .before .before .before .before .before .before .before .before .before .before .before .before .pre .1 .1) (search needs) _ (search needs) (search needs) (c .before .before .before .before .before .before .before .if3 .left) _ (c .before .before .size-of .ensures .0) (c .if6 .taken)
+returns-6 c =
+    let in-else3 : tie.Else3 = search depth 0 in
+    let entry : tie.Start = search depth 0 in
+    adv-long _ _ _ _ (entry .pre .1 .1) (search needs) _ (search needs) (search needs) (in-else3 .if3 .left) _
+    (c .before .before .size-of .ensures .0) (c .if6 .taken)
 
 returns-7 : tie.Need-returns-7
-returns-7 c = adv-free _ _ _ _ (c .before .before .before .before .before .before .before .before .before .before .before .before .pre .1 .1) (search needs) _ (search needs) (search needs) (c .before .before .before .before .before .before .before .if3 .left) _ (c .before .before .size-of .ensures .0) (search needs) (c .before .if5 .left) (c .if6 .left) (search needs)
+returns-7 c =
+    let in-else3 : tie.Else3 = search depth 0 in
+    let entry : tie.Start = search depth 0 in
+    adv-free _ _ _ _ (entry .pre .1 .1) (search needs) _ (search needs) (search needs) (in-else3 .if3 .left) _
+    (c .before .before .size-of .ensures .0) (search needs) (c .before .if5 .left) (c .if6 .left) (search needs)
 
 pub advance-spec : {M : Type 1} → statement M
 advance-spec =

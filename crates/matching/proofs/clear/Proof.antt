@@ -20,11 +20,16 @@ abbrev μ-loop : tie.MeasureT-loop
 
 loop-again : tie.Need-loop-again Inv-loop μ-loop
 loop-again c =
-    (search needs, simp length-set (c .before .loop .inv .1), clear-more (c .before .loop .binds) _ (c .before .loop .inv .2) (search needs))
+    let at-loop : tie.At-loop Inv-loop μ-loop = search depth 0 in
+    (search needs, simp length-set (at-loop .loop .inv .1), clear-more (at-loop .loop .binds) _ (at-loop .loop .inv .2) (search needs))
 
 returns : tie.Need-returns Inv-loop μ-loop
 returns c =
-    (c .before .loop .inv .1, clear-all (c .before .loop .binds) _ (search needs) (c .before .loop .inv .2))
+    let at-loop : tie.At-loop Inv-loop μ-loop = search depth 0 in
+    (at-loop .loop .inv .1, clear-all (at-loop .loop .binds) _ (search needs) (at-loop .loop .inv .2))
 
 pub clear-spec : {M : Type 1} → statement M
-clear-spec = tie.close (tie.spec Inv-loop μ-loop (λ c. search needs) (λ c. search needs) (λ c. search needs) (λ c. search needs) loop-again (λ c. search needs) returns)
+clear-spec =
+    tie.close
+    (tie.spec Inv-loop μ-loop (λ c. search needs) (λ c. search needs) (λ c. search needs) (λ c. search needs) loop-again
+    (λ c. search needs) returns)

@@ -21,13 +21,26 @@ loop-holds : tie.Need-loop-holds Inv-loop μ-loop
 loop-holds c = fill-start _ _ _ _ _
 
 returns : tie.Need-returns Inv-loop μ-loop
-returns c = fill-over _ _ _ _ _ _ _ _ (c .before .before .before .before .before .before .before .loop .inv) (search needs) (c .before .before .before .before .before .before .loop-test .taken) _ _ (c .before .before .before .put-piece .ensures) (c .if1 .taken) _
+returns c =
+    let at-put-piece : tie.After-put-piece Inv-loop μ-loop = search depth 0 in
+    let in-loop : tie.In-loop Inv-loop μ-loop = search depth 0 in
+    let at-loop : tie.At-loop Inv-loop μ-loop = search depth 0 in
+    fill-over _ _ _ _ _ _ _ _ (at-loop .loop .inv) (search needs) (in-loop .loop-test .taken) _ _
+    (at-put-piece .put-piece .ensures) (c .if1 .taken) _
 
 loop-again : tie.Need-loop-again Inv-loop μ-loop
-loop-again c = fill-on _ _ _ _ _ _ _ _ (c .before .before .before .before .before .before .before .loop .inv) (search needs) (c .before .before .before .before .before .before .loop-test .taken) _ _ (c .before .before .before .put-piece .ensures) (c .if1 .left)
+loop-again c =
+    let at-put-piece : tie.After-put-piece Inv-loop μ-loop = search depth 0 in
+    let in-loop : tie.In-loop Inv-loop μ-loop = search depth 0 in
+    let at-loop : tie.At-loop Inv-loop μ-loop = search depth 0 in
+    fill-on _ _ _ _ _ _ _ _ (at-loop .loop .inv) (search needs) (in-loop .loop-test .taken) _ _
+    (at-put-piece .put-piece .ensures) (c .if1 .left)
 
 returns-2 : tie.Need-returns-2 Inv-loop μ-loop
-returns-2 c = fill-done _ _ _ _ _ _ _ _ (c .before .before .before .before .before .before .loop .inv) (search needs) (c .before .before .before .before .before .loop-test .left) _ _ _ (c .before .before .put-run .ensures)
+returns-2 c =
+    let after-loop : tie.After-loop Inv-loop μ-loop = search depth 0 in
+    let at-loop : tie.At-loop Inv-loop μ-loop = search depth 0 in
+    fill-done _ _ _ _ _ _ _ _ (at-loop .loop .inv) (search needs) (after-loop .loop-test .left) _ _ _ (c .before .before .put-run .ensures)
 
 pub contract-spec : {M : Type 1} → statement M
 contract-spec =

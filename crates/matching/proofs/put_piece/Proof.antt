@@ -14,31 +14,73 @@ use Rattle.matching.proofs.size_of.Reads as size-of-reads
 use Rattle.matching.proofs.slot.Reads as slot-reads
 
 returns : tie.Need-returns
-returns c = put-as _ _ _ _ _ _ _ (piece-byte _ _ _ _ (c .before .before .before .before .before .slot .ensures) (c .before .before .before .before .if1 .taken)) (c .before .before .put-cell .ensures)
+returns c =
+    let in-then1 : tie.Then1 = search depth 0 in
+    let at-slot : tie.After-slot = search depth 0 in
+    put-as _ _ _ _ _ _ _ (piece-byte _ _ _ _ (at-slot .slot .ensures) (in-then1 .if1 .taken)) (c .before .before .put-cell .ensures)
 
 mul-c : tie.Need-mul-c
-mul-c c = let d = slot-spot _ _ _ _ (c .before .before .before .before .before .pre .1 .2) (c .before .slot .ensures) in let p = d .place in search needs
+mul-c c =
+    let entry : tie.Start = search depth 0 in
+    let d = slot-spot _ _ _ _ (entry .pre .1 .2) (c .before .slot .ensures) in let p = d .place in search needs
 
 shared-slice-read-c : tie.Need-shared-slice-read-c
-shared-slice-read-c c = let d = slot-spot _ _ _ _ (c .before .before .before .before .before .before .pre .1 .2) (c .before .before .slot .ensures) in let p = d .place in search needs
+shared-slice-read-c c =
+    let entry : tie.Start = search depth 0 in
+    let d = slot-spot _ _ _ _ (entry .pre .1 .2) (c .before .before .slot .ensures) in let p = d .place in search needs
 
 returns-2 : tie.Need-returns-2
-returns-2 c = put-as _ _ _ _ _ _ _ (piece-run _ _ _ _ _ _ _ (c .before .before .before .before .before .before .before .before .slot .ensures) (c .before .before .before .before .before .before .before .if1 .left) refl (c .before .before .before .before .first .ensures) refl) (put-over-cell _ _ _ _ _ _ _ (c .before .before .before .put-cell2 .ensures) (c .if2 .taken))
+returns-2 c =
+    let at-put-cell2 : tie.After-put-cell2 = search depth 0 in
+    let at-first : tie.After-first = search depth 0 in
+    let in-else1 : tie.Else1 = search depth 0 in
+    let at-slot : tie.After-slot = search depth 0 in
+    put-as _ _ _ _ _ _ _
+    (piece-run _ _ _ _ _ _ _ (at-slot .slot .ensures) (in-else1 .if1 .left) refl (at-first .first .ensures) refl)
+    (put-over-cell _ _ _ _ _ _ _ (at-put-cell2 .put-cell2 .ensures) (c .if2 .taken))
 
 sub-put-run : tie.Need-sub-put-run
-sub-put-run c = let d = slot-spot _ _ _ _ (c .before .before .before .before .before .before .before .before .before .before .before .before .before .before .pre .1 .2) (c .before .before .before .before .before .before .before .before .before .before .slot .ensures) in let n = d .sized (c .before .before .before .before .before .before .before .before .before .if1 .left) in search needs
+sub-put-run c =
+    let in-else1 : tie.Else1 = search depth 0 in
+    let at-slot : tie.After-slot = search depth 0 in
+    let entry : tie.Start = search depth 0 in
+    let d = slot-spot _ _ _ _ (entry .pre .1 .2) (at-slot .slot .ensures) in let n = d .sized (in-else1 .if1 .left) in search needs
 
 add-put-run : tie.Need-add-put-run
-add-put-run c = let d = slot-spot _ _ _ _ (c .before .before .before .before .before .before .before .before .before .before .before .before .before .before .pre .1 .2) (c .before .before .before .before .before .before .before .before .before .before .slot .ensures) in let p = d .place in search needs
+add-put-run c =
+    let at-slot : tie.After-slot = search depth 0 in
+    let entry : tie.Start = search depth 0 in
+    let d = slot-spot _ _ _ _ (entry .pre .1 .2) (at-slot .slot .ensures) in let p = d .place in search needs
 
 mul-put-run : tie.Need-mul-put-run
-mul-put-run c = let d = slot-spot _ _ _ _ (c .before .before .before .before .before .before .before .before .before .before .before .before .before .before .pre .1 .2) (c .before .before .before .before .before .before .before .before .before .before .slot .ensures) in let p = d .place in search needs
+mul-put-run c =
+    let at-slot : tie.After-slot = search depth 0 in
+    let entry : tie.Start = search depth 0 in
+    let d = slot-spot _ _ _ _ (entry .pre .1 .2) (at-slot .slot .ensures) in let p = d .place in search needs
 
 part-put-run-end : tie.Need-part-put-run-end
-part-put-run-end c = let d = slot-spot _ _ _ _ (c .before .before .before .before .before .before .before .before .before .before .before .before .before .before .pre .1 .2) (c .before .before .before .before .before .before .before .before .before .before .slot .ensures) in let p = d .place in let n = d .sized (c .before .before .before .before .before .before .before .before .before .if1 .left) in let i = d .inside (c .before .before .before .before .before .before .before .before .before .if1 .left) in search needs
+part-put-run-end c =
+    let in-else1 : tie.Else1 = search depth 0 in
+    let at-slot : tie.After-slot = search depth 0 in
+    let entry : tie.Start = search depth 0 in
+    let d = slot-spot _ _ _ _ (entry .pre .1 .2) (at-slot .slot .ensures) in
+    let p = d .place in
+    let n = d .sized (in-else1 .if1 .left) in
+    let i = d .inside (in-else1 .if1 .left) in
+    search needs
 
 returns-3 : tie.Need-returns-3
-returns-3 c = put-as _ _ _ _ _ _ _ (piece-run _ _ _ _ _ _ _ (c .before .before .before .before .before .before .before .before .before .before .before .before .before .before .slot .ensures) (c .before .before .before .before .before .before .before .before .before .before .before .before .before .if1 .left) refl (c .before .before .before .before .before .before .before .before .before .before .first .ensures) (c .before .before .before .before .size-of .ensures .0)) (put-two _ _ _ _ _ _ _ _ _ (c .before .before .before .before .before .before .before .before .before .put-cell2 .ensures) (c .before .before .before .before .before .before .if2 .left) (c .before .before .put-run .ensures))
+returns-3 c =
+    let at-size-of : tie.After-size-of = search depth 0 in
+    let in-else2 : tie.Else2 = search depth 0 in
+    let at-put-cell2 : tie.After-put-cell2 = search depth 0 in
+    let at-first : tie.After-first = search depth 0 in
+    let in-else1 : tie.Else1 = search depth 0 in
+    let at-slot : tie.After-slot = search depth 0 in
+    put-as _ _ _ _ _ _ _
+    (piece-run _ _ _ _ _ _ _ (at-slot .slot .ensures) (in-else1 .if1 .left) refl (at-first .first .ensures)
+    (at-size-of .size-of .ensures .0)) (put-two _ _ _ _ _ _ _ _ _ (at-put-cell2 .put-cell2 .ensures) (in-else2 .if2 .left)
+    (c .before .before .put-run .ensures))
 
 pub put-piece-spec : {M : Type 1} → statement M
 put-piece-spec =

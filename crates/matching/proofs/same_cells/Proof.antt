@@ -27,12 +27,15 @@ loop-holds c = (search needs, c .if1 .left, refl)
 
 returns-2 : tie.Need-returns-2 Inv-loop μ-loop
 returns-2 c =
-    (λ e. absurd (false≢true e), λ e. absurd (c .if2 .taken (ap (λ l. getD l (c .before .before .before .before .loop .i) 0) e)))
+    let at-loop : tie.At-loop Inv-loop μ-loop = search depth 0 in
+    (λ e. absurd (false≢true e), λ e. absurd (c .if2 .taken (ap (λ l. getD l (at-loop .loop .i) 0) e)))
 
 loop-again : tie.Need-loop-again Inv-loop μ-loop
 loop-again c =
-    let h = c .before .before .before .before .loop .inv in
-    (search needs, h .1, same-more _ _ _ (c .before .before .before .loop-test .taken) (h .1) (h .2) (c .if2 .left))
+    let in-loop : tie.In-loop Inv-loop μ-loop = search depth 0 in
+    let at-loop : tie.At-loop Inv-loop μ-loop = search depth 0 in
+    let h = at-loop .loop .inv in
+    (search needs, h .1, same-more _ _ _ (in-loop .loop-test .taken) (h .1) (h .2) (c .if2 .left))
 
 returns-3 : tie.Need-returns-3 Inv-loop μ-loop
 returns-3 c =

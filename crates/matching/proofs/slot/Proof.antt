@@ -17,7 +17,8 @@ returns-2 c = sym (slot-high _ _ _ (c .before .before .if1 .left) (search needs)
 
 returns-3 : tie.Need-returns-3
 returns-3 c =
-    c .wide2 .ensures .0 ∙ sym (slot-variable _ _ _ (c .before .before .before .before .if1 .left) (search needs) (c .before .before .if2 .left))
+    let in-else1 : tie.Else1 = search depth 0 in
+    c .wide2 .ensures .0 ∙ sym (slot-variable _ _ _ (in-else1 .if1 .left) (search needs) (c .before .before .if2 .left))
 
 pub slot-spec : {M : Type 1} → statement M
 slot-spec =

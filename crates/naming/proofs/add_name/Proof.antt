@@ -16,10 +16,20 @@ returns : tie.Need-returns
 returns c = let a = add-symbol (c .before .before .args .names .now) _ _ (c .if1 .taken) in (a .long, a .names, a .few)
 
 returns-2 : tie.Need-returns-2
-returns-2 c = let a = add-old (c .before .before .before .before .before .args .names .now) _ _ _ (c .before .before .before .before .before .pre) (c .before .before .before .if1 .left) (c .before .place-of .ensures .0) (c .if2 .taken) in (a .long, a .names, a .few)
+returns-2 c =
+    let in-else1 : tie.Else1 = search depth 0 in
+    let entry : tie.Start = search depth 0 in
+    let a = add-old (entry .args .names .now) _ _ _ (entry .pre) (in-else1 .if1 .left) (c .before .place-of .ensures .0)
+    (c .if2 .taken) in
+    (a .long, a .names, a .few)
 
 returns-3 : tie.Need-returns-3
-returns-3 c = let a = add-new (c .before .before .before .before .before .args .names .now) _ _ _ (c .before .before .before .before .before .pre) (c .before .before .before .if1 .left) (c .before .place-of .ensures .0) (c .if2 .left) in (a .long, a .names, a .few)
+returns-3 c =
+    let in-else1 : tie.Else1 = search depth 0 in
+    let entry : tie.Start = search depth 0 in
+    let a = add-new (entry .args .names .now) _ _ _ (entry .pre) (in-else1 .if1 .left) (c .before .place-of .ensures .0)
+    (c .if2 .left) in
+    (a .long, a .names, a .few)
 
 pub add-name-spec : {M : Type 1} → statement M
 add-name-spec =

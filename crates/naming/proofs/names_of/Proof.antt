@@ -22,16 +22,27 @@ loop-holds : tie.Need-loop-holds Inv-loop μ-loop
 loop-holds c = collected-start _ _
 
 add-name-requires : tie.Need-add-name-requires Inv-loop μ-loop
-add-name-requires c κs = omega (arith, c .before .before .before .loop .inv .few, c .before .before .before .loop .inv .long, c .before .before .before .before .before .before .pre)
+add-name-requires c κs =
+    let at-loop : tie.At-loop Inv-loop μ-loop = search depth 0 in
+    let entry : tie.Start Inv-loop μ-loop = search depth 0 in
+    omega (arith, at-loop .loop .inv .few, at-loop .loop .inv .long, entry .pre)
 
 loop-again : tie.Need-loop-again Inv-loop μ-loop
-loop-again c = let e = c .before .before .add-name .ensures in collected-more _ _ _ (c .before .before .add-name .last .0) _ _ (c .before .before .add-name .result) (c .before .before .before .before .before .before .loop .inv) (c .before .before .before .before .before .loop-test .taken) (record { long = e .0; names = e .1; few = e .2 })
+loop-again c =
+    let at-add-name : tie.After-add-name Inv-loop μ-loop = search depth 0 in
+    let in-loop : tie.In-loop Inv-loop μ-loop = search depth 0 in
+    let at-loop : tie.At-loop Inv-loop μ-loop = search depth 0 in
+    let e = at-add-name .add-name .ensures in
+    collected-more _ _ _ (at-add-name .add-name .last .0) _ _ (at-add-name .add-name .result) (at-loop .loop .inv)
+    (in-loop .loop-test .taken) (record { long = e .0; names = e .1; few = e .2 })
 
 same-length : tie.Need-same-length Inv-loop μ-loop
 same-length c = c .before .loop .inv .long
 
 returns : tie.Need-returns Inv-loop μ-loop
-returns c = collected-end _ _ _ _ _ (c .before .before .before .before .pre) (c .before .loop .inv) (c .loop-test .left)
+returns c =
+    let entry : tie.Start Inv-loop μ-loop = search depth 0 in
+    collected-end _ _ _ _ _ (entry .pre) (c .before .loop .inv) (c .loop-test .left)
 
 pub names-of-spec : {M : Type 1} → statement M
 names-of-spec =

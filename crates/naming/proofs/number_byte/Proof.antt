@@ -13,10 +13,14 @@ use Rattle.naming.proofs.number_byte.Lts as lts
 use Rattle.naming.proofs.place_of.Reads as place-of-reads
 
 returns : tie.Need-returns
-returns c = number-symbol (c .before .before .args .names .now) (c .before .before .args .n) _ (c .if1 .taken)
+returns c =
+    let entry : tie.Start = search depth 0 in
+    number-symbol (entry .args .names .now) (entry .args .n) _ (c .if1 .taken)
 
 returns-2 : tie.Need-returns-2
-returns-2 c = number-variable (c .before .before .before .args .names .now) (c .before .before .before .args .n) _ _ (c .before .if1 .left) (c .place-of .ensures .0)
+returns-2 c =
+    let entry : tie.Start = search depth 0 in
+    number-variable (entry .args .names .now) (entry .args .n) _ _ (c .before .if1 .left) (c .place-of .ensures .0)
 
 pub number-byte-spec : {M : Type 1} → statement M
 number-byte-spec = tie.close (tie.spec returns (λ c κs. search needs) (λ c. search needs) (λ c. search needs) returns-2)

@@ -21,13 +21,21 @@ loop-holds : tie.Need-loop-holds Inv-loop μ-loop
 loop-holds c = λ j h e. omega arith
 
 returns : tie.Need-returns Inv-loop μ-loop
-returns c = place-hit (c .before .before .before .before .args .names .now) _ _ _ (c .before .before .before .before .pre) (c .before .before .loop-test .taken) (c .before .before .before .loop .inv) (c .if1 .taken)
+returns c =
+    let at-loop : tie.At-loop Inv-loop μ-loop = search depth 0 in
+    let entry : tie.Start Inv-loop μ-loop = search depth 0 in
+    place-hit (entry .args .names .now) _ _ _ (entry .pre) (c .before .before .loop-test .taken) (at-loop .loop .inv) (c .if1 .taken)
 
 loop-again : tie.Need-loop-again Inv-loop μ-loop
-loop-again c = place-next (c .before .before .before .before .args .names .now) _ _ (c .before .before .before .loop .inv) (c .if1 .left)
+loop-again c =
+    let at-loop : tie.At-loop Inv-loop μ-loop = search depth 0 in
+    let entry : tie.Start Inv-loop μ-loop = search depth 0 in
+    place-next (entry .args .names .now) _ _ (at-loop .loop .inv) (c .if1 .left)
 
 returns-2 : tie.Need-returns-2 Inv-loop μ-loop
-returns-2 c = place-miss (c .before .before .args .names .now) _ _ _ (c .before .before .pre) (c .loop-test .left) (c .before .loop .inv)
+returns-2 c =
+    let entry : tie.Start Inv-loop μ-loop = search depth 0 in
+    place-miss (entry .args .names .now) _ _ _ (entry .pre) (c .loop-test .left) (c .before .loop .inv)
 
 pub place-of-spec : {M : Type 1} → statement M
 place-of-spec =

@@ -10,10 +10,20 @@ use Rattle.naming.proofs.names_of.Reads as names-of-reads
 use Rattle.naming.proofs.renumber.Reads as renumber-reads
 
 renumber-requires : tie.Need-renumber-requires
-renumber-requires c κs = (c .before .before .before .before .names-of .ensures .2, count-few (c .before .before .before .before .before .before .before .before .before .args .bytes .now) (c .before .before .before .before .names-of .last .1 .0) _ (c .before .before .before .before .names-of .ensures .1) (c .before .before .before .before .names-of .ensures .2) (c .before .before .before .before .before .before .before .before .before .pre .1))
+renumber-requires c κs =
+    let at-names-of : tie.After-names-of = search depth 0 in
+    let entry : tie.Start = search depth 0 in (
+      at-names-of .names-of .ensures .2,
+      count-few (entry .args .bytes .now) (at-names-of .names-of .last .1 .0) _ (at-names-of .names-of .ensures .1)
+          (at-names-of .names-of .ensures .2) (entry .pre .1),
+    )
 
 returns : tie.Need-returns
-returns c = renamed-is (c .before .before .before .before .before .before .before .before .before .before .before .before .args .bytes .now) (c .before .before .before .before .before .before .before .names-of .last .1 .0) _ (c .before .before .before .before .before .before .before .names-of .result) (c .before .before .before .before .before .before .before .names-of .ensures .1) (c .before .before .renumber .ensures)
+returns c =
+    let at-names-of : tie.After-names-of = search depth 0 in
+    let entry : tie.Start = search depth 0 in
+    renamed-is (entry .args .bytes .now) (at-names-of .names-of .last .1 .0) _ (at-names-of .names-of .result)
+    (at-names-of .names-of .ensures .1) (c .before .before .renumber .ensures)
 
 pub rename-spec : {M : Type 1} → statement M
 rename-spec =

@@ -9,10 +9,15 @@ use Rattle.naming.proofs.rename_front.Lts as lts
 use Rattle.naming.proofs.rename.Reads as rename-reads
 
 rename-requires : tie.Need-rename-requires
-rename-requires c κs = front-ready _ (c .before .before .before .args .out .now) (c .before .before .before .pre .0) (c .before .before .before .pre .1) (c .before .before .before .pre .2)
+rename-requires c κs =
+    let entry : tie.Start = search depth 0 in
+    front-ready _ (entry .args .out .now) (entry .pre .0) (entry .pre .1) (entry .pre .2)
 
 returns : tie.Need-returns
-returns c = front-back (c .before .before .before .before .before .before .before .args .e) (c .before .before .before .before .before .before .before .args .out .now) _ (c .before .before .before .rename .ensures)
+returns c =
+    let at-rename : tie.After-rename = search depth 0 in
+    let entry : tie.Start = search depth 0 in
+    front-back (entry .args .e) (entry .args .out .now) _ (at-rename .rename .ensures)
 
 pub rename-front-spec : {M : Type 1} → statement M
 rename-front-spec =

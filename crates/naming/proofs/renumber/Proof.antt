@@ -26,10 +26,14 @@ slice-read-b : tie.Need-slice-read-b Inv-loop μ-loop
 slice-read-b c = omega (arith, c .before .before .loop .inv .long)
 
 slice-write-bytes : tie.Need-slice-write-bytes Inv-loop μ-loop
-slice-write-bytes c = omega (arith, c .before .before .before .loop .inv .long)
+slice-write-bytes c =
+    let at-loop : tie.At-loop Inv-loop μ-loop = search depth 0 in
+    omega (arith, at-loop .loop .inv .long)
 
 loop-again : tie.Need-loop-again Inv-loop μ-loop
-loop-again c = mapped-more _ _ _ _ _ (c .before .before .before .loop .inv) (c .before .before .loop-test .taken) (c .number-byte .ensures)
+loop-again c =
+    let at-loop : tie.At-loop Inv-loop μ-loop = search depth 0 in
+    mapped-more _ _ _ _ _ (at-loop .loop .inv) (c .before .before .loop-test .taken) (c .number-byte .ensures)
 
 same-length : tie.Need-same-length Inv-loop μ-loop
 same-length c = c .before .loop .inv .long

@@ -57,7 +57,20 @@ normalise-in-μ-loop t₀ len most table rules lens count units l₀ u₀ t l u 
     u
 
 abbrev normalise-in-cs : ℕ → normalise-in-lts.Claims
-normalise-in-cs t = (ended-reads.Asked, ended-reads.Learnt, leave-reads.Asked, leave-reads.Learnt, byte-of-reads.Asked, byte-of-reads.Learnt, owed-by-reads.Asked, owed-by-reads.Learnt, normalise-all-below t, normalise-all.Post, rewrite-reads.Asked, rewrite-reads.Learnt)
+normalise-in-cs t = (
+  ended-reads.Asked,
+  ended-reads.Learnt,
+  leave-reads.Asked,
+  leave-reads.Learnt,
+  byte-of-reads.Asked,
+  byte-of-reads.Learnt,
+  owed-by-reads.Asked,
+  owed-by-reads.Learnt,
+  normalise-all-below t,
+  normalise-all.Post,
+  rewrite-reads.Asked,
+  rewrite-reads.Learnt,
+)
 
 abbrev normalise-all-Inv-loop : normalise-all-lts.InvT-loop
 normalise-all-Inv-loop t₀ n len most table rules lens count units k₀ p₀ l₀ u₀ t k p l u =
@@ -70,108 +83,295 @@ normalise-all-μ-loop t₀ n len most table rules lens count units k₀ p₀ l�
 abbrev normalise-all-cs : ℕ → normalise-all-lts.Claims
 normalise-all-cs t = (normalise-in-below t, normalise-in.Post, ended-reads.Asked, ended-reads.Learnt)
 
-normalise-in-loop-holds : (t : ℕ) → normalise-in-lts.Need-loop-holds (normalise-in-cs t) (normalise-in-at t) normalise-in.Post normalise-in-Inv-loop normalise-in-μ-loop
+normalise-in-loop-holds : (t : ℕ) →
+    normalise-in-lts.Need-loop-holds (normalise-in-cs t) (normalise-in-at t) normalise-in.Post normalise-in-Inv-loop normalise-in-μ-loop
 normalise-in-loop-holds t c =
     turn-start _ _ _ _ _ _ _ _ (search needs)
 
-normalise-in-returns : (t : ℕ) → normalise-in-lts.Need-returns (normalise-in-cs t) (normalise-in-at t) normalise-in.Post normalise-in-Inv-loop normalise-in-μ-loop
+normalise-in-returns : (t : ℕ) →
+    normalise-in-lts.Need-returns (normalise-in-cs t) (normalise-in-at t) normalise-in.Post normalise-in-Inv-loop normalise-in-μ-loop
 normalise-in-returns t c =
     turn-empty _ _ _ _ _ _ _ _ _ _ _ (c .before .before .loop .inv) (c .before .if1 .taken) _ (c .ended .ensures)
 
-normalise-in-returns-2 : (t : ℕ) → normalise-in-lts.Need-returns-2 (normalise-in-cs t) (normalise-in-at t) normalise-in.Post normalise-in-Inv-loop normalise-in-μ-loop
-normalise-in-returns-2 t c =
-    turn-leave _ _ _ _ _ _ _ _ _ _ _ (c .before .before .before .before .loop .inv) (c .before .before .before .if1 .left) (c .before .if2 .taken) _ (c .leave .ensures)
+-- Places, found by their types: the only field of a type is the place itself.
+abbrev Normalise-in-Else1 : (t : ℕ) → Type 0
+Normalise-in-Else1 t =
+    normalise-in-lts.Else1 (normalise-in-cs t) (normalise-in-at t) normalise-in.Post normalise-in-Inv-loop
+    normalise-in-μ-loop
 
-normalise-in-normalise-all-requires : (t : ℕ) → normalise-in-lts.Need-normalise-all-requires (normalise-in-cs t) (normalise-in-at t) normalise-in.Post normalise-in-Inv-loop normalise-in-μ-loop
+abbrev Normalise-in-At-loop : (t : ℕ) → Type 0
+Normalise-in-At-loop t =
+    normalise-in-lts.At-loop (normalise-in-cs t) (normalise-in-at t) normalise-in.Post normalise-in-Inv-loop
+    normalise-in-μ-loop
+
+abbrev Normalise-in-Start : (t : ℕ) → Type 0
+Normalise-in-Start t =
+    normalise-in-lts.Start (normalise-in-cs t) (normalise-in-at t) normalise-in.Post normalise-in-Inv-loop
+    normalise-in-μ-loop
+
+abbrev Normalise-in-After-normalise-all : (t : ℕ) → Type 0
+Normalise-in-After-normalise-all t =
+    normalise-in-lts.After-normalise-all (normalise-in-cs t) (normalise-in-at t) normalise-in.Post normalise-in-Inv-loop
+    normalise-in-μ-loop
+
+abbrev Normalise-in-After-owed-by : (t : ℕ) → Type 0
+Normalise-in-After-owed-by t =
+    normalise-in-lts.After-owed-by (normalise-in-cs t) (normalise-in-at t) normalise-in.Post normalise-in-Inv-loop
+    normalise-in-μ-loop
+
+abbrev Normalise-in-After-byte-of : (t : ℕ) → Type 0
+Normalise-in-After-byte-of t =
+    normalise-in-lts.After-byte-of (normalise-in-cs t) (normalise-in-at t) normalise-in.Post normalise-in-Inv-loop
+    normalise-in-μ-loop
+
+abbrev Normalise-in-Else2 : (t : ℕ) → Type 0
+Normalise-in-Else2 t =
+    normalise-in-lts.Else2 (normalise-in-cs t) (normalise-in-at t) normalise-in.Post normalise-in-Inv-loop
+    normalise-in-μ-loop
+
+abbrev Normalise-in-After-rewrite : (t : ℕ) → Type 0
+Normalise-in-After-rewrite t =
+    normalise-in-lts.After-rewrite (normalise-in-cs t) (normalise-in-at t) normalise-in.Post normalise-in-Inv-loop
+    normalise-in-μ-loop
+
+abbrev Normalise-in-Else3 : (t : ℕ) → Type 0
+Normalise-in-Else3 t =
+    normalise-in-lts.Else3 (normalise-in-cs t) (normalise-in-at t) normalise-in.Post normalise-in-Inv-loop
+    normalise-in-μ-loop
+
+abbrev Normalise-all-At-loop : (t : ℕ) → Type 0
+Normalise-all-At-loop t =
+    normalise-all-lts.At-loop (normalise-all-cs t) (normalise-all-at t) normalise-all.Post normalise-all-Inv-loop
+    normalise-all-μ-loop
+
+abbrev Normalise-all-Start : (t : ℕ) → Type 0
+Normalise-all-Start t =
+    normalise-all-lts.Start (normalise-all-cs t) (normalise-all-at t) normalise-all.Post normalise-all-Inv-loop
+    normalise-all-μ-loop
+
+abbrev Normalise-all-After-normalise-in : (t : ℕ) → Type 0
+Normalise-all-After-normalise-in t =
+    normalise-all-lts.After-normalise-in (normalise-all-cs t) (normalise-all-at t) normalise-all.Post normalise-all-Inv-loop
+    normalise-all-μ-loop
+
+abbrev Normalise-all-In-loop : (t : ℕ) → Type 0
+Normalise-all-In-loop t =
+    normalise-all-lts.In-loop (normalise-all-cs t) (normalise-all-at t) normalise-all.Post normalise-all-Inv-loop
+    normalise-all-μ-loop
+
+abbrev normalise-in-entry-of-at-loop : (t : ℕ) → Normalise-in-At-loop t → Normalise-in-Start t
+normalise-in-entry-of-at-loop t at = search depth 0
+
+normalise-in-returns-2 : (t : ℕ) →
+    normalise-in-lts.Need-returns-2 (normalise-in-cs t) (normalise-in-at t) normalise-in.Post normalise-in-Inv-loop normalise-in-μ-loop
+normalise-in-returns-2 t c =
+    let in-else1 : Normalise-in-Else1 t = search depth 0 in
+    let at-loop : Normalise-in-At-loop t = search depth 0 in
+    turn-leave _ _ _ _ _ _ _ _ _ _ _ (at-loop .loop .inv) (in-else1 .if1 .left) (c .before .if2 .taken) _ (c .leave .ensures)
+
+normalise-in-normalise-all-requires : (t : ℕ) →
+    normalise-in-lts.Need-normalise-all-requires (normalise-in-cs t) (normalise-in-at t) normalise-in.Post normalise-in-Inv-loop normalise-in-μ-loop
 normalise-in-normalise-all-requires t c κs =
-    let i = c .before .before .before .before .before .before .loop .inv in
+    let in-else1 : Normalise-in-Else1 t = search depth 0 in
+    let at-loop : Normalise-in-At-loop t = search depth 0 in
+    let entry : Normalise-in-Start t = search depth 0 in
+    let i = at-loop .loop .inv in
     let s = i .same in
     let m = i .small in
     let k = i .cost in
-    let p = c .before .before .before .before .before .before .before .before .before .before .before .pre in
-    let n = c .before .before .before .before .before .if1 .left in
-    let e = from-length 1 (c .before .before .before .before .before .before .loop .t) in
+    let p = entry .pre in
+    let n = in-else1 .if1 .left in
+    let e = from-length 1 (at-loop .loop .t) in
     (omega arith, (p .1 .0, (omega arith, omega arith, omega arith)))
 
-normalise-in-returns-3 : (t : ℕ) → normalise-in-lts.Need-returns-3 (normalise-in-cs t) (normalise-in-at t) normalise-in.Post normalise-in-Inv-loop normalise-in-μ-loop
+normalise-in-returns-3 : (t : ℕ) →
+    normalise-in-lts.Need-returns-3 (normalise-in-cs t) (normalise-in-at t) normalise-in.Post normalise-in-Inv-loop normalise-in-μ-loop
 normalise-in-returns-3 t c =
-    turn-stop _ _ _ _ _ _ _ _ _ _ _ (c .before .before .before .before .before .before .before .before .before .before .before .loop .inv) (c .before .before .before .before .before .before .before .before .before .before .if1 .left) (c .before .before .before .before .before .before .before .before .if2 .left) (let p = c .before .before .before .before .before .before .before .before .before .before .before .before .before .before .before .before .pre .1 .1 in let s = c .before .before .before .before .before .before .before .before .before .before .before .loop .inv .same in omega arith) _ (c .before .before .before .before .before .before .owed-by .ensures .0 ∙ ap (owes (c .before .before .before .before .before .before .before .before .before .before .before .before .before .before .before .before .args .table .now)) (c .before .before .before .before .before .before .before .byte-of .ensures)) _ _ (c .before .before .before .before .normalise-all .ensures) (c .if3 .taken)
+    let at-normalise-all : Normalise-in-After-normalise-all t = search depth 0 in
+    let at-owed-by : Normalise-in-After-owed-by t = search depth 0 in
+    let at-byte-of : Normalise-in-After-byte-of t = search depth 0 in
+    let in-else2 : Normalise-in-Else2 t = search depth 0 in
+    let in-else1 : Normalise-in-Else1 t = search depth 0 in
+    let at-loop : Normalise-in-At-loop t = search depth 0 in
+    let entry = normalise-in-entry-of-at-loop t at-loop in
+    turn-stop _ _ _ _ _ _ _ _ _ _ _ (at-loop .loop .inv) (in-else1 .if1 .left) (in-else2 .if2 .left)
+    (let p = entry .pre .1 .1 in let s = at-loop .loop .inv .same in omega arith) _
+    (at-owed-by .owed-by .ensures .0 ∙ ap (owes (entry .args .table .now)) (at-byte-of .byte-of .ensures)) _ _
+    (at-normalise-all .normalise-all .ensures) (c .if3 .taken)
 
-normalise-in-rewrite-requires : (t : ℕ) → normalise-in-lts.Need-rewrite-requires (normalise-in-cs t) (normalise-in-at t) normalise-in.Post normalise-in-Inv-loop normalise-in-μ-loop
+normalise-in-rewrite-requires : (t : ℕ) →
+    normalise-in-lts.Need-rewrite-requires (normalise-in-cs t) (normalise-in-at t) normalise-in.Post normalise-in-Inv-loop normalise-in-μ-loop
 normalise-in-rewrite-requires t c κs =
-    let p = c .before .before .before .before .before .before .before .before .before .before .before .before .before .before .before .before .before .before .before .pre in
-    let i = c .before .before .before .before .before .before .before .before .before .before .before .before .before .before .loop .inv in
+    let at-normalise-all : Normalise-in-After-normalise-all t = search depth 0 in
+    let at-owed-by : Normalise-in-After-owed-by t = search depth 0 in
+    let at-byte-of : Normalise-in-After-byte-of t = search depth 0 in
+    let in-else2 : Normalise-in-Else2 t = search depth 0 in
+    let in-else1 : Normalise-in-Else1 t = search depth 0 in
+    let at-loop : Normalise-in-At-loop t = search depth 0 in
+    let entry = normalise-in-entry-of-at-loop t at-loop in
+    let p = entry .pre in
+    let i = at-loop .loop .inv in
     let s = i .same in
-    let m = turn-room _ _ _ _ _ _ _ _ _ _ _ i (c .before .before .before .before .before .before .before .before .before .before .before .before .before .if1 .left) (c .before .before .before .before .before .before .before .before .before .before .before .if2 .left) (omega arith) _ (c .before .before .before .before .before .before .before .before .before .owed-by .ensures .0 ∙ ap (owes (c .before .before .before .before .before .before .before .before .before .before .before .before .before .before .before .before .before .before .before .args .table .now)) (c .before .before .before .before .before .before .before .before .before .before .byte-of .ensures)) _ _ (c .before .before .before .before .before .before .before .normalise-all .ensures) in
+    let m = turn-room _ _ _ _ _ _ _ _ _ _ _ i (in-else1 .if1 .left) (in-else2 .if2 .left) (omega arith) _
+    (at-owed-by .owed-by .ensures .0 ∙ ap (owes (entry .args .table .now)) (at-byte-of .byte-of .ensures)) _ _
+    (at-normalise-all .normalise-all .ensures) in
     (p .1 .0, (m .1, m .2, m .3, omega arith, omega arith))
 
-normalise-in-same-length-4 : (t : ℕ) → normalise-in-lts.Need-same-length-4 (normalise-in-cs t) (normalise-in-at t) normalise-in.Post normalise-in-Inv-loop normalise-in-μ-loop
+normalise-in-same-length-4 : (t : ℕ) →
+    normalise-in-lts.Need-same-length-4 (normalise-in-cs t) (normalise-in-at t) normalise-in.Post normalise-in-Inv-loop normalise-in-μ-loop
 normalise-in-same-length-4 t c =
-    turn-end _ _ _ _ _ _ _ _ _ _ _ (c .before .before .before .before .before .before .before .before .before .before .before .before .before .before .before .before .before .before .before .loop .inv) (c .before .before .before .before .before .before .before .before .before .before .before .before .before .before .before .before .before .before .if1 .left) (c .before .before .before .before .before .before .before .before .before .before .before .before .before .before .before .before .if2 .left) (let p = c .before .before .before .before .before .before .before .before .before .before .before .before .before .before .before .before .before .before .before .before .before .before .before .before .pre .1 .1 in let s = c .before .before .before .before .before .before .before .before .before .before .before .before .before .before .before .before .before .before .before .loop .inv .same in omega arith) _ (c .before .before .before .before .before .before .before .before .before .before .before .before .before .before .owed-by .ensures .0 ∙ ap (owes (c .before .before .before .before .before .before .before .before .before .before .before .before .before .before .before .before .before .before .before .before .before .before .before .before .args .table .now)) (c .before .before .before .before .before .before .before .before .before .before .before .before .before .before .before .byte-of .ensures)) _ _ (c .before .before .before .before .before .before .before .before .before .before .before .before .normalise-all .ensures) (c .before .before .before .before .before .before .before .before .if3 .left) _ _ (c .before .before .before .before .rewrite .ensures) (c .if4 .taken) .bounds .same
+    let at-rewrite : Normalise-in-After-rewrite t = search depth 0 in
+    let in-else3 : Normalise-in-Else3 t = search depth 0 in
+    let at-normalise-all : Normalise-in-After-normalise-all t = search depth 0 in
+    let at-owed-by : Normalise-in-After-owed-by t = search depth 0 in
+    let at-byte-of : Normalise-in-After-byte-of t = search depth 0 in
+    let in-else2 : Normalise-in-Else2 t = search depth 0 in
+    let in-else1 : Normalise-in-Else1 t = search depth 0 in
+    let at-loop : Normalise-in-At-loop t = search depth 0 in
+    let entry = normalise-in-entry-of-at-loop t at-loop in
+    turn-end _ _ _ _ _ _ _ _ _ _ _ (at-loop .loop .inv) (in-else1 .if1 .left) (in-else2 .if2 .left)
+    (let p = entry .pre .1 .1 in let s = at-loop .loop .inv .same in omega arith) _
+    (at-owed-by .owed-by .ensures .0 ∙ ap (owes (entry .args .table .now)) (at-byte-of .byte-of .ensures)) _ _
+    (at-normalise-all .normalise-all .ensures) (in-else3 .if3 .left) _ _ (at-rewrite .rewrite .ensures)
+    (c .if4 .taken) .bounds .same
 
-normalise-in-returns-4 : (t : ℕ) → normalise-in-lts.Need-returns-4 (normalise-in-cs t) (normalise-in-at t) normalise-in.Post normalise-in-Inv-loop normalise-in-μ-loop
+normalise-in-returns-4 : (t : ℕ) →
+    normalise-in-lts.Need-returns-4 (normalise-in-cs t) (normalise-in-at t) normalise-in.Post normalise-in-Inv-loop normalise-in-μ-loop
 normalise-in-returns-4 t c =
-    turn-end _ _ _ _ _ _ _ _ _ _ _ (c .before .before .before .before .before .before .before .before .before .before .before .before .before .before .before .before .before .before .before .loop .inv) (c .before .before .before .before .before .before .before .before .before .before .before .before .before .before .before .before .before .before .if1 .left) (c .before .before .before .before .before .before .before .before .before .before .before .before .before .before .before .before .if2 .left) (let p = c .before .before .before .before .before .before .before .before .before .before .before .before .before .before .before .before .before .before .before .before .before .before .before .before .pre .1 .1 in let s = c .before .before .before .before .before .before .before .before .before .before .before .before .before .before .before .before .before .before .before .loop .inv .same in omega arith) _ (c .before .before .before .before .before .before .before .before .before .before .before .before .before .before .owed-by .ensures .0 ∙ ap (owes (c .before .before .before .before .before .before .before .before .before .before .before .before .before .before .before .before .before .before .before .before .before .before .before .before .args .table .now)) (c .before .before .before .before .before .before .before .before .before .before .before .before .before .before .before .byte-of .ensures)) _ _ (c .before .before .before .before .before .before .before .before .before .before .before .before .normalise-all .ensures) (c .before .before .before .before .before .before .before .before .if3 .left) _ _ (c .before .before .before .before .rewrite .ensures) (c .if4 .taken)
+    let at-rewrite : Normalise-in-After-rewrite t = search depth 0 in
+    let in-else3 : Normalise-in-Else3 t = search depth 0 in
+    let at-normalise-all : Normalise-in-After-normalise-all t = search depth 0 in
+    let at-owed-by : Normalise-in-After-owed-by t = search depth 0 in
+    let at-byte-of : Normalise-in-After-byte-of t = search depth 0 in
+    let in-else2 : Normalise-in-Else2 t = search depth 0 in
+    let in-else1 : Normalise-in-Else1 t = search depth 0 in
+    let at-loop : Normalise-in-At-loop t = search depth 0 in
+    let entry = normalise-in-entry-of-at-loop t at-loop in
+    turn-end _ _ _ _ _ _ _ _ _ _ _ (at-loop .loop .inv) (in-else1 .if1 .left) (in-else2 .if2 .left)
+    (let p = entry .pre .1 .1 in let s = at-loop .loop .inv .same in omega arith) _
+    (at-owed-by .owed-by .ensures .0 ∙ ap (owes (entry .args .table .now)) (at-byte-of .byte-of .ensures)) _ _
+    (at-normalise-all .normalise-all .ensures) (in-else3 .if3 .left) _ _ (at-rewrite .rewrite .ensures) (c .if4 .taken)
 
-normalise-in-loop-less : (t : ℕ) → normalise-in-lts.Need-loop-less (normalise-in-cs t) (normalise-in-at t) normalise-in.Post normalise-in-Inv-loop normalise-in-μ-loop
+normalise-in-loop-less : (t : ℕ) →
+    normalise-in-lts.Need-loop-less (normalise-in-cs t) (normalise-in-at t) normalise-in.Post normalise-in-Inv-loop normalise-in-μ-loop
 normalise-in-loop-less t c =
-    turn-less _ _ _ _ _ _ _ _ _ _ _ (c .before .before .before .before .before .before .before .before .before .before .before .before .before .before .before .before .before .before .before .loop .inv) (c .before .before .before .before .before .before .before .before .before .before .before .before .before .before .before .before .before .before .if1 .left) (c .before .before .before .before .before .before .before .before .before .before .before .before .before .before .before .before .if2 .left) (let p = c .before .before .before .before .before .before .before .before .before .before .before .before .before .before .before .before .before .before .before .before .before .before .before .before .pre .1 .1 in let s = c .before .before .before .before .before .before .before .before .before .before .before .before .before .before .before .before .before .before .before .loop .inv .same in omega arith) _ (c .before .before .before .before .before .before .before .before .before .before .before .before .before .before .owed-by .ensures .0 ∙ ap (owes (c .before .before .before .before .before .before .before .before .before .before .before .before .before .before .before .before .before .before .before .before .before .before .before .before .args .table .now)) (c .before .before .before .before .before .before .before .before .before .before .before .before .before .before .before .byte-of .ensures)) _ _ (c .before .before .before .before .before .before .before .before .before .before .before .before .normalise-all .ensures) (c .before .before .before .before .before .before .before .before .if3 .left) _ _ (c .before .before .before .before .rewrite .ensures) (let p = c .before .before .before .before .before .before .before .before .before .before .before .before .before .before .before .before .before .before .before .before .before .before .before .before .pre .1 .1 in omega arith) (c .if4 .left)
+    let at-rewrite : Normalise-in-After-rewrite t = search depth 0 in
+    let in-else3 : Normalise-in-Else3 t = search depth 0 in
+    let at-normalise-all : Normalise-in-After-normalise-all t = search depth 0 in
+    let at-owed-by : Normalise-in-After-owed-by t = search depth 0 in
+    let at-byte-of : Normalise-in-After-byte-of t = search depth 0 in
+    let in-else2 : Normalise-in-Else2 t = search depth 0 in
+    let in-else1 : Normalise-in-Else1 t = search depth 0 in
+    let at-loop : Normalise-in-At-loop t = search depth 0 in
+    let entry = normalise-in-entry-of-at-loop t at-loop in
+    turn-less _ _ _ _ _ _ _ _ _ _ _ (at-loop .loop .inv) (in-else1 .if1 .left) (in-else2 .if2 .left)
+    (let p = entry .pre .1 .1 in let s = at-loop .loop .inv .same in omega arith) _
+    (at-owed-by .owed-by .ensures .0 ∙ ap (owes (entry .args .table .now)) (at-byte-of .byte-of .ensures)) _ _
+    (at-normalise-all .normalise-all .ensures) (in-else3 .if3 .left) _ _ (at-rewrite .rewrite .ensures)
+    (let p = entry .pre .1 .1 in omega arith) (c .if4 .left)
 
-normalise-in-loop-again : (t : ℕ) → normalise-in-lts.Need-loop-again (normalise-in-cs t) (normalise-in-at t) normalise-in.Post normalise-in-Inv-loop normalise-in-μ-loop
+normalise-in-loop-again : (t : ℕ) →
+    normalise-in-lts.Need-loop-again (normalise-in-cs t) (normalise-in-at t) normalise-in.Post normalise-in-Inv-loop normalise-in-μ-loop
 normalise-in-loop-again t c =
-    turn-on _ _ _ _ _ _ _ _ _ _ _ (c .before .before .before .before .before .before .before .before .before .before .before .before .before .before .before .before .before .before .before .loop .inv) (c .before .before .before .before .before .before .before .before .before .before .before .before .before .before .before .before .before .before .if1 .left) (c .before .before .before .before .before .before .before .before .before .before .before .before .before .before .before .before .if2 .left) (let p = c .before .before .before .before .before .before .before .before .before .before .before .before .before .before .before .before .before .before .before .before .before .before .before .before .pre .1 .1 in let s = c .before .before .before .before .before .before .before .before .before .before .before .before .before .before .before .before .before .before .before .loop .inv .same in omega arith) _ (c .before .before .before .before .before .before .before .before .before .before .before .before .before .before .owed-by .ensures .0 ∙ ap (owes (c .before .before .before .before .before .before .before .before .before .before .before .before .before .before .before .before .before .before .before .before .before .before .before .before .args .table .now)) (c .before .before .before .before .before .before .before .before .before .before .before .before .before .before .before .byte-of .ensures)) _ _ (c .before .before .before .before .before .before .before .before .before .before .before .before .normalise-all .ensures) (c .before .before .before .before .before .before .before .before .if3 .left) _ _ (c .before .before .before .before .rewrite .ensures) (let p = c .before .before .before .before .before .before .before .before .before .before .before .before .before .before .before .before .before .before .before .before .before .before .before .before .pre .1 .1 in omega arith) (c .if4 .left)
+    let at-rewrite : Normalise-in-After-rewrite t = search depth 0 in
+    let in-else3 : Normalise-in-Else3 t = search depth 0 in
+    let at-normalise-all : Normalise-in-After-normalise-all t = search depth 0 in
+    let at-owed-by : Normalise-in-After-owed-by t = search depth 0 in
+    let at-byte-of : Normalise-in-After-byte-of t = search depth 0 in
+    let in-else2 : Normalise-in-Else2 t = search depth 0 in
+    let in-else1 : Normalise-in-Else1 t = search depth 0 in
+    let at-loop : Normalise-in-At-loop t = search depth 0 in
+    let entry = normalise-in-entry-of-at-loop t at-loop in
+    turn-on _ _ _ _ _ _ _ _ _ _ _ (at-loop .loop .inv) (in-else1 .if1 .left) (in-else2 .if2 .left)
+    (let p = entry .pre .1 .1 in let s = at-loop .loop .inv .same in omega arith) _
+    (at-owed-by .owed-by .ensures .0 ∙ ap (owes (entry .args .table .now)) (at-byte-of .byte-of .ensures)) _ _
+    (at-normalise-all .normalise-all .ensures) (in-else3 .if3 .left) _ _ (at-rewrite .rewrite .ensures)
+    (let p = entry .pre .1 .1 in omega arith) (c .if4 .left)
 
-normalise-all-loop-holds : (t : ℕ) → normalise-all-lts.Need-loop-holds (normalise-all-cs t) (normalise-all-at t) normalise-all.Post normalise-all-Inv-loop normalise-all-μ-loop
+normalise-all-loop-holds : (t : ℕ) →
+    normalise-all-lts.Need-loop-holds (normalise-all-cs t) (normalise-all-at t) normalise-all.Post normalise-all-Inv-loop normalise-all-μ-loop
 normalise-all-loop-holds t c =
     row-start _ _ _ _ _ _ _ _ _ (search needs)
 
-normalise-all-normalise-in-requires : (t : ℕ) → normalise-all-lts.Need-normalise-in-requires (normalise-all-cs t) (normalise-all-at t) normalise-all.Post normalise-all-Inv-loop normalise-all-μ-loop
+normalise-all-normalise-in-requires : (t : ℕ) →
+    normalise-all-lts.Need-normalise-in-requires (normalise-all-cs t) (normalise-all-at t) normalise-all.Post normalise-all-Inv-loop normalise-all-μ-loop
 normalise-all-normalise-in-requires t c κs =
-    let i = c .before .before .loop .inv in
+    let at-loop : Normalise-all-At-loop t = search depth 0 in
+    let entry : Normalise-all-Start t = search depth 0 in
+    let i = at-loop .loop .inv in
     let s = i .same in
     let a = i .place in
     let b = i .small in
     let k = i .cost in
-    let p = c .before .before .before .before .before .before .before .pre in
-    let e = from-length (c .before .before .loop .p) (c .before .before .loop .t) in
+    let p = entry .pre in
+    let e = from-length (at-loop .loop .p) (at-loop .loop .t) in
     (omega arith, (p .1 .0, (omega arith, omega arith, omega arith)))
 
-normalise-all-same-length : (t : ℕ) → normalise-all-lts.Need-same-length (normalise-all-cs t) (normalise-all-at t) normalise-all.Post normalise-all-Inv-loop normalise-all-μ-loop
+normalise-all-same-length : (t : ℕ) →
+    normalise-all-lts.Need-same-length (normalise-all-cs t) (normalise-all-at t) normalise-all.Post normalise-all-Inv-loop normalise-all-μ-loop
 normalise-all-same-length t c =
-    row-stop _ _ _ _ _ _ _ _ _ (let p = c .before .before .before .before .before .before .before .before .before .before .before .before .pre .1 .1 in omega arith) _ _ _ _ _ (c .before .before .before .before .before .before .before .loop .inv) (c .before .before .before .before .before .before .loop-test .taken) _ _ (c .before .before .before .before .normalise-in .ensures) (c .if1 .taken) .bounds .same
+    let at-normalise-in : Normalise-all-After-normalise-in t = search depth 0 in
+    let in-loop : Normalise-all-In-loop t = search depth 0 in
+    let at-loop : Normalise-all-At-loop t = search depth 0 in
+    let entry : Normalise-all-Start t = search depth 0 in
+    row-stop _ _ _ _ _ _ _ _ _ (let p = entry .pre .1 .1 in omega arith) _ _ _ _ _ (at-loop .loop .inv)
+    (in-loop .loop-test .taken) _ _ (at-normalise-in .normalise-in .ensures) (c .if1 .taken) .bounds .same
 
-normalise-all-returns : (t : ℕ) → normalise-all-lts.Need-returns (normalise-all-cs t) (normalise-all-at t) normalise-all.Post normalise-all-Inv-loop normalise-all-μ-loop
+normalise-all-returns : (t : ℕ) →
+    normalise-all-lts.Need-returns (normalise-all-cs t) (normalise-all-at t) normalise-all.Post normalise-all-Inv-loop normalise-all-μ-loop
 normalise-all-returns t c =
-    row-stop _ _ _ _ _ _ _ _ _ (let p = c .before .before .before .before .before .before .before .before .before .before .before .before .pre .1 .1 in omega arith) _ _ _ _ _ (c .before .before .before .before .before .before .before .loop .inv) (c .before .before .before .before .before .before .loop-test .taken) _ _ (c .before .before .before .before .normalise-in .ensures) (c .if1 .taken)
+    let at-normalise-in : Normalise-all-After-normalise-in t = search depth 0 in
+    let in-loop : Normalise-all-In-loop t = search depth 0 in
+    let at-loop : Normalise-all-At-loop t = search depth 0 in
+    let entry : Normalise-all-Start t = search depth 0 in
+    row-stop _ _ _ _ _ _ _ _ _ (let p = entry .pre .1 .1 in omega arith) _ _ _ _ _ (at-loop .loop .inv)
+    (in-loop .loop-test .taken) _ _ (at-normalise-in .normalise-in .ensures) (c .if1 .taken)
 
-normalise-all-add-l : (t : ℕ) → normalise-all-lts.Need-add-l (normalise-all-cs t) (normalise-all-at t) normalise-all.Post normalise-all-Inv-loop normalise-all-μ-loop
+normalise-all-add-l : (t : ℕ) →
+    normalise-all-lts.Need-add-l (normalise-all-cs t) (normalise-all-at t) normalise-all.Post normalise-all-Inv-loop normalise-all-μ-loop
 normalise-all-add-l t c =
-    let q = c .before .before .before .before .before .before .before .before .before .before .before .before .before .pre .1 .1 in
-    let d = c .before .before .before .before .before .normalise-in .ensures .bounds in
+    let at-normalise-in : Normalise-all-After-normalise-in t = search depth 0 in
+    let at-loop : Normalise-all-At-loop t = search depth 0 in
+    let entry : Normalise-all-Start t = search depth 0 in
+    let q = entry .pre .1 .1 in
+    let d = at-normalise-in .normalise-in .ensures .bounds in
     let z = d .small in
-    let i = c .before .before .before .before .before .before .before .before .loop .inv in
+    let i = at-loop .loop .inv in
     let a = i .place in
     let b = i .small in
     search needs
 
-normalise-all-add-p : (t : ℕ) → normalise-all-lts.Need-add-p (normalise-all-cs t) (normalise-all-at t) normalise-all.Post normalise-all-Inv-loop normalise-all-μ-loop
+normalise-all-add-p : (t : ℕ) →
+    normalise-all-lts.Need-add-p (normalise-all-cs t) (normalise-all-at t) normalise-all.Post normalise-all-Inv-loop normalise-all-μ-loop
 normalise-all-add-p t c =
-    let q = c .before .before .before .before .before .before .before .before .before .before .before .before .before .before .pre .1 .1 in
-    let d = c .before .before .before .before .before .before .normalise-in .ensures .bounds in
+    let at-normalise-in : Normalise-all-After-normalise-in t = search depth 0 in
+    let at-loop : Normalise-all-At-loop t = search depth 0 in
+    let entry : Normalise-all-Start t = search depth 0 in
+    let q = entry .pre .1 .1 in
+    let d = at-normalise-in .normalise-in .ensures .bounds in
     let y = d .ends in
     let z = d .small in
-    let i = c .before .before .before .before .before .before .before .before .before .loop .inv in
+    let i = at-loop .loop .inv in
     let a = i .place in
     let b = i .small in
     search needs
 
-normalise-all-loop-again : (t : ℕ) → normalise-all-lts.Need-loop-again (normalise-all-cs t) (normalise-all-at t) normalise-all.Post normalise-all-Inv-loop normalise-all-μ-loop
+normalise-all-loop-again : (t : ℕ) →
+    normalise-all-lts.Need-loop-again (normalise-all-cs t) (normalise-all-at t) normalise-all.Post normalise-all-Inv-loop normalise-all-μ-loop
 normalise-all-loop-again t c =
-    row-on _ _ _ _ _ _ _ _ _ (let p = c .before .before .before .before .before .before .before .before .before .before .before .before .before .before .pre .1 .1 in omega arith) _ _ _ _ _ (c .before .before .before .before .before .before .before .before .before .loop .inv) (c .before .before .before .before .before .before .before .before .loop-test .taken) _ _ (c .before .before .before .before .before .before .normalise-in .ensures) (c .before .before .if1 .left)
+    let at-normalise-in : Normalise-all-After-normalise-in t = search depth 0 in
+    let in-loop : Normalise-all-In-loop t = search depth 0 in
+    let at-loop : Normalise-all-At-loop t = search depth 0 in
+    let entry : Normalise-all-Start t = search depth 0 in
+    row-on _ _ _ _ _ _ _ _ _ (let p = entry .pre .1 .1 in omega arith) _ _ _ _ _ (at-loop .loop .inv)
+    (in-loop .loop-test .taken) _ _ (at-normalise-in .normalise-in .ensures) (c .before .before .if1 .left)
 
-normalise-all-returns-2 : (t : ℕ) → normalise-all-lts.Need-returns-2 (normalise-all-cs t) (normalise-all-at t) normalise-all.Post normalise-all-Inv-loop normalise-all-μ-loop
+normalise-all-returns-2 : (t : ℕ) →
+    normalise-all-lts.Need-returns-2 (normalise-all-cs t) (normalise-all-at t) normalise-all.Post normalise-all-Inv-loop normalise-all-μ-loop
 normalise-all-returns-2 t c =
-    row-end _ _ _ _ _ _ _ _ _ (let p = c .before .before .before .before .before .before .before .pre .1 .1 in omega arith) _ _ _ _ _ (c .before .before .loop .inv) (search needs) _ (c .ended .ensures)
+    let entry : Normalise-all-Start t = search depth 0 in
+    row-end _ _ _ _ _ _ _ _ _ (let p = entry .pre .1 .1 in omega arith) _ _ _ _ _ (c .before .before .loop .inv)
+    (search needs) _ (c .ended .ensures)
 
 pub +normalise-all+normalise-in-spec : {M : Type 1} → statement M
 +normalise-all+normalise-in-spec = close μ-normalise-all μ-normalise-in (λ t. normalise-all-lts.spec

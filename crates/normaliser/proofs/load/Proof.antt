@@ -22,10 +22,14 @@ loop-holds : tie.Need-loop-holds Inv-loop μ-loop
 loop-holds c = load-start _ _ (c .before .before .pre)
 
 slice-write-cells : tie.Need-slice-write-cells Inv-loop μ-loop
-slice-write-cells c = let l = pasted-length _ _ _ _ _ (c .before .before .before .loop .inv) in search needs
+slice-write-cells c =
+    let at-loop : tie.At-loop Inv-loop μ-loop = search depth 0 in
+    let l = pasted-length _ _ _ _ _ (at-loop .loop .inv) in search needs
 
 loop-again : tie.Need-loop-again Inv-loop μ-loop
-loop-again c = load-more _ _ _ _ (c .before .before .before .loop .inv) (c .before .before .loop-test .taken) _ (c .cell .ensures)
+loop-again c =
+    let at-loop : tie.At-loop Inv-loop μ-loop = search depth 0 in
+    load-more _ _ _ _ (at-loop .loop .inv) (c .before .before .loop-test .taken) _ (c .cell .ensures)
 
 same-length : tie.Need-same-length Inv-loop μ-loop
 same-length c = pasted-length _ _ _ _ _ (c .before .loop .inv)

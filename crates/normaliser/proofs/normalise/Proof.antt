@@ -15,12 +15,23 @@ use Rattle.normaliser.proofs.load.Reads as load-reads
 use Rattle.normaliser.proofs.normalise_in.Reads as normalise-in-reads
 use Rattle.normaliser.proofs.unload.Reads as unload-reads
 
+-- Places, found by their types: the only field of a type is the place itself.
+abbrev entry-of-load : tie.After-load → tie.Start
+entry-of-load at = search depth 0
+
 returns : tie.Need-returns
 returns c =
-    let a = c .before .before .before .before .before .before .before .before .before .before .before .before .before .before .before .before .before .before .before .args in
-    let p = c .before .before .before .before .before .before .before .before .before .before .before .before .before .before .before .before .before .before .before .pre .1 in
+    let at-unload : tie.After-unload = search depth 0 in
+    let at-normalise-in : tie.After-normalise-in = search depth 0 in
+    let at-load : tie.After-load = search depth 0 in
+    let entry = entry-of-load at-load in
+    let a = entry .args in
+    let p = entry .pre .1 in
     let e = take-less-zero (a .len) (a .t .now) in
-    whole _ _ _ _ _ _ _ _ _ _ _ (ap length e ∙ length-take-le (a .len) (a .t .now) (omega arith)) (omega arith) refl (c .before .before .before .before .before .before .before .before .before .before .before .load .ensures) (c .before .before .before .before .before .before .before .before .normalise-in .ensures) _ _ _ e (omega arith) (take-less-zero (c .before .before .before .before .before .before .before .before .normalise-in .result .len) (c .before .before .before .before .before .before .before .before .normalise-in .last .0)) (c .before .before .before .unload .ensures)
+    whole _ _ _ _ _ _ _ _ _ _ _ (ap length e ∙ length-take-le (a .len) (a .t .now) (omega arith)) (omega arith) refl
+    (at-load .load .ensures) (at-normalise-in .normalise-in .ensures) _ _ _ e (omega arith)
+    (take-less-zero (at-normalise-in .normalise-in .result .len) (at-normalise-in .normalise-in .last .0))
+    (at-unload .unload .ensures)
 
 pub normalise-spec : {M : Type 1} → statement M
 normalise-spec =

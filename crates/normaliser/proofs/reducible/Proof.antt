@@ -13,7 +13,9 @@ use Rattle.normaliser.proofs.normalise_in.Reads as normalise-in-reads
 
 returns : tie.Need-returns
 unfolding end-number
-returns c = reduces _ _ _ _ _ _ _ _ _ _ _ refl (search needs) refl (c .before .before .before .before .before .load .ensures) (c .before .before .normalise-in .ensures) refl
+returns c =
+    let at-load : tie.After-load = search depth 0 in
+    reduces _ _ _ _ _ _ _ _ _ _ _ refl (search needs) refl (at-load .load .ensures) (c .before .before .normalise-in .ensures) refl
 
 pub reducible-spec : {M : Type 1} → statement M
 reducible-spec =

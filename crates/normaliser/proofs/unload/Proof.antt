@@ -21,19 +21,31 @@ abbrev μ-loop : tie.MeasureT-loop
 μ-loop cells t₀ i₀ t i = length cells - i
 
 loop-holds : tie.Need-loop-holds Inv-loop μ-loop
-loop-holds c = load-start _ _ (let e = bytes-length (c .before .before .args .cells .now) in let p = c .before .before .pre in omega arith)
+loop-holds c =
+    let entry : tie.Start Inv-loop μ-loop = search depth 0 in
+    load-start _ _ (let e = bytes-length (entry .args .cells .now) in let p = entry .pre in omega arith)
 
 slice-write-t : tie.Need-slice-write-t Inv-loop μ-loop
-slice-write-t c = let l = pasted-length _ _ _ _ _ (c .before .before .before .loop .inv) in search needs
+slice-write-t c =
+    let at-loop : tie.At-loop Inv-loop μ-loop = search depth 0 in
+    let l = pasted-length _ _ _ _ _ (at-loop .loop .inv) in search needs
 
 loop-again : tie.Need-loop-again Inv-loop μ-loop
-loop-again c = load-more _ _ _ _ (c .before .before .before .loop .inv) (let e = bytes-length (c .before .before .before .before .before .before .args .cells .now) in let p = c .before .before .loop-test .taken in omega arith) _ (c .byte-of .ensures ∙ sym (bytes-at (c .before .before .before .before .before .before .args .cells .now) _ (c .before .before .loop-test .taken)))
+loop-again c =
+    let in-loop : tie.In-loop Inv-loop μ-loop = search depth 0 in
+    let at-loop : tie.At-loop Inv-loop μ-loop = search depth 0 in
+    let entry : tie.Start Inv-loop μ-loop = search depth 0 in
+    let cells = entry .args .cells .now in
+    load-more _ _ _ _ (at-loop .loop .inv) (let e = bytes-length cells in let p = in-loop .loop-test .taken in omega arith)
+    _ (c .byte-of .ensures ∙ sym (bytes-at cells _ (in-loop .loop-test .taken)))
 
 same-length : tie.Need-same-length Inv-loop μ-loop
 same-length c = pasted-length _ _ _ _ _ (c .before .loop .inv)
 
 returns : tie.Need-returns Inv-loop μ-loop
-returns c = load-done _ _ _ _ (c .before .loop .inv) _ (sym (bytes-length (c .before .before .before .before .args .cells .now))) (c .loop-test .left)
+returns c =
+    let entry : tie.Start Inv-loop μ-loop = search depth 0 in
+    load-done _ _ _ _ (c .before .loop .inv) _ (sym (bytes-length (entry .args .cells .now))) (c .loop-test .left)
 
 pub unload-spec : {M : Type 1} → statement M
 unload-spec =

@@ -21,7 +21,9 @@ loop-holds : tie.Need-loop-holds Inv-loop μ-loop
 loop-holds c = see-none _ (search needs)
 
 loop-again : tie.Need-loop-again Inv-loop μ-loop
-loop-again c = see-more _ _ _ _ _ (c .before .before .loop-test .taken) (c .before .before .before .loop .inv) (c .with-byte .ensures)
+loop-again c =
+    let at-loop : tie.At-loop Inv-loop μ-loop = search depth 0 in
+    see-more _ _ _ _ _ (c .before .before .loop-test .taken) (at-loop .loop .inv) (c .with-byte .ensures)
 
 returns : tie.Need-returns Inv-loop μ-loop
 returns c = see-all _ _ _ _ (c .loop-test .left) (c .before .loop .inv)

@@ -9,10 +9,14 @@ use Rattle.overlaps.proofs.side.Lts as lts
 use Rattle.terms.proofs.wide.Reads as wide-reads
 
 part-result-end : tie.Need-part-result-end
-part-result-end c = side-ends (c .before .before .before .before .args .rules .now) (c .before .before .before .before .args .lens .now) (c .before .before .before .before .args .k) (c .before .before .before .before .pre) _ (c .wide .ensures .0)
+part-result-end c =
+    let entry : tie.Start = search depth 0 in
+    side-ends (entry .args .rules .now) (entry .args .lens .now) (entry .args .k) (entry .pre) _ (c .wide .ensures .0)
 
 returns : tie.Need-returns
-returns c = side-read _ _ _ (c .before .before .before .before .before .pre) _ (c .before .wide .ensures .0)
+returns c =
+    let entry : tie.Start = search depth 0 in
+    side-read _ _ _ (entry .pre) _ (c .before .wide .ensures .0)
 
 pub side-spec : {M : Type 1} → statement M
 side-spec =

@@ -8,16 +8,24 @@ use Rattle.overlaps.proofs.solve.Reads as reads
 use Rattle.overlaps.proofs.solve.Lts as lts
 
 solve-in-requires : tie.Need-solve-in-requires
-solve-in-requires c κs = let h = part-long _ (c .before .before .before .before .before .before .before .before .before .pre .0 .0) in (c .before .before .before .before .before .before .before .before .before .pre .0, ((h, h, h), c .before .before .before .before .before .before .before .before .before .pre .1))
+solve-in-requires c κs =
+    let entry : tie.Start = search depth 0 in
+    let h = part-long _ (entry .pre .0 .0) in (entry .pre .0, ((h, h, h), entry .pre .1))
 
 same-length : tie.Need-same-length
-same-length c = c .before .before .before .before .before .before .before .solve-in .ensures .kept .left
+same-length c =
+    let at-solve-in : tie.After-solve-in = search depth 0 in
+    at-solve-in .solve-in .ensures .kept .left
 
 same-length-2 : tie.Need-same-length-2
-same-length-2 c = c .before .before .before .before .before .before .before .solve-in .ensures .kept .right
+same-length-2 c =
+    let at-solve-in : tie.After-solve-in = search depth 0 in
+    at-solve-in .solve-in .ensures .kept .right
 
 returns : tie.Need-returns
-returns c = c .before .before .before .before .before .before .before .solve-in .ensures
+returns c =
+    let at-solve-in : tie.After-solve-in = search depth 0 in
+    at-solve-in .solve-in .ensures
 
 pub solve-spec : {M : Type 1} → statement M
 solve-spec =

@@ -11,20 +11,64 @@ use Rattle.pairs.proofs.put_pair.Reads as put-pair-reads
 use Rattle.pairs.proofs.too_large.Reads as too-large-reads
 use Rattle.terms.proofs.wide.Reads as wide-reads
 
+-- Places, found by their types: the only field of a type is the place itself.
+abbrev entry-of-else1 : tie.Else1 → tie.Start
+entry-of-else1 at = search depth 0
+
 returns : tie.Need-returns
-returns c = place-peak (c .before .before .before .before .before .before .before .before .before .before .args .nodes .now) (c .before .before .before .before .before .before .before .before .before .before .args .table .now) (c .before .before .before .before .before .before .before .before .before .before .args .ends .now) (c .before .before .before .before .before .before .before .before .before .before .args .class .now) (c .before .before .before .before .before .before .before .before .before .before .args .sizes .now) (c .before .before .before .before .before .before .before .before .before .before .pre .0 .0) (c .before .before .before .before .before .before .before .before .before .before .pre .0 .1) _ _ _ _ _ (c .too-large .ensures) (omega (arith, c .before .if1 .taken))
+returns c =
+    let entry : tie.Start = search depth 0 in
+    place-peak (entry .args .nodes .now) (entry .args .table .now) (entry .args .ends .now) (entry .args .class .now)
+    (entry .args .sizes .now) (entry .pre .0 .0) (entry .pre .0 .1) _ _ _ _ _ (c .too-large .ensures)
+    (omega (arith, c .before .if1 .taken))
 
 returns-2 : tie.Need-returns-2
-returns-2 c = place-left (c .before .before .before .before .before .before .before .before .before .before .before .before .before .args .nodes .now) (c .before .before .before .before .before .before .before .before .before .before .before .before .before .args .table .now) (c .before .before .before .before .before .before .before .before .before .before .before .before .before .args .ends .now) (c .before .before .before .before .before .before .before .before .before .before .before .before .before .args .class .now) (c .before .before .before .before .before .before .before .before .before .before .before .before .before .args .sizes .now) (c .before .before .before .before .before .before .before .before .before .before .before .before .before .pre .0 .0) (c .before .before .before .before .before .before .before .before .before .before .before .before .before .pre .0 .1) _ _ _ _ _ (c .too-large2 .ensures) _ (omega (arith, c .before .before .before .before .if1 .left)) (c .before .before .wide .ensures .0) (c .before .if2 .taken)
+returns-2 c =
+    let in-else1 : tie.Else1 = search depth 0 in
+    let entry = entry-of-else1 in-else1 in
+    place-left (entry .args .nodes .now) (entry .args .table .now) (entry .args .ends .now) (entry .args .class .now)
+    (entry .args .sizes .now) (entry .pre .0 .0) (entry .pre .0 .1) _ _ _ _ _ (c .too-large2 .ensures) _
+    (omega (arith, in-else1 .if1 .left)) (c .before .before .wide .ensures .0) (c .before .if2 .taken)
 
 returns-3 : tie.Need-returns-3
-returns-3 c = place-right (c .before .before .before .before .before .before .before .before .before .before .before .before .before .before .before .before .args .nodes .now) (c .before .before .before .before .before .before .before .before .before .before .before .before .before .before .before .before .args .table .now) (c .before .before .before .before .before .before .before .before .before .before .before .before .before .before .before .before .args .ends .now) (c .before .before .before .before .before .before .before .before .before .before .before .before .before .before .before .before .args .class .now) (c .before .before .before .before .before .before .before .before .before .before .before .before .before .before .before .before .args .sizes .now) (c .before .before .before .before .before .before .before .before .before .before .before .before .before .before .before .before .pre .0 .0) (c .before .before .before .before .before .before .before .before .before .before .before .before .before .before .before .before .pre .0 .1) _ _ _ _ _ (c .too-large3 .ensures) _ _ (omega (arith, c .before .before .before .before .before .before .before .if1 .left)) (c .before .before .before .before .before .wide .ensures .0) (c .before .before .before .before .if2 .left) (c .before .before .wide2 .ensures .0) (c .before .if3 .taken)
+returns-3 c =
+    let in-else2 : tie.Else2 = search depth 0 in
+    let at-wide : tie.After-wide = search depth 0 in
+    let in-else1 : tie.Else1 = search depth 0 in
+    let entry = entry-of-else1 in-else1 in
+    place-right (entry .args .nodes .now) (entry .args .table .now) (entry .args .ends .now) (entry .args .class .now)
+    (entry .args .sizes .now) (entry .pre .0 .0) (entry .pre .0 .1) _ _ _ _ _ (c .too-large3 .ensures) _ _
+    (omega (arith, in-else1 .if1 .left)) (at-wide .wide .ensures .0) (in-else2 .if2 .left)
+    (c .before .before .wide2 .ensures .0) (c .before .if3 .taken)
 
 put-pair-requires : tie.Need-put-pair-requires
-put-pair-requires c κs = ((c .before .before .before .before .before .before .before .before .before .before .before .before .before .before .before .before .before .pre .0 .0 .ready, c .before .before .before .before .before .before .before .before .before .before .before .before .before .before .before .before .before .pre .0 .2), (pair-small (c .before .before .before .before .before .before .before .before .before .before .before .before .before .before .before .before .before .args .nodes .now) (c .before .before .before .before .before .before .before .before .before .before .before .before .before .before .before .before .before .args .table .now) (c .before .before .before .before .before .before .before .before .before .before .before .before .before .before .before .before .before .args .ends .now) (c .before .before .before .before .before .before .before .before .before .before .before .before .before .before .before .before .before .args .class .now) (c .before .before .before .before .before .before .before .before .before .before .before .before .before .before .before .before .before .args .sizes .now) (c .before .before .before .before .before .before .before .before .before .before .before .before .before .before .before .before .before .pre .0 .0) (c .before .before .before .before .before .before .before .before .before .before .before .before .before .before .before .before .before .pre .0 .1) _ _ _ _ (c .before .before .before .before .before .before .before .before .before .before .before .before .before .before .before .before .before .pre .1 .0 .1) (c .before .before .before .before .before .before .before .before .before .before .before .before .before .before .before .before .before .pre .1 .0 .2) (c .before .before .before .before .before .before .wide .ensures .0) (c .before .before .before .wide2 .ensures .0) (c .before .before .before .before .before .if2 .left) (c .before .before .if3 .left), (omega (arith, c .before .before .before .before .before .before .before .before .before .before .before .before .before .before .before .before .before .pre .1 .1 .0, c .before .before .before .before .before .before .before .before .before .before .before .before .before .before .before .before .before .pre .1 .1 .1), omega (arith, c .before .before .before .before .before .before .before .before .before .before .before .before .before .before .before .before .before .pre .1 .1 .0, c .before .before .before .before .before .before .before .before .before .before .before .before .before .before .before .before .before .pre .1 .1 .1))))
+put-pair-requires c κs =
+    let at-wide2 : tie.After-wide2 = search depth 0 in
+    let in-else2 : tie.Else2 = search depth 0 in
+    let at-wide : tie.After-wide = search depth 0 in
+    let entry = entry-of-else1 (search depth 0) in (
+      (entry .pre .0 .0 .ready, entry .pre .0 .2),
+      (
+        pair-small (entry .args .nodes .now) (entry .args .table .now) (entry .args .ends .now) (entry .args .class .now)
+            (entry .args .sizes .now) (entry .pre .0 .0) (entry .pre .0 .1) _ _ _ _ (entry .pre .1 .0 .1) (entry .pre .1 .0 .2)
+            (at-wide .wide .ensures .0) (at-wide2 .wide2 .ensures .0) (in-else2 .if2 .left) (c .before .before .if3 .left),
+        (omega (arith, entry .pre .1 .1 .0, entry .pre .1 .1 .1), omega (arith, entry .pre .1 .1 .0, entry .pre .1 .1 .1)),
+      ),
+    )
 
 returns-4 : tie.Need-returns-4
-returns-4 c = place-found (c .before .before .before .before .before .before .before .before .before .before .before .before .before .before .before .before .before .before .before .before .before .before .args .nodes .now) (c .before .before .before .before .before .before .before .before .before .before .before .before .before .before .before .before .before .before .before .before .before .before .args .table .now) (c .before .before .before .before .before .before .before .before .before .before .before .before .before .before .before .before .before .before .before .before .before .before .args .ends .now) (c .before .before .before .before .before .before .before .before .before .before .before .before .before .before .before .before .before .before .before .before .before .before .args .class .now) (c .before .before .before .before .before .before .before .before .before .before .before .before .before .before .before .before .before .before .before .before .before .before .args .sizes .now) (c .before .before .before .before .before .before .before .before .before .before .before .before .before .before .before .before .before .before .before .before .before .before .pre .0 .0) (c .before .before .before .before .before .before .before .before .before .before .before .before .before .before .before .before .before .before .before .before .before .before .pre .0 .1) _ _ _ _ _ _ (omega (arith, c .before .before .before .before .before .before .before .before .before .before .before .before .before .if1 .left)) (c .before .before .before .before .before .before .before .before .before .before .before .wide .ensures .0) (c .before .before .before .before .before .before .before .before .before .before .if2 .left) (c .before .before .before .before .before .before .before .before .wide2 .ensures .0) (c .before .before .before .before .before .before .before .if3 .left) _ _ (c .before .before .before .before .put-pair .ensures)
+returns-4 c =
+    let at-put-pair : tie.After-put-pair = search depth 0 in
+    let in-else3 : tie.Else3 = search depth 0 in
+    let at-wide2 : tie.After-wide2 = search depth 0 in
+    let in-else2 : tie.Else2 = search depth 0 in
+    let at-wide : tie.After-wide = search depth 0 in
+    let in-else1 : tie.Else1 = search depth 0 in
+    let entry = entry-of-else1 in-else1 in
+    place-found (entry .args .nodes .now) (entry .args .table .now) (entry .args .ends .now) (entry .args .class .now)
+    (entry .args .sizes .now) (entry .pre .0 .0) (entry .pre .0 .1) _ _ _ _ _ _ (omega (arith, in-else1 .if1 .left))
+    (at-wide .wide .ensures .0) (in-else2 .if2 .left) (at-wide2 .wide2 .ensures .0) (in-else3 .if3 .left) _ _
+    (at-put-pair .put-pair .ensures)
 
 pub place-spec : {M : Type 1} → statement M
 place-spec =

@@ -24,16 +24,34 @@ loop-holds c =
     (search needs, refl)
 
 returns : tie.Need-returns Inv-loop μ-loop
-returns c = sym (c .before .before .before .loop .inv .1) ∙ table-arity _ _ _ _ (c .before .before .loop-test .taken) (c .if1 .taken)
+returns c =
+    let at-loop : tie.At-loop Inv-loop μ-loop = search depth 0 in
+    sym (at-loop .loop .inv .1) ∙ table-arity _ _ _ _ (c .before .before .loop-test .taken) (c .if1 .taken)
 
 returns-2 : tie.Need-returns-2 Inv-loop μ-loop
-returns-2 c = sym (c .before .before .before .before .before .loop .inv .1) ∙ table-rank _ _ _ _ (c .before .before .before .before .loop-test .taken) (c .before .before .if1 .left) (c .if2 .taken) ∙ ap (refused 6) (omega arith)
+returns-2 c =
+    let in-loop : tie.In-loop Inv-loop μ-loop = search depth 0 in
+    let at-loop : tie.At-loop Inv-loop μ-loop = search depth 0 in
+    sym (at-loop .loop .inv .1) ∙ table-rank _ _ _ _ (in-loop .loop-test .taken) (c .before .before .if1 .left)
+    (c .if2 .taken) ∙ ap (refused 6) (omega arith)
 
 returns-3 : tie.Need-returns-3 Inv-loop μ-loop
-returns-3 c = sym (c .before .before .before .before .before .before .before .loop .inv .1) ∙ table-same-rank _ _ _ _ (c .before .before .before .before .before .before .loop-test .taken) (c .before .before .before .before .if1 .left) (c .before .before .if2 .left) (sym (c .if3 .taken) ∙ c .before .rank-seen .ensures) ∙ ap (refused 7) (omega arith)
+returns-3 c =
+    let in-else1 : tie.Else1 Inv-loop μ-loop = search depth 0 in
+    let in-loop : tie.In-loop Inv-loop μ-loop = search depth 0 in
+    let at-loop : tie.At-loop Inv-loop μ-loop = search depth 0 in
+    sym (at-loop .loop .inv .1) ∙ table-same-rank _ _ _ _ (in-loop .loop-test .taken) (in-else1 .if1 .left)
+    (c .before .before .if2 .left) (sym (c .if3 .taken) ∙ c .before .rank-seen .ensures) ∙ ap (refused 7) (omega arith)
 
 loop-again : tie.Need-loop-again Inv-loop μ-loop
-loop-again c = (search needs, table-turn _ _ (c .before .before .before .before .before .before .loop-test .taken) (c .before .before .before .before .if1 .left) (c .before .before .if2 .left) (sym (c .if3 .left) ∙ c .before .rank-seen .ensures) ∙ c .before .before .before .before .before .before .before .loop .inv .1)
+loop-again c =
+    let in-else1 : tie.Else1 Inv-loop μ-loop = search depth 0 in
+    let in-loop : tie.In-loop Inv-loop μ-loop = search depth 0 in
+    let at-loop : tie.At-loop Inv-loop μ-loop = search depth 0 in (
+      search needs,
+      table-turn _ _ (in-loop .loop-test .taken) (in-else1 .if1 .left) (c .before .before .if2 .left)
+          (sym (c .if3 .left) ∙ c .before .rank-seen .ensures) ∙ at-loop .loop .inv .1,
+    )
 
 returns-4 : tie.Need-returns-4 Inv-loop μ-loop
 returns-4 c = sym (c .before .loop .inv .1) ∙ table-end _ _ _ _ (c .loop-test .left)

@@ -13,13 +13,26 @@ returns-2 : tie.Need-returns-2
 returns-2 c = due-short _ _ _ (c .before .if1 .left) (c .if2 .taken)
 
 returns-3 : tie.Need-returns-3
-returns-3 c = due-past-end _ _ _ _ _ _ (c .before .before .before .before .before .if2 .left) (c .before .before .before .wide .ensures .0) (c .before .wide2 .ensures .0) refl (c .if3 .taken)
+returns-3 c =
+    let at-wide : tie.After-wide = search depth 0 in
+    let in-else2 : tie.Else2 = search depth 0 in
+    due-past-end _ _ _ _ _ _ (in-else2 .if2 .left) (at-wide .wide .ensures .0) (c .before .wide2 .ensures .0) refl (c .if3 .taken)
 
 returns-4 : tie.Need-returns-4
-returns-4 c = due-other-tag _ _ _ _ _ _ (c .before .before .before .before .before .before .before .if2 .left) (c .before .before .before .before .before .wide .ensures .0) (c .before .before .before .wide2 .ensures .0) refl (c .before .before .if3 .left) (c .if4 .taken)
+returns-4 c =
+    let at-wide2 : tie.After-wide2 = search depth 0 in
+    let at-wide : tie.After-wide = search depth 0 in
+    let in-else2 : tie.Else2 = search depth 0 in
+    due-other-tag _ _ _ _ _ _ (in-else2 .if2 .left) (at-wide .wide .ensures .0) (at-wide2 .wide2 .ensures .0) refl
+    (c .before .before .if3 .left) (c .if4 .taken)
 
 returns-5 : tie.Need-returns-5
-returns-5 c = due-fine _ _ _ _ _ _ (c .before .before .before .before .before .before .before .if2 .left) (c .before .before .before .before .before .wide .ensures .0) (c .before .before .before .wide2 .ensures .0) refl (c .before .before .if3 .left) (c .if4 .left)
+returns-5 c =
+    let at-wide2 : tie.After-wide2 = search depth 0 in
+    let at-wide : tie.After-wide = search depth 0 in
+    let in-else2 : tie.Else2 = search depth 0 in
+    due-fine _ _ _ _ _ _ (in-else2 .if2 .left) (at-wide .wide .ensures .0) (at-wide2 .wide2 .ensures .0) refl
+    (c .before .before .if3 .left) (c .if4 .left)
 
 pub due-spec : {M : Type 1} → statement M
 due-spec =

@@ -7,28 +7,47 @@ use Rattle.problem.proofs.equation.Tie as tie
 
 side-requires-2 : tie.Need-side-requires-2
 side-requires-2 c κs =
-    let X = rw (c .before .before .middle .given .1) at (c .before .before .before .before .side .ensures) in
-    (c .before .before .before .before .before .before .before .before .pre .0, (X .1 .within, part-short _ (c .before .before .before .before .before .before .before .before .pre .0) _ _ _ (c .before .before .before .before .before .before .before .before .pre .1 .0) (c .before .before .before .before .before .before .before .before .pre .1 .1) (c .before .before .before .before .before .before .before .before .pre .1 .2)))
+    let at-side : tie.After-side = search depth 0 in
+    let entry : tie.Start = search depth 0 in
+    let X = rw (c .before .before .middle .given .1) at (at-side .side .ensures) in
+    (entry .pre .0, (X .1 .within, part-short _ (entry .pre .0) _ _ _ (entry .pre .1 .0) (entry .pre .1 .1) (entry .pre .1 .2)))
 
 returns : tie.Need-returns
 returns c =
-    let X = rw (c .before .before .before .before .before .before .before .middle .given .1) at (c .before .before .before .before .before .before .before .before .before .side .ensures) in
-    let Y = rw (c .before .before .last .given .1) at (c .before .before .before .before .side2 .ensures) in
-    equation-more _ (c .before .before .before .before .before .before .before .before .before .before .before .before .before .pre .0) _ _ _ (c .before .before .before .before .before .before .before .before .before .before .before .before .before .pre .1 .0) (c .before .before .before .before .before .before .before .before .before .before .before .before .before .pre .1 .1) _ _ (X .1) _ _ (Y .1) (c .if1 .taken)
+    let at-side2 : tie.After-side2 = search depth 0 in
+    let at-middle : tie.After-middle = search depth 0 in
+    let at-side : tie.After-side = search depth 0 in
+    let entry : tie.Start = search depth 0 in
+    let X = rw (at-middle .middle .given .1) at (at-side .side .ensures) in
+    let Y = rw (c .before .before .last .given .1) at (at-side2 .side2 .ensures) in
+    equation-more _ (entry .pre .0) _ _ _ (entry .pre .1 .0) (entry .pre .1 .1) _ _ (X .1) _ _ (Y .1) (c .if1 .taken)
 
 returns-2 : tie.Need-returns-2
-returns-2 c = equation-left-refused _ (c .before .before .before .before .before .before .before .pre .0) _ _ _ (c .before .before .before .before .before .before .before .pre .1 .0) (c .before .before .before .before .before .before .before .pre .1 .1) _ _ (rw (c .before .number .given .1) at (c .before .before .before .side .ensures))
+returns-2 c =
+    let at-side : tie.After-side = search depth 0 in
+    let entry : tie.Start = search depth 0 in
+    equation-left-refused _ (entry .pre .0) _ _ _ (entry .pre .1 .0) (entry .pre .1 .1) _ _
+    (rw (c .before .number .given .1) at (at-side .side .ensures))
 
 returns-3 : tie.Need-returns-3
 returns-3 c =
-    let X = rw (c .before .before .before .before .before .before .middle .given .1) at (c .before .before .before .before .before .before .before .before .side .ensures) in
-    equation-right-refused _ (c .before .before .before .before .before .before .before .before .before .before .before .before .pre .0) _ _ _ (c .before .before .before .before .before .before .before .before .before .before .before .before .pre .1 .0) (c .before .before .before .before .before .before .before .before .before .before .before .before .pre .1 .1) _ _ (X .1) _ _ (rw (c .before .number2 .given .1) at (c .before .before .before .side2 .ensures))
+    let at-side2 : tie.After-side2 = search depth 0 in
+    let at-middle : tie.After-middle = search depth 0 in
+    let at-side : tie.After-side = search depth 0 in
+    let entry : tie.Start = search depth 0 in
+    let X = rw (at-middle .middle .given .1) at (at-side .side .ensures) in
+    equation-right-refused _ (entry .pre .0) _ _ _ (entry .pre .1 .0) (entry .pre .1 .1) _ _ (X .1) _ _
+    (rw (c .before .number2 .given .1) at (at-side2 .side2 .ensures))
 
 returns-4 : tie.Need-returns-4
 returns-4 c =
-    let X = rw (c .before .before .before .before .before .before .before .middle .given .1) at (c .before .before .before .before .before .before .before .before .before .side .ensures) in
-    let Y = rw (c .before .before .last .given .1) at (c .before .before .before .before .side2 .ensures) in
-    equation-fine _ (c .before .before .before .before .before .before .before .before .before .before .before .before .before .pre .0) _ _ _ (c .before .before .before .before .before .before .before .before .before .before .before .before .before .pre .1 .0) (c .before .before .before .before .before .before .before .before .before .before .before .before .before .pre .1 .1) _ _ (X .1) _ _ (Y .1) (c .if1 .left)
+    let at-side2 : tie.After-side2 = search depth 0 in
+    let at-middle : tie.After-middle = search depth 0 in
+    let at-side : tie.After-side = search depth 0 in
+    let entry : tie.Start = search depth 0 in
+    let X = rw (at-middle .middle .given .1) at (at-side .side .ensures) in
+    let Y = rw (c .before .before .last .given .1) at (at-side2 .side2 .ensures) in
+    equation-fine _ (entry .pre .0) _ _ _ (entry .pre .1 .0) (entry .pre .1 .1) _ _ (X .1) _ _ (Y .1) (c .if1 .left)
 
 pub equation-spec : {M : Type 1} → statement M
 equation-spec =

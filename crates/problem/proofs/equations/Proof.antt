@@ -18,15 +18,23 @@ loop-holds : tie.Need-loop-holds Inv-loop μ-loop
 loop-holds c = (search needs, search needs, fields-start _ _ _)
 
 returns : tie.Need-returns Inv-loop μ-loop
-returns c = fields-bad _ _ _ _ _ (c .before .before .before .before .before .loop .inv .2) _ _ (rw (c .before .number .given .1) at (c .before .before .before .equation-field .ensures))
+returns c =
+    let at-equation-field : tie.After-equation-field Inv-loop μ-loop = search depth 0 in
+    let at-loop : tie.At-loop Inv-loop μ-loop = search depth 0 in
+    fields-bad _ _ _ _ _ (at-loop .loop .inv .2) _ _ (rw (c .before .number .given .1) at (at-equation-field .equation-field .ensures))
 
 loop-less : tie.Need-loop-less Inv-loop μ-loop
-loop-less c = let f = rw (c .before .end .given .1) at (c .before .before .before .equation-field .ensures) in omega (arith, f .low, f .within)
+loop-less c =
+    let at-equation-field : tie.After-equation-field Inv-loop μ-loop = search depth 0 in
+    let f = rw (c .before .end .given .1) at (at-equation-field .equation-field .ensures) in omega (arith, f .low, f .within)
 
 loop-again : tie.Need-loop-again Inv-loop μ-loop
 loop-again c =
-    let f = rw (c .before .end .given .1) at (c .before .before .before .equation-field .ensures) in
-    (f .more, f .within, fields-turn _ _ _ _ _ (c .before .before .before .before .before .loop .inv .2) (c .before .before .before .before .loop-test .taken) _ f)
+    let at-equation-field : tie.After-equation-field Inv-loop μ-loop = search depth 0 in
+    let in-loop : tie.In-loop Inv-loop μ-loop = search depth 0 in
+    let at-loop : tie.At-loop Inv-loop μ-loop = search depth 0 in
+    let f = rw (c .before .end .given .1) at (at-equation-field .equation-field .ensures) in
+    (f .more, f .within, fields-turn _ _ _ _ _ (at-loop .loop .inv .2) (in-loop .loop-test .taken) _ f)
 
 returns-2 : tie.Need-returns-2 Inv-loop μ-loop
 returns-2 c = fields-end _ _ _ _ _ (c .before .loop .inv .2) (c .loop-test .left)

@@ -19,10 +19,14 @@ loop-holds : tie.Need-loop-holds Inv-loop μ-loop
 loop-holds c = (search needs, refl)
 
 returns : tie.Need-returns Inv-loop μ-loop
-returns c = seen-here _ _ _ (c .before .before .loop-test .taken) (c .if1 .taken) ∙ c .before .before .before .loop .inv .1
+returns c =
+    let at-loop : tie.At-loop Inv-loop μ-loop = search depth 0 in
+    seen-here _ _ _ (c .before .before .loop-test .taken) (c .if1 .taken) ∙ at-loop .loop .inv .1
 
 loop-again : tie.Need-loop-again Inv-loop μ-loop
-loop-again c = (search needs, seen-before _ _ _ (c .before .before .loop-test .taken) (c .if1 .left) ∙ c .before .before .before .loop .inv .1)
+loop-again c =
+    let at-loop : tie.At-loop Inv-loop μ-loop = search depth 0 in
+    (search needs, seen-before _ _ _ (c .before .before .loop-test .taken) (c .if1 .left) ∙ at-loop .loop .inv .1)
 
 returns-2 : tie.Need-returns-2 Inv-loop μ-loop
 returns-2 c = seen-none _ _ _ (c .loop-test .left) ∙ c .before .loop .inv .1

@@ -12,10 +12,22 @@ use Rattle.matching.proofs.replace.Reads as replace-reads
 use Rattle.terms.proofs.wide.Reads as wide-reads
 
 part-replace-end : tie.Need-part-replace-end
-part-replace-end c = let l = c .before .before .before .before .before .before .before .pre .0 in let f = l .few in let o = l .slots in let s = l .short (2 * (c .before .before .before .before .before .before .before .args .k) + 1) (omega arith) in let w = c .before .wide .ensures .0 in search needs
+part-replace-end c =
+    let entry : tie.Start = search depth 0 in
+    let l = entry .pre .0 in
+    let f = l .few in
+    let o = l .slots in
+    let s = l .short (2 * (entry .args .k) + 1) (omega arith) in
+    let w = c .before .wide .ensures .0 in
+    search needs
 
 returns : tie.Need-returns
-returns c = let a = c .before .before .before .before .before .before .before .before .before .before .before .args in contracted-by (a .rules .now) (a .lens .now) (a .t .now) _ (a .binds .now) (a .k) (a .len) (a .end) (a .most) _ _ (c .before .before .before .before .before .wide .ensures .0) (c .before .before .replace .ensures)
+returns c =
+    let at-wide : tie.After-wide = search depth 0 in
+    let entry : tie.Start = search depth 0 in
+    let a = entry .args in
+    contracted-by (a .rules .now) (a .lens .now) (a .t .now) _ (a .binds .now) (a .k) (a .len) (a .end) (a .most) _ _
+    (at-wide .wide .ensures .0) (c .before .before .replace .ensures)
 
 pub contract-spec : {M : Type 1} → statement M
 contract-spec =

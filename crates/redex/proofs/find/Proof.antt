@@ -20,13 +20,26 @@ loop-holds : tie.Need-loop-holds Inv-loop μ-loop
 loop-holds c = search-start _ _ _ _ _
 
 fits-requires : tie.Need-fits-requires Inv-loop μ-loop
-fits-requires c κs = (layout-front _ _ _ _ _ _ (c .before .before .before .before .before .before .before .pre .0) (let q = c .before .loop-test .taken in omega arith), let i = c .before .before .loop .inv .same in search needs)
+fits-requires c κs =
+    let entry : tie.Start Inv-loop μ-loop = search depth 0 in (
+      layout-front _ _ _ _ _ _ (entry .pre .0) (let q = c .before .loop-test .taken in omega arith),
+      let i = c .before .before .loop .inv .same in
+          search needs,
+    )
 
 returns : tie.Need-returns Inv-loop μ-loop
-returns c = search-hit _ _ _ _ _ _ _ (c .before .before .before .before .before .before .loop .inv) (c .before .before .before .before .before .loop-test .taken) _ _ (c .before .before .before .fits2 .ensures) (c .if1 .taken)
+returns c =
+    let at-fits2 : tie.After-fits2 Inv-loop μ-loop = search depth 0 in
+    let in-loop : tie.In-loop Inv-loop μ-loop = search depth 0 in
+    let at-loop : tie.At-loop Inv-loop μ-loop = search depth 0 in
+    search-hit _ _ _ _ _ _ _ (at-loop .loop .inv) (in-loop .loop-test .taken) _ _ (at-fits2 .fits2 .ensures) (c .if1 .taken)
 
 loop-again : tie.Need-loop-again Inv-loop μ-loop
-loop-again c = search-on _ _ _ _ _ _ _ (c .before .before .before .before .before .before .loop .inv) (c .before .before .before .before .before .loop-test .taken) _ _ (c .before .before .before .fits2 .ensures) (c .if1 .left)
+loop-again c =
+    let at-fits2 : tie.After-fits2 Inv-loop μ-loop = search depth 0 in
+    let in-loop : tie.In-loop Inv-loop μ-loop = search depth 0 in
+    let at-loop : tie.At-loop Inv-loop μ-loop = search depth 0 in
+    search-on _ _ _ _ _ _ _ (at-loop .loop .inv) (in-loop .loop-test .taken) _ _ (at-fits2 .fits2 .ensures) (c .if1 .left)
 
 returns-2 : tie.Need-returns-2 Inv-loop μ-loop
 returns-2 c = search-end _ _ _ _ _ _ _ (c .before .loop .inv) (c .loop-test .left)

@@ -19,14 +19,20 @@ slice-aggregate-report-2 c = search needs
 
 report-requires : tie.Need-report-requires
 report-requires c κs =
-    let n : length (c .before .before .before .before .before .before .before .before .before .before .args .state .numbers) ≡ 33 = search needs in
-    (c .before .before .before .before .before .before .before .before .before .before .pre .0, lent-of (c .before .before .before .before .before .before .before .before .before .before .args .state) _ _ _ _ n (c .before .before .before .before .before .before .before .before .before .before .pre .1 .0 .3) (c .before .before .before .before .before .before .before .before .before .before .pre .1 .0 .0) (c .before .before .before .before .before .before .before .before .before .before .pre .1 .0 .1) (c .before .before .before .before .before .before .before .before .before .before .pre .1 .0 .2) (c .before .before .before .before .before .before .before .before .before .before .pre .1 .1 .0) (c .before .before .before .before .before .before .before .before .before .before .pre .1 .1 .1))
+    let entry : tie.Start = search depth 0 in
+    let n : length (entry .args .state .numbers) ≡ 33 = search needs in (
+      entry .pre .0,
+      lent-of (entry .args .state) _ _ _ _ n (entry .pre .1 .0 .3) (entry .pre .1 .0 .0) (entry .pre .1 .0 .1)
+          (entry .pre .1 .0 .2) (entry .pre .1 .1 .0) (entry .pre .1 .1 .1),
+    )
 
 same-length : tie.Need-same-length
 same-length c = search needs
 
 returns : tie.Need-returns
-returns c = of-state (c .before .before .before .before .before .before .before .before .before .before .before .before .before .args .state) _ _ _ _ _ _ _ _ _ (c .before .before .report .ensures)
+returns c =
+    let entry : tie.Start = search depth 0 in
+    of-state (entry .args .state) _ _ _ _ _ _ _ _ _ (c .before .before .report .ensures)
 
 pub of-state-spec : {M : Type 1} → statement M
 of-state-spec =

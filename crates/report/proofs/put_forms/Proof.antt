@@ -11,11 +11,26 @@ use Rattle.fields.proofs.put_field.Reads as put-field-reads
 use Rattle.naming.proofs.rename_front.Reads as rename-front-reads
 use Rattle.store.proofs.paste.Reads as paste-reads
 
+-- Places, found by their types: the only field of a type is the place itself.
+abbrev entry-of-paste : tie.After-paste → tie.Start
+entry-of-paste at = search depth 0
+
 rename-front-requires : tie.Need-rename-front-requires
-rename-front-requires c κs = laid-ready (c .before .before .before .before .before .before .before .before .before .before .args .left .now) (c .before .before .before .before .before .before .before .before .before .before .args .right .now) _ _ _ refl (c .before .before .before .before .before .before .before .before .before .before .pre .0 .1) (c .before .before .before .before .before .before .before .before .before .before .pre .0 .2) (c .before .before .before .before .before .paste .ensures) (c .before .before .paste2 .ensures) (c .before .before .before .before .before .before .before .before .before .before .pre .1)
+rename-front-requires c κs =
+    let at-paste : tie.After-paste = search depth 0 in
+    let entry : tie.Start = search depth 0 in
+    laid-ready (entry .args .left .now) (entry .args .right .now) _ _ _ refl (entry .pre .0 .1) (entry .pre .0 .2)
+    (at-paste .paste .ensures) (c .before .before .paste2 .ensures) (entry .pre .1)
 
 returns : tie.Need-returns
-returns c = puts-forms (c .before .before .before .before .before .before .before .before .before .before .before .before .before .before .before .before .before .before .args .left .now) (c .before .before .before .before .before .before .before .before .before .before .before .before .before .before .before .before .before .before .args .right .now) _ _ _ refl (c .before .before .before .before .before .before .before .before .before .before .before .before .before .before .before .before .before .before .pre .0 .1) (c .before .before .before .before .before .before .before .before .before .before .before .before .before .before .before .before .before .before .pre .0 .2) (c .before .before .before .before .before .before .before .before .before .before .before .before .before .paste .ensures) (c .before .before .before .before .before .before .before .before .before .before .paste2 .ensures) (c .before .before .before .before .before .before .before .rename-front .last .0) _ _ _ _ (c .before .before .before .before .before .before .before .rename-front .ensures) (c .before .before .put-field .ensures)
+returns c =
+    let at-rename-front : tie.After-rename-front = search depth 0 in
+    let at-paste2 : tie.After-paste2 = search depth 0 in
+    let at-paste : tie.After-paste = search depth 0 in
+    let entry = entry-of-paste at-paste in
+    puts-forms (entry .args .left .now) (entry .args .right .now) _ _ _ refl (entry .pre .0 .1) (entry .pre .0 .2)
+    (at-paste .paste .ensures) (at-paste2 .paste2 .ensures) (at-rename-front .rename-front .last .0) _ _ _ _
+    (at-rename-front .rename-front .ensures) (c .before .before .put-field .ensures)
 
 pub put-forms-spec : {M : Type 1} → statement M
 put-forms-spec =

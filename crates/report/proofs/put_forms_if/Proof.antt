@@ -14,16 +14,41 @@ returns : tie.Need-returns
 returns c = forms-none _ _ _ _ _ (c .if1 .taken)
 
 returns-2 : tie.Need-returns-2
-returns-2 c = left-high _ (c .before .before .before .before .before .before .args .left .now) (c .before .before .before .before .before .before .args .right .now) _ _ (c .before .before .if1 .left) (is-high _ _ (c .before .low .ensures) (c .if2 .taken))
+returns-2 c =
+    let entry : tie.Start = search depth 0 in
+    left-high _ (entry .args .left .now) (entry .args .right .now) _ _ (c .before .before .if1 .left)
+    (is-high _ _ (c .before .low .ensures) (c .if2 .taken))
 
 returns-3 : tie.Need-returns-3
-returns-3 c = right-high _ (c .before .before .before .before .before .before .before .before .args .left .now) (c .before .before .before .before .before .before .before .before .args .right .now) _ _ (c .before .before .before .before .if1 .left) (is-low _ _ (c .before .before .before .low .ensures) (c .before .before .if2 .left)) (is-high _ _ (c .before .low2 .ensures) (c .if3 .taken))
+returns-3 c =
+    let at-low : tie.After-low = search depth 0 in
+    let in-else1 : tie.Else1 = search depth 0 in
+    let entry : tie.Start = search depth 0 in
+    right-high _ (entry .args .left .now) (entry .args .right .now) _ _ (in-else1 .if1 .left)
+    (is-low _ _ (at-low .low .ensures) (c .before .before .if2 .left))
+    (is-high _ _ (c .before .low2 .ensures) (c .if3 .taken))
 
 put-forms-requires : tie.Need-put-forms-requires
-put-forms-requires c κs = (c .before .before .before .before .before .before .before .before .before .pre, low-names (c .before .before .before .before .before .before .before .before .before .args .left .now) (c .before .before .before .before .before .before .before .before .before .args .right .now) (is-low _ _ (c .before .before .before .before .low .ensures) (c .before .before .before .if2 .left)) (is-low _ _ (c .before .before .low2 .ensures) (c .before .if3 .left)))
+put-forms-requires c κs =
+    let in-else2 : tie.Else2 = search depth 0 in
+    let at-low : tie.After-low = search depth 0 in
+    let entry : tie.Start = search depth 0 in (
+      entry .pre,
+      low-names (entry .args .left .now) (entry .args .right .now) (is-low _ _ (at-low .low .ensures) (in-else2 .if2 .left))
+          (is-low _ _ (c .before .before .low2 .ensures) (c .before .if3 .left)),
+    )
 
 returns-4 : tie.Need-returns-4
-returns-4 c = forms-put _ (c .before .before .before .before .before .before .before .before .before .before .before .before .args .left .now) (c .before .before .before .before .before .before .before .before .before .before .before .before .args .right .now) _ _ _ _ (c .before .before .before .before .before .before .before .before .before .before .before .before .pre .1) (c .before .before .before .before .before .before .before .before .before .before .before .before .pre .2) (c .before .before .before .before .before .before .before .before .if1 .left) (is-low _ _ (c .before .before .before .before .before .before .before .low .ensures) (c .before .before .before .before .before .before .if2 .left)) (is-low _ _ (c .before .before .before .before .before .low2 .ensures) (c .before .before .before .before .if3 .left)) (c .before .before .put-forms .ensures)
+returns-4 c =
+    let in-else3 : tie.Else3 = search depth 0 in
+    let at-low2 : tie.After-low2 = search depth 0 in
+    let in-else2 : tie.Else2 = search depth 0 in
+    let at-low : tie.After-low = search depth 0 in
+    let in-else1 : tie.Else1 = search depth 0 in
+    let entry : tie.Start = search depth 0 in
+    forms-put _ (entry .args .left .now) (entry .args .right .now) _ _ _ _ (entry .pre .1) (entry .pre .2)
+    (in-else1 .if1 .left) (is-low _ _ (at-low .low .ensures) (in-else2 .if2 .left))
+    (is-low _ _ (at-low2 .low2 .ensures) (in-else3 .if3 .left)) (c .before .before .put-forms .ensures)
 
 pub put-forms-if-spec : {M : Type 1} → statement M
 put-forms-if-spec =

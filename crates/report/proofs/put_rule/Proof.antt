@@ -12,17 +12,63 @@ use Rattle.fields.proofs.put_number.Reads as put-number-reads
 use Rattle.fields.proofs.put_part.Reads as put-part-reads
 use Rattle.terms.proofs.wide.Reads as wide-reads
 
+-- Places, found by their types: the only field of a type is the place itself.
+abbrev entry-of-wide : tie.After-wide → tie.Start
+entry-of-wide at = search depth 0
+
+abbrev put-head-of-put-part-arg2 : tie.After-put-part-arg2 → tie.After-put-head
+put-head-of-put-part-arg2 at = search depth 0
+
+abbrev wide-of-put-head : tie.After-put-head → tie.After-wide
+wide-of-put-head at = search depth 0
+
+abbrev entry-of-put-head : tie.After-put-head → tie.Start
+entry-of-put-head at = entry-of-wide (wide-of-put-head at)
+
+abbrev entry-of-put-part-arg2 : tie.After-put-part-arg2 → tie.Start
+entry-of-put-part-arg2 at = entry-of-put-head (put-head-of-put-part-arg2 at)
+
+abbrev wide-of-put-part-arg2 : tie.After-put-part-arg2 → tie.After-wide
+wide-of-put-part-arg2 at = wide-of-put-head (put-head-of-put-part-arg2 at)
+
+abbrev wide2-of-put-head : tie.After-put-head → tie.After-wide2
+wide2-of-put-head at = search depth 0
+
+abbrev wide2-of-put-part-arg2 : tie.After-put-part-arg2 → tie.After-wide2
+wide2-of-put-part-arg2 at = wide2-of-put-head (put-head-of-put-part-arg2 at)
+
 cast-put-number : tie.Need-cast-put-number
-cast-put-number c = omega (arith, c .shared-slice-known6 .given (c .before .before .before .before .before .before .before .before .before .before .before .before .before .before .args .k))
+cast-put-number c =
+    let entry = entry-of-wide (search depth 0) in
+    omega (arith, c .shared-slice-known6 .given (entry .args .k))
 
 put-part-requires : tie.Need-put-part-requires
-put-part-requires c κs = omega (arith, slot-short _ _ _ (c .before .before .before .before .before .before .before .before .before .before .before .before .before .before .before .before .before .before .pre .1 .0) .left, c .before .before .before .before .before .before .before .before .before .before .before .before .wide .ensures .0)
+put-part-requires c κs =
+    let at-wide : tie.After-wide = search depth 0 in
+    let entry : tie.Start = search depth 0 in
+    omega (arith, slot-short _ _ _ (entry .pre .1 .0) .left, at-wide .wide .ensures .0)
 
 put-part-requires-2 : tie.Need-put-part-requires-2
-put-part-requires-2 c κs = omega (arith, slot-short _ _ _ (c .before .before .before .before .before .before .before .before .before .before .before .before .before .before .before .before .before .before .before .before .before .before .pre .1 .0) .left, slot-short _ _ _ (c .before .before .before .before .before .before .before .before .before .before .before .before .before .before .before .before .before .before .before .before .before .before .pre .1 .0) .right, c .before .before .before .before .before .before .before .before .before .before .before .before .before .before .before .before .wide .ensures .0, c .before .before .before .before .before .before .before .before .before .before .before .before .before .before .wide2 .ensures .0)
+put-part-requires-2 c κs =
+    omega (
+      arith,
+      slot-short _ _ _ (entry-of-put-part-arg2 c .pre .1 .0) .left,
+      slot-short _ _ _ (entry-of-put-part-arg2 c .pre .1 .0) .right,
+      wide-of-put-part-arg2 c .wide .ensures .0,
+      wide2-of-put-part-arg2 c .wide2 .ensures .0,
+    )
 
 returns : tie.Need-returns
-returns c = puts-rule _ _ _ (c .before .before .before .before .before .before .before .before .before .before .before .before .before .before .before .before .before .before .before .before .before .before .before .before .before .pre .1 .0) _ _ _ _ _ _ _ _ _ _ _ _ _ (c .before .before .before .before .before .before .before .before .before .before .before .before .before .before .before .before .before .before .before .before .before .before .before .before .before .pre .0) (c .before .before .before .before .before .before .before .before .before .before .before .before .before .before .before .before .before .before .before .wide .ensures .0) (c .before .before .before .before .before .before .before .before .before .before .before .before .before .before .before .before .before .wide2 .ensures .0) (c .before .before .before .before .before .before .before .before .before .before .before .before .before .before .before .put-head .ensures) (c .before .before .before .before .before .before .before .before .before .before .put-number .ensures) (c .before .before .before .before .before .before .put-part .ensures) (c .before .before .put-part2 .ensures)
+returns c =
+    let at-put-part : tie.After-put-part = search depth 0 in
+    let at-put-number : tie.After-put-number = search depth 0 in
+    let at-put-head : tie.After-put-head = search depth 0 in
+    let at-wide2 : tie.After-wide2 = search depth 0 in
+    let at-wide : tie.After-wide = search depth 0 in
+    let entry = entry-of-wide at-wide in
+    puts-rule _ _ _ (entry .pre .1 .0) _ _ _ _ _ _ _ _ _ _ _ _ _ (entry .pre .0) (at-wide .wide .ensures .0)
+    (at-wide2 .wide2 .ensures .0) (at-put-head .put-head .ensures) (at-put-number .put-number .ensures)
+    (at-put-part .put-part .ensures) (c .before .before .put-part2 .ensures)
 
 pub put-rule-spec : {M : Type 1} → statement M
 put-rule-spec =

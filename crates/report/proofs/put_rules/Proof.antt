@@ -20,16 +20,25 @@ loop-holds : tie.Need-loop-holds Inv-loop μ-loop
 loop-holds c = listing-start _ _ _ _ _ _
 
 put-rule-requires : tie.Need-put-rule-requires Inv-loop μ-loop
-put-rule-requires c κs = (search needs, (layout-below _ _ _ _ _ (c .before .before .before .before .before .before .before .pre .1 .0) (search needs), search needs))
+put-rule-requires c κs =
+    let entry : tie.Start Inv-loop μ-loop = search depth 0 in
+    (search needs, (layout-below _ _ _ _ _ (entry .pre .1 .0) (search needs), search needs))
 
 loop-again : tie.Need-loop-again Inv-loop μ-loop
-loop-again c = listing-more _ _ _ _ _ _ (c .before .before .before .before .before .before .before .before .before .before .pre .0) _ _ _ (c .before .before .before .before .before .loop .inv) _ _ (c .before .before .before .before .loop-test .taken) (c .before .before .put-rule .ensures)
+loop-again c =
+    let in-loop : tie.In-loop Inv-loop μ-loop = search depth 0 in
+    let at-loop : tie.At-loop Inv-loop μ-loop = search depth 0 in
+    let entry : tie.Start Inv-loop μ-loop = search depth 0 in
+    listing-more _ _ _ _ _ _ (entry .pre .0) _ _ _ (at-loop .loop .inv) _ _ (in-loop .loop-test .taken)
+    (c .before .before .put-rule .ensures)
 
 same-length : tie.Need-same-length Inv-loop μ-loop
 same-length c = c .before .loop .inv .same
 
 returns : tie.Need-returns Inv-loop μ-loop
-returns c = listing-end _ _ _ _ _ _ (c .before .before .before .before .before .before .pre .0) _ _ _ (c .before .loop .inv) (c .loop-test .left)
+returns c =
+    let entry : tie.Start Inv-loop μ-loop = search depth 0 in
+    listing-end _ _ _ _ _ _ (entry .pre .0) _ _ _ (c .before .loop .inv) (c .loop-test .left)
 
 pub put-rules-spec : {M : Type 1} → statement M
 put-rules-spec =

@@ -11,16 +11,38 @@ use Rattle.scan.proofs.scan.Lts as lts
 use Rattle.scan.proofs.scan_inputs.Reads as scan-inputs-reads
 use Rattle.scan.proofs.scan_rules.Reads as scan-rules-reads
 
+-- Places, found by their types: the only field of a type is the place itself.
+abbrev entry-of-scan-rules : tie.After-scan-rules → tie.Start
+entry-of-scan-rules at = search depth 0
+
 returns : tie.Need-returns
 unfolding end-number
-returns c = scanned _ _ _ _ _ _ _ _ (going-stop going-start (all-parts _ _ _ _ _ _ _ _) (rules-walk _ _ _ _ _ _ _ _ (c .before .before .before .before .before .before .scan-rules .ensures)) (c .if1 .taken))
+returns c =
+    let at-scan-rules : tie.After-scan-rules = search depth 0 in
+    scanned _ _ _ _ _ _ _ _
+    (going-stop going-start (all-parts _ _ _ _ _ _ _ _) (rules-walk _ _ _ _ _ _ _ _ (at-scan-rules .scan-rules .ensures))
+    (c .if1 .taken))
 
 scan-inputs-requires : tie.Need-scan-inputs-requires
-scan-inputs-requires c κs = ((c .before .before .before .before .before .before .before .before .before .before .before .before .before .before .before .before .before .before .before .pre .0 .0, c .before .before .before .before .before .before .before .before .before .before .before .before .before .before .before .before .before .before .before .pre .1 .0), (still-fits (c .before .before .before .before .before .before .before .before .scan-rules .ensures .room .left-kept) (c .before .before .before .before .before .before .before .before .before .before .before .before .before .before .before .before .before .before .before .pre .1 .1 .0), still-fits (c .before .before .before .before .before .before .before .before .scan-rules .ensures .room .right-kept) (c .before .before .before .before .before .before .before .before .before .before .before .before .before .before .before .before .before .before .before .pre .1 .1 .1)))
+scan-inputs-requires c κs =
+    let at-scan-rules : tie.After-scan-rules = search depth 0 in
+    let entry = entry-of-scan-rules at-scan-rules in (
+      (entry .pre .0 .0, entry .pre .1 .0),
+      (
+        still-fits (at-scan-rules .scan-rules .ensures .room .left-kept) (entry .pre .1 .1 .0),
+        still-fits (at-scan-rules .scan-rules .ensures .room .right-kept) (entry .pre .1 .1 .1),
+      ),
+    )
 
 returns-2 : tie.Need-returns-2
 unfolding end-number
-returns-2 c = scanned _ _ _ _ _ _ _ _ (going-then (going-on going-start (all-parts _ _ _ _ _ _ _ _) (rules-walk _ _ _ _ _ _ _ _ (c .before .before .before .before .before .before .before .before .before .before .before .before .before .scan-rules .ensures)) (c .before .before .before .before .before .before .before .if1 .left)) (inputs-walk _ _ _ _ _ _ _ _ (c .before .before .before .before .scan-inputs .ensures)))
+returns-2 c =
+    let at-scan-inputs : tie.After-scan-inputs = search depth 0 in
+    let in-else1 : tie.Else1 = search depth 0 in
+    let at-scan-rules : tie.After-scan-rules = search depth 0 in
+    scanned _ _ _ _ _ _ _ _ (going-then
+    (going-on going-start (all-parts _ _ _ _ _ _ _ _) (rules-walk _ _ _ _ _ _ _ _ (at-scan-rules .scan-rules .ensures))
+    (in-else1 .if1 .left)) (inputs-walk _ _ _ _ _ _ _ _ (at-scan-inputs .scan-inputs .ensures)))
 
 pub scan-spec : {M : Type 1} → statement M
 scan-spec =

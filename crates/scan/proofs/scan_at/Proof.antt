@@ -13,25 +13,60 @@ use Rattle.origins.proofs.origin.Reads as origin-reads
 use Rattle.joining.proofs.join_pair.Reads as join-pair-reads
 use Rattle.joining.proofs.stopped.Reads as stopped-reads
 
+-- Places, found by their types: the only field of a type is the place itself.
+abbrev entry-of-overlap : tie.After-overlap → tie.Start
+entry-of-overlap at = search depth 0
+
+abbrev overlap-of-m : tie.After-m → tie.After-overlap
+overlap-of-m at = search depth 0
+
 overlap-requires : tie.Need-overlap-requires
-overlap-requires c κs = ((layout-below _ _ _ _ _ (c .before .before .before .before .before .before .before .before .pre .0 .0) (c .before .before .before .before .before .before .before .before .pre .1 .0 .0), layout-below _ _ _ _ _ (c .before .before .before .before .before .before .before .before .pre .0 .0) (c .before .before .before .before .before .before .before .before .pre .1 .0 .1)), c .before .before .before .before .before .before .before .before .pre .1 .1)
+overlap-requires c κs =
+    let entry : tie.Start = search depth 0 in (
+      (
+        layout-below _ _ _ _ _ (entry .pre .0 .0) (entry .pre .1 .0 .0),
+        layout-below _ _ _ _ _ (entry .pre .0 .0) (entry .pre .1 .0 .1),
+      ),
+      entry .pre .1 .1,
+    )
 
 origin-requires : tie.Need-origin-requires
-origin-requires c κs = c .before .before .before .before .before .before .before .before .before .before .before .before .before .before .before .before .before .before .pre .1 .0 .2
+origin-requires c κs =
+    let entry = entry-of-overlap (search depth 0) in
+    entry .pre .1 .0 .2
 
 join-pair-requires : tie.Need-join-pair-requires
-join-pair-requires c κs = (c .before .before .before .before .before .before .before .before .before .before .before .before .before .before .before .before .before .before .before .before .before .pre .0 .0, found-fits (c .before .before .before .before .before .before .before .before .before .before .before .before .overlap .ensures) (c .before .before .before .before .before .before .m .given .1) (c .before .before .before .before .before .before .before .before .before .before .before .before .before .before .before .before .before .before .before .before .before .pre .1 .1 .0) (c .before .before .before .before .before .before .before .before .before .before .before .before .before .before .before .before .before .before .before .before .before .pre .1 .1 .1))
+join-pair-requires c κs =
+    let at-m : tie.After-m = search depth 0 in
+    let at-overlap : tie.After-overlap = search depth 0 in
+    let entry = entry-of-overlap at-overlap in
+    (entry .pre .0 .0, found-fits (at-overlap .overlap .ensures) (at-m .m .given .1) (entry .pre .1 .1 .0) (entry .pre .1 .1 .1))
 
 returns : tie.Need-returns
 unfolding end-number
-returns c = place-nothing _ _ _ _ _ _ _ _ _ _ _ _ (c .before .before .before .before .before .before .before .overlap .ensures) (c .before .before .before .before .before .before .before .before .before .before .before .before .before .before .before .before .pre .1 .0 .0) (c .before .before .before .before .before .before .before .before .before .before .before .before .before .before .before .before .pre .1 .0 .1) _ (c .before .enum-told .given .1) (c .stopped .ensures)
+returns c =
+    let at-overlap : tie.After-overlap = search depth 0 in
+    let entry = entry-of-overlap at-overlap in
+    place-nothing _ _ _ _ _ _ _ _ _ _ _ _ (at-overlap .overlap .ensures) (entry .pre .1 .0 .0) (entry .pre .1 .0 .1) _
+    (c .before .enum-told .given .1) (c .stopped .ensures)
 
 returns-2 : tie.Need-returns-2
 unfolding end-number
-returns-2 c = place-large _ _ _ _ _ _ _ _ _ _ _ _ (c .before .before .before .before .before .before .before .overlap .ensures) (c .before .before .before .before .before .before .before .before .before .before .before .before .before .before .before .before .pre .1 .0 .0) (c .before .before .before .before .before .before .before .before .before .before .before .before .before .before .before .before .pre .1 .0 .1) _ (c .before .enum-told2 .given .1) (c .stopped2 .ensures)
+returns-2 c =
+    let at-overlap : tie.After-overlap = search depth 0 in
+    let entry = entry-of-overlap at-overlap in
+    place-large _ _ _ _ _ _ _ _ _ _ _ _ (at-overlap .overlap .ensures) (entry .pre .1 .0 .0) (entry .pre .1 .0 .1) _
+    (c .before .enum-told2 .given .1) (c .stopped2 .ensures)
 
 returns-3 : tie.Need-returns-3
-returns-3 c = place-pair _ _ _ _ _ _ _ _ _ _ _ _ (c .before .before .before .before .before .before .before .before .before .before .before .before .before .before .before .before .before .overlap .ensures) (c .before .before .before .before .before .before .before .before .before .before .before .before .before .before .before .before .before .before .before .before .before .before .before .before .before .before .pre .1 .0 .0) (c .before .before .before .before .before .before .before .before .before .before .before .before .before .before .before .before .before .before .before .before .before .before .before .before .before .before .pre .1 .0 .1) _ _ _ _ _ _ (c .before .before .before .before .before .before .before .before .before .before .before .m .given .1) (c .before .before .before .before .before .before .before .origin .ensures) (c .before .before .before .before .join-pair .ensures)
+returns-3 c =
+    let at-join-pair : tie.After-join-pair = search depth 0 in
+    let at-origin : tie.After-origin = search depth 0 in
+    let at-m : tie.After-m = search depth 0 in
+    let at-overlap = overlap-of-m at-m in
+    let entry = entry-of-overlap at-overlap in
+    place-pair _ _ _ _ _ _ _ _ _ _ _ _ (at-overlap .overlap .ensures) (entry .pre .1 .0 .0) (entry .pre .1 .0 .1) _ _ _ _ _
+    _ (at-m .m .given .1) (at-origin .origin .ensures) (at-join-pair .join-pair .ensures)
 
 pub scan-at-spec : {M : Type 1} → statement M
 scan-at-spec =

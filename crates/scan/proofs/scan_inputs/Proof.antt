@@ -26,20 +26,51 @@ abbrev μ-loop : tie.MeasureT-loop
 loop-holds : tie.Need-loop-holds Inv-loop μ-loop
 loop-holds c = going-start
 
+-- Places, found by their types: the only field of a type is the place itself.
+abbrev entry-of-at-loop : tie.At-loop Inv-loop μ-loop → tie.Start Inv-loop μ-loop
+entry-of-at-loop at = search depth 0
+
 cast-origin : tie.Need-cast-origin Inv-loop μ-loop
-cast-origin c = let f = c .before .before .before .before .before .before .before .before .before .pre .0 .1 .few in let t = c .loop-test .taken in search needs
+cast-origin c =
+    let entry : tie.Start Inv-loop μ-loop = search depth 0 in
+    let f = entry .pre .0 .1 .few in let t = c .loop-test .taken in search needs
 
 join-slot-requires : tie.Need-join-slot-requires Inv-loop μ-loop
 join-slot-requires c κs =
-    (c .before .before .before .before .before .before .before .before .before .before .before .before .pre .0 .0, (layout-below _ _ _ _ _ (c .before .before .before .before .before .before .before .before .before .before .before .before .pre .0 .1) (c .before .before .before .loop-test .taken), (still-fits (c .before .before .before .before .loop .inv .left-kept) (c .before .before .before .before .before .before .before .before .before .before .before .before .pre .1 .0), still-fits (c .before .before .before .before .loop .inv .right-kept) (c .before .before .before .before .before .before .before .before .before .before .before .before .pre .1 .1))))
+    let in-loop : tie.In-loop Inv-loop μ-loop = search depth 0 in
+    let at-loop : tie.At-loop Inv-loop μ-loop = search depth 0 in
+    let entry = entry-of-at-loop at-loop in (
+      entry .pre .0 .0,
+      (
+        layout-below _ _ _ _ _ (entry .pre .0 .1) (in-loop .loop-test .taken),
+        (
+          still-fits (at-loop .loop .inv .left-kept) (entry .pre .1 .0),
+          still-fits (at-loop .loop .inv .right-kept) (entry .pre .1 .1),
+        ),
+      ),
+    )
 
 returns : tie.Need-returns Inv-loop μ-loop
 unfolding end-number
-returns c = going-stop (c .before .before .before .before .before .before .before .before .before .before .before .loop .inv) (inputs-more _ _ _ _ _ _ _ _ (c .before .before .before .before .before .before .before .before .before .before .loop-test .taken)) (input-walk _ _ _ _ _ _ _ _ (c .before .before .before .before .before .before .before .before .before .before .loop-test .taken) (c .before .before .before .before .before .before .before .before .before .origin .ensures) (c .before .before .before .before .before .before .join-slot .ensures)) (c .if1 .taken)
+returns c =
+    let at-join-slot : tie.After-join-slot Inv-loop μ-loop = search depth 0 in
+    let at-origin : tie.After-origin Inv-loop μ-loop = search depth 0 in
+    let in-loop : tie.In-loop Inv-loop μ-loop = search depth 0 in
+    let at-loop : tie.At-loop Inv-loop μ-loop = search depth 0 in
+    going-stop (at-loop .loop .inv) (inputs-more _ _ _ _ _ _ _ _ (in-loop .loop-test .taken))
+    (input-walk _ _ _ _ _ _ _ _ (in-loop .loop-test .taken) (at-origin .origin .ensures) (at-join-slot .join-slot .ensures))
+    (c .if1 .taken)
 
 loop-again : tie.Need-loop-again Inv-loop μ-loop
 unfolding end-number
-loop-again c = going-on (c .before .before .before .before .before .before .before .before .before .before .before .loop .inv) (inputs-more _ _ _ _ _ _ _ _ (c .before .before .before .before .before .before .before .before .before .before .loop-test .taken)) (input-walk _ _ _ _ _ _ _ _ (c .before .before .before .before .before .before .before .before .before .before .loop-test .taken) (c .before .before .before .before .before .before .before .before .before .origin .ensures) (c .before .before .before .before .before .before .join-slot .ensures)) (c .if1 .left)
+loop-again c =
+    let at-join-slot : tie.After-join-slot Inv-loop μ-loop = search depth 0 in
+    let at-origin : tie.After-origin Inv-loop μ-loop = search depth 0 in
+    let in-loop : tie.In-loop Inv-loop μ-loop = search depth 0 in
+    let at-loop : tie.At-loop Inv-loop μ-loop = search depth 0 in
+    going-on (at-loop .loop .inv) (inputs-more _ _ _ _ _ _ _ _ (in-loop .loop-test .taken))
+    (input-walk _ _ _ _ _ _ _ _ (in-loop .loop-test .taken) (at-origin .origin .ensures) (at-join-slot .join-slot .ensures))
+    (c .if1 .left)
 
 returns-2 : tie.Need-returns-2 Inv-loop μ-loop
 unfolding end-number

@@ -25,27 +25,63 @@ abbrev μ-loop : tie.MeasureT-loop
 loop-holds : tie.Need-loop-holds Inv-loop μ-loop
 loop-holds c = reach-first (c .spot-at .ensures)
 
+-- Places, found by their types: the only field of a type is the place itself.
+abbrev entry-of-at-loop : tie.At-loop Inv-loop μ-loop → tie.Start Inv-loop μ-loop
+entry-of-at-loop at = search depth 0
+
 scan-at-requires : tie.Need-scan-at-requires Inv-loop μ-loop
 scan-at-requires c κs =
-    (c .before .before .before .before .before .before .before .before .before .before .before .before .pre .0, ((c .before .before .before .before .loop .inv .within (c .before .before .if1 .taken), c .before .before .if1 .taken, c .before .before .before .before .loop .inv .low), (still-fits (c .before .before .before .before .loop .inv .going .left-kept) (c .before .before .before .before .before .before .before .before .before .before .before .before .pre .1 .0), still-fits (c .before .before .before .before .loop .inv .going .right-kept) (c .before .before .before .before .before .before .before .before .before .before .before .before .pre .1 .1))))
+    let in-then1 : tie.Then1 Inv-loop μ-loop = search depth 0 in
+    let at-loop : tie.At-loop Inv-loop μ-loop = search depth 0 in
+    let entry = entry-of-at-loop at-loop in (
+      entry .pre .0,
+      (
+        (at-loop .loop .inv .within (in-then1 .if1 .taken), in-then1 .if1 .taken, at-loop .loop .inv .low),
+        (
+          still-fits (at-loop .loop .inv .going .left-kept) (entry .pre .1 .0),
+          still-fits (at-loop .loop .inv .going .right-kept) (entry .pre .1 .1),
+        ),
+      ),
+    )
 
 returns : tie.Need-returns Inv-loop μ-loop
 unfolding end-number
-returns c = reach-stop (c .before .before .before .before .before .before .before .before .before .before .before .loop .inv) (c .before .before .before .before .before .before .before .before .before .before .before .before .before .before .before .before .before .before .before .pre .0 .0) (c .before .before .before .before .before .before .before .before .before .if1 .taken) (c .before .before .before .before .before .before .scan-at .ensures) (c .if2 .taken)
+returns c =
+    let at-scan-at : tie.After-scan-at Inv-loop μ-loop = search depth 0 in
+    let in-then1 : tie.Then1 Inv-loop μ-loop = search depth 0 in
+    let at-loop : tie.At-loop Inv-loop μ-loop = search depth 0 in
+    let entry = entry-of-at-loop at-loop in
+    reach-stop (at-loop .loop .inv) (entry .pre .0 .0) (in-then1 .if1 .taken) (at-scan-at .scan-at .ensures) (c .if2 .taken)
 
 next-requires : tie.Need-next-requires Inv-loop μ-loop
-next-requires c κs = next-asks (c .before .before .before .before .before .before .before .before .before .before .before .loop .inv) (c .before .before .before .before .before .before .before .before .before .before .before .before .before .before .before .before .before .before .before .pre .0 .0) (c .before .before .before .before .before .before .before .before .before .if1 .taken)
+next-requires c κs =
+    let in-then1 : tie.Then1 Inv-loop μ-loop = search depth 0 in
+    let at-loop : tie.At-loop Inv-loop μ-loop = search depth 0 in
+    let entry = entry-of-at-loop at-loop in
+    next-asks (at-loop .loop .inv) (entry .pre .0 .0) (in-then1 .if1 .taken)
 
 loop-less : tie.Need-loop-less Inv-loop μ-loop
-loop-less c = falls (c .before .before .before .before .before .before .before .before .before .before .before .before .loop .inv) (c .before .before .before .before .before .before .before .before .before .before .before .before .before .before .before .before .before .before .before .before .pre .0 .0) (c .before .before .before .before .before .before .before .before .before .before .if1 .taken) _ (c .next .ensures)
+loop-less c =
+    let in-then1 : tie.Then1 Inv-loop μ-loop = search depth 0 in
+    let at-loop : tie.At-loop Inv-loop μ-loop = search depth 0 in
+    let entry = entry-of-at-loop at-loop in
+    falls (at-loop .loop .inv) (entry .pre .0 .0) (in-then1 .if1 .taken) _ (c .next .ensures)
 
 loop-again : tie.Need-loop-again Inv-loop μ-loop
 unfolding end-number
-loop-again c = reach-next (c .before .before .before .before .before .before .before .before .before .before .before .before .loop .inv) (c .before .before .before .before .before .before .before .before .before .before .before .before .before .before .before .before .before .before .before .before .pre .0 .0) (c .before .before .before .before .before .before .before .before .before .before .if1 .taken) (c .before .before .before .before .before .before .before .scan-at .ensures) (c .before .if2 .left) (c .next .ensures)
+loop-again c =
+    let at-scan-at : tie.After-scan-at Inv-loop μ-loop = search depth 0 in
+    let in-then1 : tie.Then1 Inv-loop μ-loop = search depth 0 in
+    let at-loop : tie.At-loop Inv-loop μ-loop = search depth 0 in
+    let entry = entry-of-at-loop at-loop in
+    reach-next (at-loop .loop .inv) (entry .pre .0 .0) (in-then1 .if1 .taken) (at-scan-at .scan-at .ensures)
+    (c .before .if2 .left) (c .next .ensures)
 
 returns-2 : tie.Need-returns-2 Inv-loop μ-loop
 unfolding end-number
-returns-2 c = reach-end (c .before .before .before .loop .inv) (c .before .if1 .left) (c .stopped .ensures)
+returns-2 c =
+    let at-loop : tie.At-loop Inv-loop μ-loop = search depth 0 in
+    reach-end (at-loop .loop .inv) (c .before .if1 .left) (c .stopped .ensures)
 
 pub scan-rules-spec : {M : Type 1} → statement M
 scan-rules-spec =

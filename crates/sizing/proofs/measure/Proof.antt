@@ -10,7 +10,10 @@ use Rattle.sizing.proofs.clear.Reads as clear-reads
 use Rattle.sizing.proofs.fill_sizes.Reads as fill-sizes-reads
 
 fill-sizes-requires : tie.Need-fill-sizes-requires
-fill-sizes-requires c κs = clear-sized _ _ _ _ _ _ (c .before .before .before .before .before .before .before .before .before .before .pre .0) (c .before .before .before .before .before .before .before .before .before .before .pre .1) (c .before .before .before .clear .ensures .0) (c .before .before .before .clear .ensures .1)
+fill-sizes-requires c κs =
+    let at-clear : tie.After-clear = search depth 0 in
+    let entry : tie.Start = search depth 0 in
+    clear-sized _ _ _ _ _ _ (entry .pre .0) (entry .pre .1) (at-clear .clear .ensures .0) (at-clear .clear .ensures .1)
 
 pub measure-spec : {M : Type 1} → statement M
 measure-spec = tie.close (tie.spec (λ c κs. search needs) fill-sizes-requires (λ c. search needs) (λ c. search needs))

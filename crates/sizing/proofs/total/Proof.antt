@@ -18,26 +18,56 @@ Inv-loop nodes table ends class sizes a k p₀ left₀ sum₀ p left sum = Addin
 abbrev μ-loop : tie.MeasureT-loop
 μ-loop nodes table ends class sizes a k p₀ left₀ sum₀ p left sum = left
 
+-- Places, found by their types: the only field of a type is the place itself.
+abbrev entry-of-at-loop : tie.At-loop Inv-loop μ-loop → tie.Start Inv-loop μ-loop
+entry-of-at-loop at = search depth 0
+
 loop-holds : tie.Need-loop-holds Inv-loop μ-loop
-loop-holds c = adding-start _ _ _ _ _ (c .before .before .before .before .before .pre .1)
+loop-holds c =
+    let entry : tie.Start Inv-loop μ-loop = search depth 0 in
+    adding-start _ _ _ _ _ (entry .pre .1)
 
 shared-slice-read-wide : tie.Need-shared-slice-read-wide Inv-loop μ-loop
-shared-slice-read-wide c = some-within _ _ _ _ (c .before .before .loop .inv .ps) (c .before .loop-test .taken) (c .before .before .before .before .before .before .before .before .pre .0 .long)
+shared-slice-read-wide c =
+    let entry : tie.Start Inv-loop μ-loop = search depth 0 in
+    some-within _ _ _ _ (c .before .before .loop .inv .ps) (c .before .loop-test .taken) (entry .pre .0 .long)
 
 returns : tie.Need-returns Inv-loop μ-loop
-returns c = adding-lacks _ _ _ _ _ _ _ _ _ (c .before .before .before .before .loop .inv) (c .before .before .before .loop-test .taken) (c .before .wide .ensures .0) (c .if1 .taken)
+returns c =
+    let in-loop : tie.In-loop Inv-loop μ-loop = search depth 0 in
+    let at-loop : tie.At-loop Inv-loop μ-loop = search depth 0 in
+    adding-lacks _ _ _ _ _ _ _ _ _ (at-loop .loop .inv) (in-loop .loop-test .taken) (c .before .wide .ensures .0) (c .if1 .taken)
 
 add-capped : tie.Need-add-capped Inv-loop μ-loop
-add-capped c = omega (arith, c .before .before .before .before .loop .inv .most, c .before .wide .ensures .1)
+add-capped c =
+    let at-loop : tie.At-loop Inv-loop μ-loop = search depth 0 in
+    omega (arith, at-loop .loop .inv .most, c .before .wide .ensures .1)
 
 mul-wide : tie.Need-mul-wide Inv-loop μ-loop
-mul-wide c = omega (arith, some-within _ _ _ _ (c .before .before .before .before .before .loop .inv .ps) (c .before .before .before .before .loop-test .taken) (c .before .before .before .before .before .before .before .before .before .before .before .pre .0 .ready .small))
+mul-wide c =
+    let in-loop : tie.In-loop Inv-loop μ-loop = search depth 0 in
+    let at-loop : tie.At-loop Inv-loop μ-loop = search depth 0 in
+    let entry : tie.Start Inv-loop μ-loop = search depth 0 in
+    omega (arith, some-within _ _ _ _ (at-loop .loop .inv .ps) (in-loop .loop-test .taken) (entry .pre .0 .ready .small))
 
 shared-slice-read-wide-2 : tie.Need-shared-slice-read-wide-2 Inv-loop μ-loop
-shared-slice-read-wide-2 c = some-within _ _ _ _ (c .before .before .before .before .before .before .loop .inv .ps) (c .before .before .before .before .before .loop-test .taken) (c .before .before .before .before .before .before .before .before .before .before .before .before .pre .0 .ready .ended)
+shared-slice-read-wide-2 c =
+    let in-loop : tie.In-loop Inv-loop μ-loop = search depth 0 in
+    let at-loop : tie.At-loop Inv-loop μ-loop = search depth 0 in
+    let entry : tie.Start Inv-loop μ-loop = search depth 0 in
+    some-within _ _ _ _ (at-loop .loop .inv .ps) (in-loop .loop-test .taken) (entry .pre .0 .ready .ended)
 
 loop-again : tie.Need-loop-again Inv-loop μ-loop
-loop-again c = adding-turn _ _ _ _ _ _ _ _ _ _ _ (c .before .before .before .before .before .before .before .loop .inv) (c .before .before .before .before .before .before .loop-test .taken) (c .wide2 .ensures .0) (c .before .before .before .before .wide .ensures .0) (c .before .before .before .if1 .left) (sized-at _ _ _ _ _ (c .before .before .before .before .before .before .before .before .before .before .before .before .before .pre .0) _ _ _ (c .before .before .before .before .before .before .before .loop .inv .ps) (c .before .before .before .before .before .before .loop-test .taken) (c .before .before .before .before .wide .ensures .0) (c .before .before .before .if1 .left)) (c .before .before .capped .ensures)
+loop-again c =
+    let in-else1 : tie.Else1 Inv-loop μ-loop = search depth 0 in
+    let at-wide : tie.After-wide Inv-loop μ-loop = search depth 0 in
+    let in-loop : tie.In-loop Inv-loop μ-loop = search depth 0 in
+    let at-loop : tie.At-loop Inv-loop μ-loop = search depth 0 in
+    let entry = entry-of-at-loop at-loop in
+    adding-turn _ _ _ _ _ _ _ _ _ _ _ (at-loop .loop .inv) (in-loop .loop-test .taken) (c .wide2 .ensures .0)
+    (at-wide .wide .ensures .0) (in-else1 .if1 .left)
+    (sized-at _ _ _ _ _ (entry .pre .0) _ _ _ (at-loop .loop .inv .ps) (in-loop .loop-test .taken)
+    (at-wide .wide .ensures .0) (in-else1 .if1 .left)) (c .before .before .capped .ensures)
 
 returns-2 : tie.Need-returns-2 Inv-loop μ-loop
 returns-2 c = adding-end _ _ _ _ _ _ _ _ (c .before .loop .inv) (c .loop-test .left)

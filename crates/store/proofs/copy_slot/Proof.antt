@@ -18,8 +18,12 @@ slice-write-lens-2 c = simp length-set (omega arith)
 
 returns : tie.Need-returns
 returns c =
-    let q = part-is (c .before .before .before .before .before .before .before .before .before .before .before .args .from .now) (240 * (c .before .before .before .before .before .before .before .before .before .before .before .args .j)) 240 in
-    (copied _ _ _ (c .before .before .before .before .before .before .before .before .before .before .before .pre .1) _ _ _ (c .before .before .before .before .before .before .before .before .before .before .before .pre .0) _ _ q (c .before .before .before .before .paste .ensures) _ _ refl refl, copied-only _ _ _ (c .before .before .before .before .before .before .before .before .before .before .before .pre .1) _ _ _ (c .before .before .before .before .before .before .before .before .before .before .before .pre .0) _ _ q (c .before .before .before .before .paste .ensures) _ _)
+    let at-paste : tie.After-paste = search depth 0 in
+    let entry : tie.Start = search depth 0 in
+    let q = part-is (entry .args .from .now) (240 * (entry .args .j)) 240 in (
+      copied _ _ _ (entry .pre .1) _ _ _ (entry .pre .0) _ _ q (at-paste .paste .ensures) _ _ refl refl,
+      copied-only _ _ _ (entry .pre .1) _ _ _ (entry .pre .0) _ _ q (at-paste .paste .ensures) _ _,
+    )
 
 pub copy-slot-spec : {M : Type 1} → statement M
 copy-slot-spec =

@@ -9,7 +9,10 @@ use Rattle.store.proofs.drop_first.Lts as lts
 use Rattle.store.proofs.shift.Reads as shift-reads
 
 returns : tie.Need-returns
-returns c = dropped _ _ _ _ (c .before .before .before .before .before .before .before .before .before .before .pre) (c .before .before .before .before .before .before .shift .ensures) (c .before .before .shift2 .ensures)
+returns c =
+    let at-shift : tie.After-shift = search depth 0 in
+    let entry : tie.Start = search depth 0 in
+    dropped _ _ _ _ (entry .pre) (at-shift .shift .ensures) (c .before .before .shift2 .ensures)
 
 pub drop-first-spec : {M : Type 1} → statement M
 drop-first-spec =

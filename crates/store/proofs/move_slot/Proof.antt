@@ -21,11 +21,22 @@ slice-read-lens-2 c = simp length-set (omega arith)
 slice-write-lens-2 : tie.Need-slice-write-lens-2
 slice-write-lens-2 c = simp length-set (omega arith)
 
+-- Places, found by their types: the only field of a type is the place itself.
+abbrev entry-of-copy : tie.After-copy → tie.Start
+entry-of-copy at = search depth 0
+
 returns : tie.Need-returns
 returns c =
-    let q = filled _ _ _ _ (part-is (c .before .before .before .before .before .before .before .before .before .before .before .before .before .before .args .bytes .now) (240 * (c .before .before .before .before .before .before .before .before .before .before .before .before .before .before .args .j)) 240) (whole-slot (c .before .before .before .before .before .before .before .before .before .before .before .before .before .before .args .bytes .now) (c .before .before .before .before .before .before .before .before .before .before .before .before .before .before .args .j) (c .before .before .before .before .before .before .before .before .before .before .before .before .before .before .pre .0 .slots)) (c .before .before .before .before .before .before .before .before .copy .ensures .1) in
-    let o = getD-set-other (c .before .before .before .before .before .before .before .before .before .before .before .before .before .before .args .lens .now) (2 * (c .before .before .before .before .before .before .before .before .before .before .before .before .before .before .args .k)) (2 * (c .before .before .before .before .before .before .before .before .before .before .before .before .before .before .args .j) + 1) _ 0 (λ e. omega arith) in
-    (copied _ _ _ (c .before .before .before .before .before .before .before .before .before .before .before .before .before .before .pre .1) _ _ _ (c .before .before .before .before .before .before .before .before .before .before .before .before .before .before .pre .0) _ _ q (c .before .before .before .before .paste .ensures) _ _ refl o, copied-only _ _ _ (c .before .before .before .before .before .before .before .before .before .before .before .before .before .before .pre .1) _ _ _ (c .before .before .before .before .before .before .before .before .before .before .before .before .before .before .pre .0) _ _ q (c .before .before .before .before .paste .ensures) _ _)
+    let at-paste : tie.After-paste = search depth 0 in
+    let at-copy : tie.After-copy = search depth 0 in
+    let entry = entry-of-copy at-copy in
+    let bytes = entry .args .bytes .now in
+    let j = entry .args .j in
+    let q = filled _ _ _ _ (part-is bytes (240 * j) 240) (whole-slot bytes j (entry .pre .0 .slots)) (at-copy .copy .ensures .1) in
+    let o = getD-set-other (entry .args .lens .now) (2 * (entry .args .k)) (2 * j + 1) _ 0 (λ e. omega arith) in (
+      copied _ _ _ (entry .pre .1) _ _ _ (entry .pre .0) _ _ q (at-paste .paste .ensures) _ _ refl o,
+      copied-only _ _ _ (entry .pre .1) _ _ _ (entry .pre .0) _ _ q (at-paste .paste .ensures) _ _,
+    )
 
 pub move-slot-spec : {M : Type 1} → statement M
 move-slot-spec =

@@ -13,8 +13,20 @@ use Rattle.store.proofs.paste.Reads as paste-reads
 slice-write-lens-2 : tie.Need-slice-write-lens-2
 slice-write-lens-2 c = simp length-set (omega arith)
 
+-- Places, found by their types: the only field of a type is the place itself.
+abbrev entry-of-paste : tie.After-paste → tie.Start
+entry-of-paste at = search depth 0
+
 returns : tie.Need-returns
-returns c = (put-holds _ _ _ (c .before .before .before .before .before .before .before .before .before .before .before .before .pre .0) _ _ _ _ (search needs) (search needs) (c .before .before .before .before .before .before .paste .ensures) (c .before .before .paste2 .ensures), put-only _ _ _ (c .before .before .before .before .before .before .before .before .before .before .before .before .pre .0) _ _ _ _ (search needs) (search needs) (c .before .before .before .before .before .before .paste .ensures) (c .before .before .paste2 .ensures))
+returns c =
+    let at-paste2 : tie.After-paste2 = search depth 0 in
+    let at-paste : tie.After-paste = search depth 0 in
+    let entry = entry-of-paste at-paste in (
+      put-holds _ _ _ (entry .pre .0) _ _ _ _ (search needs) (search needs) (at-paste .paste .ensures)
+          (at-paste2 .paste2 .ensures),
+      put-only _ _ _ (entry .pre .0) _ _ _ _ (search needs) (search needs) (at-paste .paste .ensures)
+          (at-paste2 .paste2 .ensures),
+    )
 
 pub put-spec : {M : Type 1} → statement M
 put-spec =

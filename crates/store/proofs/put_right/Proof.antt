@@ -9,7 +9,12 @@ use Rattle.store.proofs.put_right.Lts as lts
 use Rattle.store.proofs.paste.Reads as paste-reads
 
 returns : tie.Need-returns
-returns c = (right-is _ _ _ (c .before .before .before .before .before .before .before .pre .0) _ _ (search needs) (c .before .before .paste .ensures), right-only _ _ _ (c .before .before .before .before .before .before .before .pre .0) _ _ (search needs) (c .before .before .paste .ensures))
+returns c =
+    let at-paste : tie.After-paste = search depth 0 in
+    let entry : tie.Start = search depth 0 in (
+      right-is _ _ _ (entry .pre .0) _ _ (search needs) (at-paste .paste .ensures),
+      right-only _ _ _ (entry .pre .0) _ _ (search needs) (at-paste .paste .ensures),
+    )
 
 pub put-right-spec : {M : Type 1} → statement M
 put-right-spec =

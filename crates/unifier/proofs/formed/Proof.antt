@@ -23,7 +23,9 @@ returns-4 : tie.Need-returns-4
 returns-4 c = formed-few _ _ _ _ (c .before .owed-by .ensures .0) (omega (arith, c .before .before .if3 .left)) (c .if4 .taken)
 
 returns-5 : tie.Need-returns-5
-returns-5 c = formed-symbol _ _ _ _ (c .before .owed-by .ensures .0) (omega (arith, c .before .before .if3 .left)) (omega (arith, c .if4 .left))
+returns-5 c =
+    formed-symbol _ _ _ _ (c .before .owed-by .ensures .0) (omega (arith, c .before .before .if3 .left))
+    (omega (arith, c .if4 .left))
 
 pub formed-spec : {M : Type 1} → statement M
 formed-spec =

@@ -22,13 +22,21 @@ shared-slice-read-formed : tie.Need-shared-slice-read-formed Inv-loop μ-loop
 shared-slice-read-formed c = omega (arith, c .before .loop-test .taken, c .before .before .loop .inv .within)
 
 formed-requires : tie.Need-formed-requires Inv-loop μ-loop
-formed-requires c κs = omega (arith, c .before .before .loop .inv .within, c .before .before .before .before .before .pre)
+formed-requires c κs =
+    let entry : tie.Start Inv-loop μ-loop = search depth 0 in
+    omega (arith, c .before .before .loop .inv .within, entry .pre)
 
 returns : tie.Need-returns Inv-loop μ-loop
-returns c = forest-bad _ _ _ _ (c .before .before .before .before .loop .inv) (c .before .before .before .loop-test .taken) _ (c .before .formed .ensures) (c .if1 .taken)
+returns c =
+    let in-loop : tie.In-loop Inv-loop μ-loop = search depth 0 in
+    let at-loop : tie.At-loop Inv-loop μ-loop = search depth 0 in
+    forest-bad _ _ _ _ (at-loop .loop .inv) (in-loop .loop-test .taken) _ (c .before .formed .ensures) (c .if1 .taken)
 
 loop-again : tie.Need-loop-again Inv-loop μ-loop
-loop-again c = forest-more _ _ _ _ (c .before .before .before .before .loop .inv) (c .before .before .before .loop-test .taken) _ (c .before .formed .ensures) (c .if1 .left)
+loop-again c =
+    let in-loop : tie.In-loop Inv-loop μ-loop = search depth 0 in
+    let at-loop : tie.At-loop Inv-loop μ-loop = search depth 0 in
+    forest-more _ _ _ _ (at-loop .loop .inv) (in-loop .loop-test .taken) _ (c .before .formed .ensures) (c .if1 .left)
 
 returns-2 : tie.Need-returns-2 Inv-loop μ-loop
 returns-2 c = forest-done _ _ _ _ (c .before .loop .inv) (c .loop-test .left)

@@ -11,20 +11,48 @@ use Rattle.classes.proofs.close.Reads as close-reads
 use Rattle.sizing.proofs.measure.Reads as measure-reads
 use Rattle.unifier.proofs.start.begin.Reads as begin-reads
 
+-- Places, found by their types: the only field of a type is the place itself.
+abbrev entry-of-begin : tie.After-begin → tie.Start
+entry-of-begin at = search depth 0
+
+abbrev begin-of-close : tie.After-close → tie.After-begin
+begin-of-close at = search depth 0
+
 begin-requires : tie.Need-begin-requires
-begin-requires c κs = ((c .before .before .before .before .before .before .before .pre .0 .0, c .before .before .before .before .before .before .before .pre .0 .1, c .before .before .before .before .before .before .before .pre .0 .2), c .before .before .before .before .before .before .before .pre .1)
+begin-requires c κs =
+    let entry : tie.Start = search depth 0 in
+    ((entry .pre .0 .0, entry .pre .0 .1, entry .pre .0 .2), entry .pre .1)
 
 close-requires : tie.Need-close-requires
-close-requires c κs = c .before .before .before .before .before .before .begin .ensures .ready
+close-requires c κs =
+    let at-begin : tie.After-begin = search depth 0 in
+    at-begin .begin .ensures .ready
 
 measure-requires : tie.Need-measure-requires
-measure-requires c κs = (c .before .before .before .before .before .before .close .ensures .0, c .before .before .before .before .before .before .before .before .before .before .before .before .before .before .before .before .before .before .before .before .before .pre .0 .3)
+measure-requires c κs =
+    let at-close : tie.After-close = search depth 0 in
+    let entry = entry-of-begin (search depth 0) in
+    (at-close .close .ensures .0, entry .pre .0 .3)
 
 returns : tie.Need-returns
-returns c = begun-answer _ _ _ _ (c .before .before .before .before .before .before .before .before .before .before .before .before .before .before .before .before .before .before .before .before .before .before .before .before .pre .1 .1) (c .before .before .before .before .before .before .before .before .before .before .before .before .before .before .before .before .before .before .before .before .before .before .before .before .pre .1 .2) _ _ (c .before .before .before .before .before .before .before .before .before .before .before .before .before .before .before .before .begin .ensures) (c .before .before .before .before .before .before .before .before .before .close .last .1 .1 .1 .0) (c .before .before .before .before .before .before .before .before .before .close .result) (c .before .before .before .before .before .before .before .before .before .close .ensures .1) (c .before .before .before .before .before .before .if1 .taken) _ (c .before .before .measure .result) (c .before .before .measure .ensures)
+returns c =
+    let at-measure : tie.After-measure = search depth 0 in
+    let in-then1 : tie.Then1 = search depth 0 in
+    let at-close : tie.After-close = search depth 0 in
+    let at-begin = begin-of-close at-close in
+    let entry = entry-of-begin at-begin in
+    begun-answer _ _ _ _ (entry .pre .1 .1) (entry .pre .1 .2) _ _ (at-begin .begin .ensures)
+    (at-close .close .last .1 .1 .1 .0) (at-close .close .result) (at-close .close .ensures .1) (in-then1 .if1 .taken) _
+    (at-measure .measure .result) (at-measure .measure .ensures)
 
 returns-2 : tie.Need-returns-2
-returns-2 c = begun-never _ _ _ _ (c .before .before .before .before .before .before .before .before .before .before .before .before .before .before .before .before .before .before .pre .1 .1) (c .before .before .before .before .before .before .before .before .before .before .before .before .before .before .before .before .before .before .pre .1 .2) _ _ (c .before .before .before .before .before .before .before .before .before .before .begin .ensures) (c .before .before .before .close .last .1 .1 .1 .0) (c .before .before .before .before .before .before .before .before .before .before .before .before .before .before .before .before .before .before .args .sizes .now) (c .before .before .before .close .result) (c .before .before .before .close .ensures .1) (c .if1 .left)
+returns-2 c =
+    let at-close : tie.After-close = search depth 0 in
+    let at-begin : tie.After-begin = search depth 0 in
+    let entry = entry-of-begin at-begin in
+    begun-never _ _ _ _ (entry .pre .1 .1) (entry .pre .1 .2) _ _ (at-begin .begin .ensures)
+    (at-close .close .last .1 .1 .1 .0) (entry .args .sizes .now) (at-close .close .result) (at-close .close .ensures .1)
+    (c .if1 .left)
 
 pub unify-spec : {M : Type 1} → statement M
 unify-spec =

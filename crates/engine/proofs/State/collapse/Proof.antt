@@ -25,11 +25,26 @@ slice-aggregate-collapse-4 c = search needs
 
 collapse-requires : tie.Need-collapse-requires
 collapse-requires c κs =
-    let l : length (c .before .before .before .before .before .before .before .before .before .before .before .before .before .before .before .args .self .lens) ≡ 66 = search needs in
-    let n : length (c .before .before .before .before .before .before .before .before .before .before .before .before .before .before .before .args .self .numbers) ≡ 33 = search needs in
-    let m : length (c .before .before .before .before .before .before .before .before .before .before .before .before .before .before .before .args .self .lengths) ≡ 66 = search needs in
-    let o : length (c .before .before .before .before .before .before .before .before .before .before .before .before .before .before .before .args .self .origins) ≡ 198 = search needs in
-    ((record { rules-long = c .before .before .before .before .before .before .before .before .before .before .before .before .before .before .before .pre .1 .2; lens-long = l; numbers-long = n; waiting-long = c .before .before .before .before .before .before .before .before .before .before .before .before .before .before .before .pre .1 .3; lengths-long = m; origins-long = o; rules-fit = c .before .before .before .before .before .before .before .before .before .before .before .before .before .before .before .pre .0 .0; waiting-fit = c .before .before .before .before .before .before .before .before .before .before .before .before .before .before .before .pre .0 .1 }, c .before .before .before .before .before .before .before .before .before .before .before .before .before .before .before .pre .0 .2), (c .before .before .before .before .before .before .before .before .before .before .before .before .before .before .before .pre .1 .0, c .before .before .before .before .before .before .before .before .before .before .before .before .before .before .before .pre .1 .1))
+    let entry : tie.Start = search depth 0 in
+    let l : length (entry .args .self .lens) ≡ 66 = search needs in
+    let n : length (entry .args .self .numbers) ≡ 33 = search needs in
+    let m : length (entry .args .self .lengths) ≡ 66 = search needs in
+    let o : length (entry .args .self .origins) ≡ 198 = search needs in (
+      (
+        record {
+          rules-long = entry .pre .1 .2;
+          lens-long = l;
+          numbers-long = n;
+          waiting-long = entry .pre .1 .3;
+          lengths-long = m;
+          origins-long = o;
+          rules-fit = entry .pre .0 .0;
+          waiting-fit = entry .pre .0 .1;
+        },
+        entry .pre .0 .2,
+      ),
+      (entry .pre .1 .0, entry .pre .1 .1),
+    )
 
 sub-self : tie.Need-sub-self
 sub-self c = search needs
@@ -45,7 +60,13 @@ same-length-2 c = search needs
 
 returns : tie.Need-returns
 returns c =
-    record { collapsed = λ log fine. collapse-done _ _ _ _ fine (shelf (c .before .before .before .before .before .before .before .before .collapse .last .0) (c .before .before .before .before .before .before .before .before .collapse .last .1 .0) (c .before .before .before .before .before .before .before .before .collapse .last .1 .1 .0) (c .before .before .before .before .before .before .before .before .collapse .last .1 .1 .1 .0) (c .before .before .before .before .before .before .before .before .collapse .last .1 .1 .1 .1 .0) (c .before .before .before .before .before .before .before .before .collapse .last .1 .1 .1 .1 .1 .0)) _ (c .before .before .before .before .before .before .before .before .collapse .ensures) }
+    let at-collapse : tie.After-collapse = search depth 0 in
+    record {
+      collapsed = λ log fine. collapse-done _ _ _ _ fine
+          (shelf (at-collapse .collapse .last .0) (at-collapse .collapse .last .1 .0) (at-collapse .collapse .last .1 .1 .0)
+          (at-collapse .collapse .last .1 .1 .1 .0) (at-collapse .collapse .last .1 .1 .1 .1 .0)
+          (at-collapse .collapse .last .1 .1 .1 .1 .1 .0)) _ (at-collapse .collapse .ensures);
+    }
 
 pub collapse-spec : {M : Type 1} → statement M
 collapse-spec =

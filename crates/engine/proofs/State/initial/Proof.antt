@@ -53,11 +53,22 @@ number-inputs-requires c κs = search needs
 same-length : tie.Need-same-length
 same-length c = search needs
 
+-- Places, found by their types: the only field of a type is the place itself.
+abbrev entry-of-paste : tie.After-paste → tie.Start
+entry-of-paste at = search depth 0
+
 returns : tie.Need-returns
 returns c =
-    let e : length (c .before .before .before .before .before .before .before .before .before .paste .last .0) ≡ 7920 = search needs in
-    let f : length (c .before .before .before .before .paste2 .last .0) ≡ 66 = search needs in
-    record { first = λ rules log long-rules long-log. initial-done _ _ _ (c .before .before .before .before .before .before .before .before .before .before .before .before .before .before .before .pre .0 .0) (c .before .before .before .before .before .before .before .before .before .before .before .before .before .before .before .pre .0 .1) _ _ _ _ (c .before .before .before .before .before .before .before .before .before .paste .ensures) (c .before .before .before .before .paste2 .ensures) e f _ (c .before .number-inputs .ensures .1) _ _ _ _ _ long-rules long-log }
+    let at-paste2 : tie.After-paste2 = search depth 0 in
+    let at-paste : tie.After-paste = search depth 0 in
+    let entry = entry-of-paste at-paste in
+    let e : length (at-paste .paste .last .0) ≡ 7920 = search needs in
+    let f : length (at-paste2 .paste2 .last .0) ≡ 66 = search needs in
+    record {
+      first = λ rules log long-rules long-log. initial-done _ _ _ (entry .pre .0 .0) (entry .pre .0 .1) _ _ _ _
+          (at-paste .paste .ensures) (at-paste2 .paste2 .ensures) e f _ (c .before .number-inputs .ensures .1) _ _ _ _ _
+          long-rules long-log;
+    }
 
 pub initial-spec : {M : Type 1} → statement M
 initial-spec =

@@ -19,9 +19,10 @@ slice-aggregate-copy-slot c = search needs
 
 copy-slot-requires : tie.Need-copy-slot-requires
 copy-slot-requires c κs =
-    let e = c .before .before .before .before .before .before .before .pre .0 .1 in
-    let f : length (c .before .before .before .before .before .before .before .args .self .lens) ≡ 66 = search needs in
-    let g = c .before .before .before .before .before .before .before .pre .1 .0 in
+    let entry : tie.Start = search depth 0 in
+    let e = entry .pre .0 .1 in
+    let f : length (entry .args .self .lens) ≡ 66 = search needs in
+    let g = entry .pre .1 .0 in
     (search needs, record { slots = omega arith; lengths = omega arith })
 
 cast-numbers : tie.Need-cast-numbers
@@ -41,9 +42,14 @@ same-length c = search needs
 
 returns : tie.Need-returns
 returns c =
-    let f : length (c .before .before .before .before .before .before .before .before .before .before .before .before .args .self .lens) ≡ 66 = search needs in
-    let g : length (c .before .before .before .before .before .before .before .before .before .before .before .before .args .self .numbers) ≡ 33 = search needs in
-    record { oriented = λ waiting log fine room. orient-done _ _ _ fine (c .before .before .before .before .before .before .before .before .before .before .before .before .pre .0 .0) (c .before .before .before .before .before .before .before .before .before .before .before .before .pre .1 .0) room (c .before .before .before .before .before .before .before .before .before .before .before .before .pre .1 .2) g f _ _ (c .before .before .before .before .copy-slot .ensures .0) (c .before .before .before .before .copy-slot .ensures .1) }
+    let at-copy-slot : tie.After-copy-slot = search depth 0 in
+    let entry : tie.Start = search depth 0 in
+    let f : length (entry .args .self .lens) ≡ 66 = search needs in
+    let g : length (entry .args .self .numbers) ≡ 33 = search needs in
+    record {
+      oriented = λ waiting log fine room. orient-done _ _ _ fine (entry .pre .0 .0) (entry .pre .1 .0) room
+          (entry .pre .1 .2) g f _ _ (at-copy-slot .copy-slot .ensures .0) (at-copy-slot .copy-slot .ensures .1);
+    }
 
 pub orient-spec : {M : Type 1} → statement M
 orient-spec =

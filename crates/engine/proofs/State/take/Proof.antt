@@ -17,8 +17,9 @@ slice-aggregate-drop-first c = search needs
 
 drop-first-requires : tie.Need-drop-first-requires
 drop-first-requires c κs =
-    let p = c .before .before .before .before .before .pre .1 in
-    let e : length (c .before .before .before .before .before .args .self .lengths) ≡ 66 = search needs in
+    let entry : tie.Start = search depth 0 in
+    let p = entry .pre .1 in
+    let e : length (entry .args .self .lengths) ≡ 66 = search needs in
     record { slots = omega arith; lengths = omega arith }
 
 slice-aggregate-shift : tie.Need-slice-aggregate-shift
@@ -26,7 +27,8 @@ slice-aggregate-shift c = search needs
 
 shift-requires : tie.Need-shift-requires
 shift-requires c κs =
-    let e : length (c .before .before .before .before .before .before .before .before .before .before .args .self .origins) ≡ 198 = search needs in
+    let entry : tie.Start = search depth 0 in
+    let e : length (entry .args .self .origins) ≡ 198 = search needs in
     omega arith
 
 sub-self : tie.Need-sub-self
@@ -37,8 +39,14 @@ same-length c = search needs
 
 returns : tie.Need-returns
 returns c =
-    let e : length (c .before .before .before .before .before .before .before .before .before .before .before .before .before .args .self .origins) ≡ 198 = search needs in
-    record { entries = refl; taken = λ rules log fine. take-done _ fine (c .before .before .before .before .before .before .before .before .before .before .before .before .before .pre .0) e _ _ _ (c .before .before .before .before .before .before .before .drop-first .ensures) (c .before .before .shift .ensures) }
+    let at-drop-first : tie.After-drop-first = search depth 0 in
+    let entry : tie.Start = search depth 0 in
+    let e : length (entry .args .self .origins) ≡ 198 = search needs in
+    record {
+      entries = refl;
+      taken = λ rules log fine. take-done _ fine (entry .pre .0) e _ _ _ (at-drop-first .drop-first .ensures)
+          (c .before .before .shift .ensures);
+    }
 
 pub take-spec : {M : Type 1} → statement M
 take-spec =

@@ -24,8 +24,9 @@ same-length c = search needs
 
 returns : tie.Need-returns
 returns c =
-    let f : length (c .before .before .before .before .before .before .args .t3) ≡ 6 = search needs in
-    record { logged = λ rules waiting fine. entry-done _ _ _ fine (c .before .before .before .before .before .before .pre .0) f _ (c .before .before .add-entry .ensures) }
+    let entry : tie.Start = search depth 0 in
+    let f : length (entry .args .t3) ≡ 6 = search needs in
+    record { logged = λ rules waiting fine. entry-done _ _ _ fine (entry .pre .0) f _ (c .before .before .add-entry .ensures) }
 
 pub with-entry-spec : {M : Type 1} → statement M
 with-entry-spec =

@@ -10,19 +10,40 @@ use Rattle.scan.proofs.spots.spot_at.Reads as spot-at-reads
 use Rattle.terms.proofs.wide.Reads as wide-reads
 
 returns : tie.Need-returns
-returns c = next-position _ _ _ _ _ _ (c .before .before .before .before .before .before .pre) (c .before .before .wide .ensures) (c .before .if1 .taken) (c .spot-at .ensures)
+returns c =
+    let entry : tie.Start = search depth 0 in
+    next-position _ _ _ _ _ _ (entry .pre) (c .before .before .wide .ensures) (c .before .if1 .taken) (c .spot-at .ensures)
 
 returns-2 : tie.Need-returns-2
-returns-2 c = next-back _ _ _ _ _ _ (c .before .before .before .before .before .before .before .pre) (c .before .before .before .wide .ensures) (c .before .before .if1 .left) (c .before .if2 .taken) (c .spot-at2 .ensures)
+returns-2 c =
+    let at-wide : tie.After-wide = search depth 0 in
+    let entry : tie.Start = search depth 0 in
+    next-back _ _ _ _ _ _ (entry .pre) (at-wide .wide .ensures) (c .before .before .if1 .left) (c .before .if2 .taken)
+    (c .spot-at2 .ensures)
 
 returns-3 : tie.Need-returns-3
-returns-3 c = next-earlier _ _ _ _ _ _ (c .before .before .before .before .before .before .before .before .pre) (c .before .before .before .before .wide .ensures) (c .before .before .before .if1 .left) (c .before .if3 .taken) (c .spot-at3 .ensures)
+returns-3 c =
+    let in-else1 : tie.Else1 = search depth 0 in
+    let at-wide : tie.After-wide = search depth 0 in
+    let entry : tie.Start = search depth 0 in
+    next-earlier _ _ _ _ _ _ (entry .pre) (at-wide .wide .ensures) (in-else1 .if1 .left) (c .before .if3 .taken) (c .spot-at3 .ensures)
 
 returns-4 : tie.Need-returns-4
-returns-4 c = next-itself _ _ _ _ _ _ (c .before .before .before .before .before .before .before .before .before .pre) (c .before .before .before .before .before .wide .ensures) (c .before .before .before .before .if1 .left) (c .before .if4 .taken) (c .before .before .if3 .left) (c .spot-at4 .ensures)
+returns-4 c =
+    let in-else1 : tie.Else1 = search depth 0 in
+    let at-wide : tie.After-wide = search depth 0 in
+    let entry : tie.Start = search depth 0 in
+    next-itself _ _ _ _ _ _ (entry .pre) (at-wide .wide .ensures) (in-else1 .if1 .left) (c .before .if4 .taken)
+    (c .before .before .if3 .left) (c .spot-at4 .ensures)
 
 returns-5 : tie.Need-returns-5
-returns-5 c = next-later _ _ _ _ _ _ (c .before .before .before .before .before .before .before .before .before .pre) (c .before .before .before .before .before .wide .ensures) (c .before .before .before .before .if1 .left) (c .before .before .before .if2 .left) (c .before .if4 .left) (c .spot-at5 .ensures)
+returns-5 c =
+    let in-else2 : tie.Else2 = search depth 0 in
+    let in-else1 : tie.Else1 = search depth 0 in
+    let at-wide : tie.After-wide = search depth 0 in
+    let entry : tie.Start = search depth 0 in
+    next-later _ _ _ _ _ _ (entry .pre) (at-wide .wide .ensures) (in-else1 .if1 .left) (in-else2 .if2 .left)
+    (c .before .if4 .left) (c .spot-at5 .ensures)
 
 pub next-spec : {M : Type 1} → statement M
 next-spec =

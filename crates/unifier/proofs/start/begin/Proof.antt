@@ -11,11 +11,30 @@ use Rattle.classes.proofs.join.Reads as join-reads
 use Rattle.unifier.proofs.start.fill_class.Reads as fill-class-reads
 use Rattle.unifier.proofs.start.fill_ends.Reads as fill-ends-reads
 
+-- Places, found by their types: the only field of a type is the place itself.
+abbrev entry-of-fill-ends : tie.After-fill-ends → tie.Start
+entry-of-fill-ends at = search depth 0
+
 join-requires : tie.Need-join-requires
-join-requires c κs = begin-requires _ _ _ _ (c .before .before .before .before .before .before .before .before .before .before .before .before .before .pre .1 .0) (c .before .before .before .before .before .before .before .before .before .before .before .before .before .pre .1 .1) (c .before .before .before .before .before .before .before .before .before .before .before .before .before .pre .1 .2) (c .before .before .before .before .before .before .before .fill-ends .last .1 .1 .0) (c .before .before .before .fill-class .last .1 .0) (c .before .before .before .before .before .before .before .fill-ends .ensures .1) (c .before .before .before .fill-class .ensures .1) (c .before .before .before .before .before .before .before .before .before .before .before .before .before .pre .0 .0) (omega (arith, c .before .before .before .fill-class .ensures .0, c .before .before .before .before .before .before .before .before .before .before .before .before .before .pre .0 .2))
+join-requires c κs =
+    let at-fill-class : tie.After-fill-class = search depth 0 in
+    let at-fill-ends : tie.After-fill-ends = search depth 0 in
+    let entry = entry-of-fill-ends at-fill-ends in
+    begin-requires _ _ _ _ (entry .pre .1 .0) (entry .pre .1 .1) (entry .pre .1 .2) (at-fill-ends .fill-ends .last .1 .1 .0)
+    (at-fill-class .fill-class .last .1 .0) (at-fill-ends .fill-ends .ensures .1) (at-fill-class .fill-class .ensures .1)
+    (entry .pre .0 .0) (omega (arith, at-fill-class .fill-class .ensures .0, entry .pre .0 .2))
 
 returns : tie.Need-returns
-returns c = begun _ _ _ _ (c .before .before .before .before .before .before .before .before .before .before .before .before .before .before .before .before .pre .1 .0) (c .before .before .before .before .before .before .before .before .before .before .before .before .before .before .before .before .pre .1 .1) (c .before .before .before .before .before .before .before .before .before .before .before .before .before .before .before .before .pre .1 .2) (c .before .before .before .before .before .before .before .before .before .before .fill-ends .last .1 .1 .0) (c .before .before .before .before .before .before .fill-class .last .1 .0) (c .before .before .before .before .before .before .before .before .before .before .fill-ends .ensures .1) (c .before .before .before .before .before .before .fill-class .ensures .1) (c .before .before .before .before .before .before .before .before .before .before .before .before .before .before .before .before .pre .0 .0) (omega (arith, c .before .before .before .before .before .before .before .before .before .before .fill-ends .ensures .0, c .before .before .before .before .before .before .before .before .before .before .before .before .before .before .before .before .pre .0 .1)) (omega (arith, c .before .before .before .before .before .before .fill-class .ensures .0, c .before .before .before .before .before .before .before .before .before .before .before .before .before .before .before .before .pre .0 .2)) (c .before .before .join .last .1 .0) (c .before .before .join .ensures)
+returns c =
+    let at-join : tie.After-join = search depth 0 in
+    let at-fill-class : tie.After-fill-class = search depth 0 in
+    let at-fill-ends : tie.After-fill-ends = search depth 0 in
+    let entry = entry-of-fill-ends at-fill-ends in
+    begun _ _ _ _ (entry .pre .1 .0) (entry .pre .1 .1) (entry .pre .1 .2) (at-fill-ends .fill-ends .last .1 .1 .0)
+    (at-fill-class .fill-class .last .1 .0) (at-fill-ends .fill-ends .ensures .1) (at-fill-class .fill-class .ensures .1)
+    (entry .pre .0 .0) (omega (arith, at-fill-ends .fill-ends .ensures .0, entry .pre .0 .1))
+    (omega (arith, at-fill-class .fill-class .ensures .0, entry .pre .0 .2)) (at-join .join .last .1 .0)
+    (at-join .join .ensures)
 
 pub begin-spec : {M : Type 1} → statement M
 begin-spec =

@@ -30,19 +30,32 @@ first-class-requires : tie.Need-first-class-requires Inv-loop μ-loop
 first-class-requires c κs = (omega (arith, c .before .loop-test .taken), c .before .before .loop .inv .seen)
 
 cast-class : tie.Need-cast-class Inv-loop μ-loop
-cast-class c = omega (arith, c .first-class .ensures .1, c .before .before .loop-test .taken, c .before .before .before .before .before .before .pre .0)
+cast-class c =
+    let entry : tie.Start Inv-loop μ-loop = search depth 0 in
+    omega (arith, c .first-class .ensures .1, c .before .before .loop-test .taken, entry .pre .0)
 
 slice-write-class : tie.Need-slice-write-class Inv-loop μ-loop
-slice-write-class c = omega (arith, c .before .before .before .loop .inv .filled .long, c .before .before .loop-test .taken, c .before .before .before .before .before .before .pre .1)
+slice-write-class c =
+    let at-loop : tie.At-loop Inv-loop μ-loop = search depth 0 in
+    let entry : tie.Start Inv-loop μ-loop = search depth 0 in
+    omega (arith, at-loop .loop .inv .filled .long, c .before .before .loop-test .taken, entry .pre .1)
 
 cast-firsts : tie.Need-cast-firsts Inv-loop μ-loop
-cast-firsts c = omega (arith, c .before .before .first-class .ensures .1, c .before .before .before .before .loop-test .taken, c .before .before .before .before .before .before .before .before .pre .0)
+cast-firsts c =
+    let in-loop : tie.In-loop Inv-loop μ-loop = search depth 0 in
+    let entry : tie.Start Inv-loop μ-loop = search depth 0 in
+    omega (arith, c .before .before .first-class .ensures .1, in-loop .loop-test .taken, entry .pre .0)
 
 array-write-firsts : tie.Need-array-write-firsts Inv-loop μ-loop
 array-write-firsts c = omega (arith, c .wide .ensures .1)
 
 loop-again : tie.Need-loop-again Inv-loop μ-loop
-loop-again c = classing-more _ _ _ _ _ _ _ (c .before .before .before .before .before .loop .inv) (omega (arith, c .before .before .before .before .loop-test .taken, c .before .before .before .before .before .before .before .before .pre .1)) (c .wide .ensures .0) (c .wide .ensures .1) (c .before .before .first-class .ensures)
+loop-again c =
+    let in-loop : tie.In-loop Inv-loop μ-loop = search depth 0 in
+    let at-loop : tie.At-loop Inv-loop μ-loop = search depth 0 in
+    let entry : tie.Start Inv-loop μ-loop = search depth 0 in
+    classing-more _ _ _ _ _ _ _ (at-loop .loop .inv) (omega (arith, in-loop .loop-test .taken, entry .pre .1))
+    (c .wide .ensures .0) (c .wide .ensures .1) (c .before .before .first-class .ensures)
 
 same-length : tie.Need-same-length Inv-loop μ-loop
 same-length c = c .before .loop .inv .filled .long

@@ -20,16 +20,38 @@ loop-holds : tie.Need-loop-holds Inv-loop μ-loop
 loop-holds c = ended-start _ _ _
 
 hop-requires : tie.Need-hop-requires Inv-loop μ-loop
-hop-requires c κs = ((omega (arith, c .before .before .before .before .loop .inv .within, c .before .before .before .loop-test .taken), c .before .before .before .before .before .before .before .before .pre .0, omega (arith, c .before .before .before .before .loop .inv .long, c .before .before .before .before .before .before .before .before .pre .1)), ended-later _ _ _ _ _ (c .before .before .before .before .loop .inv) (c .before .before .before .loop-test .taken))
+hop-requires c κs =
+    let in-loop : tie.In-loop Inv-loop μ-loop = search depth 0 in
+    let at-loop : tie.At-loop Inv-loop μ-loop = search depth 0 in
+    let entry : tie.Start Inv-loop μ-loop = search depth 0 in (
+      (
+        omega (arith, at-loop .loop .inv .within, in-loop .loop-test .taken),
+        entry .pre .0,
+        omega (arith, at-loop .loop .inv .long, entry .pre .1),
+      ),
+      ended-later _ _ _ _ _ (at-loop .loop .inv) (in-loop .loop-test .taken),
+    )
 
 cast-ends : tie.Need-cast-ends Inv-loop μ-loop
-cast-ends c = omega (arith, c .hop .ensures .1, c .before .before .before .before .before .before .before .before .before .pre .0)
+cast-ends c =
+    let entry : tie.Start Inv-loop μ-loop = search depth 0 in
+    omega (arith, c .hop .ensures .1, entry .pre .0)
 
 slice-write-ends : tie.Need-slice-write-ends Inv-loop μ-loop
-slice-write-ends c = omega (arith, c .before .before .before .before .before .loop .inv .within, c .before .before .before .before .before .loop .inv .long, c .before .before .before .before .loop-test .taken, c .before .before .before .before .before .before .before .before .before .pre .1)
+slice-write-ends c =
+    let in-loop : tie.In-loop Inv-loop μ-loop = search depth 0 in
+    let at-loop : tie.At-loop Inv-loop μ-loop = search depth 0 in
+    let entry : tie.Start Inv-loop μ-loop = search depth 0 in
+    omega (arith, at-loop .loop .inv .within, at-loop .loop .inv .long, in-loop .loop-test .taken, entry .pre .1)
 
 loop-again : tie.Need-loop-again Inv-loop μ-loop
-loop-again c = ended-less _ _ _ _ _ _ (c .before .before .before .before .before .loop .inv) (c .before .before .before .before .loop-test .taken) (c .before .before .before .before .before .before .before .before .before .pre .1) (end-node _ _ _ _ _ (omega (arith, c .before .before .before .before .before .loop .inv .within, c .before .before .before .before .loop-test .taken)) (c .before .before .owed-by .ensures .0) (c .hop .ensures .0))
+loop-again c =
+    let in-loop : tie.In-loop Inv-loop μ-loop = search depth 0 in
+    let at-loop : tie.At-loop Inv-loop μ-loop = search depth 0 in
+    let entry : tie.Start Inv-loop μ-loop = search depth 0 in
+    ended-less _ _ _ _ _ _ (at-loop .loop .inv) (in-loop .loop-test .taken) (entry .pre .1)
+    (end-node _ _ _ _ _ (omega (arith, at-loop .loop .inv .within, in-loop .loop-test .taken))
+    (c .before .before .owed-by .ensures .0) (c .hop .ensures .0))
 
 same-length : tie.Need-same-length Inv-loop μ-loop
 same-length c = c .before .loop .inv .long

@@ -15,22 +15,35 @@ use Rattle.unifier.proofs.start.hop.Lts as lts
 use Rattle.classes.proofs.wide.Reads as wide-reads
 
 abbrev Inv-loop : tie.InvT-loop
-Inv-loop nodes table ends p k q₀ left₀ q left = (p ≤ q) × (q ≤ length nodes) × (q + skip table (drop q nodes) left ≡ p + skip table (drop p nodes) k)
+Inv-loop nodes table ends p k q₀ left₀ q left =
+    (p ≤ q) × (q ≤ length nodes) × (q + skip table (drop q nodes) left ≡ p + skip table (drop p nodes) k)
 
 abbrev μ-loop : tie.MeasureT-loop
 μ-loop nodes table ends p k q₀ left₀ q left = left
 
 loop-holds : tie.Need-loop-holds Inv-loop μ-loop
-loop-holds c = (omega arith, c .before .before .before .pre .0 .0, refl)
+loop-holds c =
+    let entry : tie.Start Inv-loop μ-loop = search depth 0 in
+    (omega arith, entry .pre .0 .0, refl)
 
 returns : tie.Need-returns Inv-loop μ-loop
-returns c = (sym (skip-over _ _ _ _ (c .if1 .taken)) ∙ c .before .before .loop .inv .2, c .before .before .loop .inv .1)
+returns c =
+    let at-loop : tie.At-loop Inv-loop μ-loop = search depth 0 in
+    (sym (skip-over _ _ _ _ (c .if1 .taken)) ∙ at-loop .loop .inv .2, at-loop .loop .inv .1)
 
 loop-again : tie.Need-loop-again Inv-loop μ-loop
-loop-again c = let h = hop-more _ _ _ _ _ _ _ _ (c .before .before .before .before .before .before .before .before .pre .1) (c .before .before .before .before .loop .inv .0) (omega (arith, c .before .before .if1 .left)) (omega (arith, c .before .before .before .loop-test .taken)) (c .before .before .before .before .loop .inv .2) (c .wide .ensures .0) in (omega (arith, h .0, c .before .before .before .before .loop .inv .0), h .1, h .2)
+loop-again c =
+    let in-loop : tie.In-loop Inv-loop μ-loop = search depth 0 in
+    let at-loop : tie.At-loop Inv-loop μ-loop = search depth 0 in
+    let entry : tie.Start Inv-loop μ-loop = search depth 0 in
+    let h = hop-more _ _ _ _ _ _ _ _ (entry .pre .1) (at-loop .loop .inv .0) (omega (arith, c .before .before .if1 .left))
+    (omega (arith, in-loop .loop-test .taken)) (at-loop .loop .inv .2) (c .wide .ensures .0) in
+    (omega (arith, h .0, at-loop .loop .inv .0), h .1, h .2)
 
 returns-2 : tie.Need-returns-2 Inv-loop μ-loop
-returns-2 c = (sym (skip-done _ _ _ _ (omega (arith, c .loop-test .left))) ∙ c .before .loop .inv .2, c .before .loop .inv .1)
+returns-2 c =
+    let at-loop : tie.At-loop Inv-loop μ-loop = search depth 0 in
+    (sym (skip-done _ _ _ _ (omega (arith, c .loop-test .left))) ∙ at-loop .loop .inv .2, at-loop .loop .inv .1)
 
 pub hop-spec : {M : Type 1} → statement M
 hop-spec =
