@@ -6,6 +6,7 @@ use mathlib.Core.Option.{Option, none, some}
 use Prim.Native.Nat.{ℕ, _+_}
 use lib.Dec.{ltb}
 use lib.ListN.{length, take, drop}
+use Rattle.limits.specs.Limits.{most-nodes, least-buffer}
 use Rattle.terms.specs.Base.{if_then_else_, number-bytes, Field, field-bytes}
 use Rattle.terms.specs.Term.{Term, Pair, term-bytes, size, subterm-at, renamed}
 use Rattle.problem.specs.Problem.{Reading, ok, refused, _>>=_, refuse-if, Symbol, rank-of, Equation, parse, only-equation}
@@ -56,7 +57,7 @@ result-bytes f = flatMap field-bytes (result-fields f)
 
 -- 1: "result buffer under 16,384 bytes (complete, unify)", place 0
 unfoldable pub enough : ℕ → Reading (Unit {0})
-enough buffer = refuse-if (ltb buffer 16_384) short-buffer 0
+enough buffer = refuse-if (ltb buffer least-buffer) short-buffer 0
 
 -- complete, from the problem's bytes and the result buffer's length: the result's bytes, of which it returns the count, or the refusal
 unfoldable pub complete-call : List ℕ → ℕ → Reading (List ℕ)
@@ -92,7 +93,7 @@ unfoldable pub unified : Term → Option (List Binding) → CommonInstance
 unified s none = no-instance
 unified s (some m) =
     let t : Term = under m s in
-    if ltb 120 (size t) then instance-too-large
+    if ltb most-nodes (size t) then instance-too-large
     else instance (field-bytes (record { tag = 0x15; contents = term-bytes (renamed (record { left = t; right = t }) .left) }))
 
 -- "Unify reads both sides over the same variables."

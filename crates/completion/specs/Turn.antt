@@ -5,6 +5,7 @@ use mathlib.Core.Option.{Option, none, some}
 use Prim.Native.Nat.{ℕ, zero, suc, _-_}
 use lib.Dec.{ltb, leb}
 use lib.ListN.{length}
+use Rattle.limits.specs.Limits.{most-variables, most-rules, most-entries}
 use Rattle.terms.specs.Base.{if_then_else_, is-some}
 use Rattle.terms.specs.Term.{Pair, same, pair-variables, renamed}
 use Rattle.problem.specs.Problem.{rank-of, Equation, Problem}
@@ -132,11 +133,11 @@ normalise-rights before (old ∷ rules) new = do
 -- ascending, whose left side the new rule rewrites is removed .. Over 32 live: 23."
 unfoldable pub make-rule : Problem → State → Taken → Paying State
 make-rule P s t = do
-  _ ← end-if (ltb 16 (length (pair-variables (t .pair .sides)))) too-large
+  _ ← end-if (ltb most-variables (length (pair-variables (t .pair .sides)))) too-large
   sides ← orient P (t .pair .sides)
   let new : Rule = record { number = suc (s .made); sides = sides }
   let older = kept new (s .rules)
-  _ ← end-if (ltb 32 (suc (length older))) rules-full
+  _ ← end-if (ltb most-rules (suc (length older))) rules-full
   rules ← normalise-rights [] older new
   return (record {
     rules = rules;
@@ -159,7 +160,7 @@ unfoldable pub turn : Problem → State → Paying State
 turn P s = do
   _ ← pay
   t ← take-pair P (s .rules) (s .waiting)
-  _ ← end-if (leb 512 (length (s .log))) log-full
+  _ ← end-if (leb most-entries (length (s .log))) log-full
   if same (t .pair .sides .left) (t .pair .sides .right) then return (settled s t) else make-rule P s t
 
 -- What a run leaves: its end, the units paid, and the rules and the log.

@@ -1,9 +1,10 @@
 -- What each function of the parser answers, said by `parse` of Problem and its parts. Assumes nothing.
 use mathlib.Core.Path.{_≡_}
 use mathlib.Core.List.{List, [], _∷_}
-use Prim.Native.Nat.{ℕ, zero, suc, _+_, _-_, _≤_}
+use Prim.Native.Nat.{ℕ, zero, suc, _+_, _-_, _≤_, _*_}
 use lib.Dec.{ltb}
 use lib.ListN.{length, take, drop, getD}
+use Rattle.limits.specs.Limits.{most-symbols, most-equations, most-problem, most-budget}
 use Rattle.terms.specs.Base.{member}
 use Rattle.terms.specs.Term.{Term}
 use Rattle.problem.specs.Stops.{wrong-arity-or-rank, same-rank}
@@ -48,7 +49,7 @@ IsTable tab (Refused n p) = check-symbols [] 3 tab ≡ refused n p
 
 pub record Table (tab : List ℕ) : Type 0 where
   pub even : length (symbols-of tab) + length (symbols-of tab) ≡ length tab
-  pub small : length tab ≤ 32
+  pub small : length tab ≤ 2 * most-symbols
 
 pub record SymbolsAt (l : List ℕ) (e : ℕ) : Type 0 where
   pub field : due 0x01 0 l ≡ ok (field-at 0x01 l 0 e)
@@ -65,7 +66,7 @@ IsSymbols l (Refused n p) = (due 0x01 0 l >>= symbol-field) ≡ refused n p
 pub record BudgetAt (l : List ℕ) (at b : ℕ) : Type 0 where
   pub field : due 0x02 at (drop at l) ≡ ok (field-at 0x02 l at (at + 7))
   pub read : budget-field (field-at 0x02 l at (at + 7)) ≡ ok b
-  pub small : b ≤ 1_000_000
+  pub small : b ≤ most-budget
   pub within : at + 7 ≤ length l
 
 abbrev pub IsBudget : List ℕ → ℕ → Read → Type 0
@@ -91,27 +92,27 @@ pub record FieldAt (tab l : List ℕ) (at count e : ℕ) : Type 0 where
   pub equation : Equation
   pub field : due 0x03 at (drop at l) ≡ ok (field-at 0x03 l at e)
   pub read : equation-field (symbols-of tab) (field-at 0x03 l at e) ≡ ok equation
-  pub more : count + 1 ≤ 16
+  pub more : count + 1 ≤ most-equations
   pub low : at + 3 ≤ e
   pub within : e ≤ length l
 
 abbrev pub IsField : List ℕ → List ℕ → ℕ → ℕ → Read → Type 0
 IsField tab l at count (Value e) = FieldAt tab l at count e
-IsField tab l at count (Refused n p) = equation-fields (symbols-of tab) (16 - count) at (drop at l) ≡ refused n p
+IsField tab l at count (Refused n p) = equation-fields (symbols-of tab) (most-equations - count) at (drop at l) ≡ refused n p
 
 abbrev pub IsFields : List ℕ → List ℕ → ℕ → Read → Type 0
-IsFields tab l at (Value n) = (es : List Equation) × (equation-fields (symbols-of tab) 16 at (drop at l) ≡ ok es) × (length es ≡ n)
-IsFields tab l at (Refused n p) = equation-fields (symbols-of tab) 16 at (drop at l) ≡ refused n p
+IsFields tab l at (Value n) = (es : List Equation) × (equation-fields (symbols-of tab) most-equations at (drop at l) ≡ ok es) × (length es ≡ n)
+IsFields tab l at (Refused n p) = equation-fields (symbols-of tab) most-equations at (drop at l) ≡ refused n p
 
 -- a problem that is read: its table's end, its budget, and how many equations follow the budget field
 pub record ParsedAt (l : List ℕ) (e b n : ℕ) (P : Problem) : Type 0 where
   pub is : parse l ≡ ok P
-  pub small : length l ≤ 8192
+  pub small : length l ≤ most-problem
   pub table : SymbolsAt l e
   pub symbols-are : P .symbols ≡ symbols-of (take (e - 3) (drop 3 l))
   pub budget-is : P .budget ≡ b
   pub within : e + 7 ≤ length l
-  pub equations-are : equation-fields (symbols-of (take (e - 3) (drop 3 l))) 16 (e + 7) (drop (e + 7) l) ≡ ok (P .equations)
+  pub equations-are : equation-fields (symbols-of (take (e - 3) (drop 3 l))) most-equations (e + 7) (drop (e + 7) l) ≡ ok (P .equations)
   pub number : length (P .equations) ≡ n
 
 abbrev pub IsParsed : List ℕ → Input → Type 0

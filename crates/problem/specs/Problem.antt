@@ -1,9 +1,10 @@
 -- Document 01, "The problem's fields" and "Stops and what they leave", 2 to 12: a problem's bytes read front to back. Assumes nothing.
 use mathlib.Core.Bool.{Bool, true, false, not, _&&_, _||_}
 use mathlib.Core.List.{List, [], _∷_}
-use Prim.Native.Nat.{ℕ, zero, suc, _+_, _-_, _%_}
+use Prim.Native.Nat.{ℕ, zero, suc, _+_, _-_, _%_, _*_}
 use lib.Dec.{eqb, ltb, leb}
 use lib.ListN.{length, take, drop, getD}
+use Rattle.limits.specs.Limits.{most-symbols, most-budget, most-nodes, most-problem, most-equations}
 use Rattle.terms.specs.Base.{if_then_else_, number-from, member}
 use Rattle.terms.specs.Term.{Term, var, node, Terms, nil, cons, size, Pair}
 use Rattle.problem.specs.Stops.{long-problem, cut-field, wrong-tag, wrong-symbol-field, wrong-arity-or-rank, same-rank, wrong-budget, many-equations, wrong-term, large-side, not-one-equation}
@@ -75,7 +76,7 @@ read-symbols ranks at (arity ∷ rank ∷ bytes) = do
 unfoldable pub symbol-field : ReadField → Reading (List Symbol)
 symbol-field f = do
   let n = length (f .contents)
-  _ ← refuse-if (eqb n 0 || eqb (n % 2) 1 || ltb 32 n) wrong-symbol-field (f .first)
+  _ ← refuse-if (eqb n 0 || eqb (n % 2) 1 || ltb (2 * most-symbols) n) wrong-symbol-field (f .first)
   read-symbols [] (f .first + 3) (f .contents)
 
 -- "the budget, four bytes, high byte first, 0 to 1,000,000"; 8: "budget field not 4 bytes, or above 1,000,000"
@@ -83,7 +84,7 @@ unfoldable pub budget-field : ReadField → Reading ℕ
 budget-field f = do
   _ ← refuse-if (not (eqb (length (f .contents)) 4)) wrong-budget (f .first)
   let budget = number-from 0 (f .contents)
-  _ ← refuse-if (ltb 1_000_000 budget) wrong-budget (f .first)
+  _ ← refuse-if (ltb most-budget budget) wrong-budget (f .first)
   ok budget
 
 -- What a byte of a term is.
@@ -131,7 +132,7 @@ read-term Σ (suc depth) at (b ∷ bytes) =
 unfoldable pub read-side : List Symbol → ℕ → List ℕ → Reading (ReadPart Term)
 read-side Σ at bytes = do
   t ← read-term Σ (suc (length bytes)) at bytes
-  _ ← refuse-if (ltb 120 (size (t .part))) large-side at
+  _ ← refuse-if (ltb most-nodes (size (t .part))) large-side at
   ok t
 
 -- An input equation, with the place of its field's first byte.
@@ -168,12 +169,12 @@ pub record Problem : Type 0 where
 -- 2: "problem over 8,192 bytes", place 8,192. "Order: 1, 2, then front to back through the problem."
 unfoldable pub parse : List ℕ → Reading Problem
 parse bytes = do
-  _ ← refuse-if (ltb 8192 (length bytes)) long-problem 8192
+  _ ← refuse-if (ltb most-problem (length bytes)) long-problem most-problem
   s ← due 0x01 0 bytes
   Σ ← symbol-field s
   b ← due 0x02 (s .end) (s .rest)
   budget ← budget-field b
-  es ← equation-fields Σ 16 (b .end) (b .rest)
+  es ← equation-fields Σ most-equations (b .end) (b .rest)
   ok (record { symbols = Σ; budget = budget; equations = es })
 
 -- 12: "compare, unify, subterm: equation fields are not exactly one", at "the end if none, else second field's first byte"

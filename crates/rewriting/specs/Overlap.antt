@@ -2,6 +2,7 @@
 use mathlib.Core.List.{List, [], _∷_, _++_, map}
 use mathlib.Core.Option.{Option, none, some}
 use Prim.Native.Nat.{ℕ, _+_, _-_}
+use Rattle.limits.specs.Limits.{most-variables}
 use Rattle.terms.specs.Base.{count-from}
 use Rattle.terms.specs.Term.{Term, var, node, Pair, size, subst-term, subterm-at, replace-at}
 use Rattle.unify.specs.Unify.{Binding, mgu, under}
@@ -19,7 +20,7 @@ pub record Overlap : Type 0 where
 
 -- "variables renamed apart": a rule's variables are 0 to 15, and the inner rule's become 16 to 31
 unfoldable pub apart : Term → Term
-apart t = subst-term (λ x. var (16 + x)) t
+apart t = subst-term (λ x. var (most-variables + x)) t
 
 -- "Inner rule l1 to r1, outer rule l2 to r2, .. l1 and the subterm of l2 at p unifiable with most general unifier m.
 -- .. The peak is l2 under m. The pair: left, the peak with the subterm at p replaced by r1 under m; right, r2 under m."

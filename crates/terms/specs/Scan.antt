@@ -4,6 +4,7 @@ use mathlib.Core.List.{List, [], _∷_}
 use Prim.Native.Nat.{ℕ, zero, suc, _+_}
 use lib.Dec.{ltb, leb}
 use lib.ListN.{length, getD}
+use Rattle.limits.specs.Limits.{most-symbols}
 use Rattle.terms.specs.Base.{if_then_else_}
 use Rattle.terms.specs.declared.Ends.{Ends}
 use Rattle.terms.specs.declared.Ends.the-variants.{At, Bad}
@@ -14,7 +15,7 @@ arity tab f = getD tab (f + f) 0
 
 -- how many subterms follow the byte b
 unfoldable pub owes : List ℕ → ℕ → ℕ
-owes tab b = if ltb b 16 then arity tab b else 0
+owes tab b = if ltb b most-symbols then arity tab b else 0
 
 -- how many bytes the next n subterms take, or all where the bytes end first
 unfoldable pub skip : List ℕ → List ℕ → ℕ → ℕ

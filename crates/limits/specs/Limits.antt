@@ -1,0 +1,74 @@
+-- Document 01's limits, each once, and the sizes that follow from them. Assumes nothing.
+use Prim.Native.Nat.{ℕ, _+_, _*_}
+
+-- "Symbol n (0 to 15) is byte n."
+abbrev pub most-symbols : ℕ
+most-symbols = 16
+
+-- "Variable n (0 to 15) is byte 80 + n." "The taken pair has at most 16 different variables."
+abbrev pub most-variables : ℕ
+most-variables = 16
+
+-- the variables of two rules that are set apart: 32
+abbrev pub most-apart : ℕ
+most-apart = 2 * most-variables
+
+-- "side over 120 nodes", "Every term on the way is held to 120 nodes."
+abbrev pub most-nodes : ℕ
+most-nodes = 120
+
+-- the nodes of a pair's two sides: 240
+abbrev pub most-pair : ℕ
+most-pair = 2 * most-nodes
+
+-- "tag 03, 0 to 16 times"
+abbrev pub most-equations : ℕ
+most-equations = 16
+
+-- "Over 32 live: 23."
+abbrev pub most-rules : ℕ
+most-rules = 32
+
+-- Live rules and waiting equations together: the newest rule joins before the older ones are counted. 33
+abbrev pub most-pairs : ℕ
+most-pairs = most-rules + 1
+
+-- "With 512 entries in the log, end 23."
+abbrev pub most-entries : ℕ
+most-entries = 512
+
+-- "the budget, four bytes, high byte first, 0 to 1,000,000"
+abbrev pub most-budget : ℕ
+most-budget = 1_000_000
+
+-- "problem over 8,192 bytes"
+abbrev pub most-problem : ℕ
+most-problem = 8192
+
+-- "result buffer under 16,384 bytes"
+abbrev pub least-buffer : ℕ
+least-buffer = 16_384
+
+-- A field's tag in one byte and the length of its contents in two.
+abbrev pub field-head : ℕ
+field-head = 3
+
+-- An origin: its kind in one byte, two numbers in two bytes each, a position in one. 6
+abbrev pub origin-width : ℕ
+origin-width = 1 + 2 + 2 + 1
+
+-- The field of a log entry: an origin, and the number of the rule made in two bytes. 11
+abbrev pub entry-width : ℕ
+entry-width = field-head + origin-width + 2
+
+-- The field of a rule at most: its number in two bytes, and its sides. 245
+abbrev pub rule-width : ℕ
+rule-width = field-head + 2 + most-pair
+
+-- The field of two forms at most: 243
+abbrev pub forms-width : ℕ
+forms-width = field-head + most-pair
+
+-- A result at most, 13,726 bytes: the end, the units, the rules, the log and the forms.
+abbrev pub most-result : ℕ
+most-result = (field-head + 1) + (field-head + 4) + rule-width * most-rules + entry-width * most-entries + forms-width

@@ -1,0 +1,43 @@
+// Document 01's limits, each once, and the sizes that follow from them. specs/Limits has the same numbers for contracts and definitions.
+
+// "Symbol n (0 to 15) is byte n."
+pub const SYMBOLS: u8 = 16;
+
+// "Variable n (0 to 15) is byte 80 + n." "The taken pair has at most 16 different variables."
+pub const VARIABLES: u32 = 16;
+
+// "side over 120 nodes", "Every term on the way is held to 120 nodes."
+pub const NODES: usize = 120;
+
+// The nodes of a pair's two sides: 240.
+pub const PAIR: usize = 2 * NODES;
+
+// "tag 03, 0 to 16 times"
+pub const EQUATIONS: usize = 16;
+
+// "Over 32 live: 23."
+pub const RULES: usize = 32;
+
+// Live rules and waiting equations together: the newest rule joins before the older ones are counted. 33
+pub const PAIRS: usize = RULES + 1;
+
+// "With 512 entries in the log, end 23."
+pub const ENTRIES: usize = 512;
+
+// "the budget, four bytes, high byte first, 0 to 1,000,000"
+pub const BUDGET: usize = 1_000_000;
+
+// "problem over 8,192 bytes"
+pub const PROBLEM: usize = 8192;
+
+// "result buffer under 16,384 bytes"
+pub const BUFFER: usize = 16384;
+
+// A field's tag in one byte and the length of its contents in two.
+pub const FIELD_HEAD: usize = 3;
+
+// An origin: its kind in one byte, two numbers in two bytes each, a position in one. 6
+pub const ORIGIN: usize = 6;
+
+// The field of a log entry: an origin, and the number of the rule made in two bytes. 11
+pub const ENTRY: usize = FIELD_HEAD + ORIGIN + 2;
