@@ -1,5 +1,5 @@
 -- Bytes put behind or before bytes that were put are all of them put at once. Assumes nothing.
--- Read first: store/specs/Slots (patched), store/proofs/Patching.
+-- Read first: specs/Puts (patched), proofs/Patching.
 use mathlib.Core.Path.{_≡_, refl, sym, ap₂, _∙_}
 use mathlib.Core.List.{List, [], _∷_, _++_, append-assoc}
 use Prim.Native.Nat.{ℕ, _+_, _≤_, _<_}
@@ -7,9 +7,8 @@ use native.Mathlib.Omega.{arith}
 use native.Mathlib.Numerals.{add-one}
 use lib.ListN.{length, take, drop, set, length-append, take-append-drop}
 use lib.Seq.{length-take-le, drop-at, take-take, take-append-le, set-split}
-use Rattle.completion.specs.Calls.{written}
-use Rattle.store.specs.Slots.{patched}
-use Rattle.store.proofs.Patching.{patched-after, front-more}
+use Rattle.fields.specs.Puts.{patched}
+use Rattle.fields.proofs.Patching.{patched-after, front-more}
 
 -- nothing put
 pub patched-none : (at : ℕ) (l : List ℕ) → patched at [] l ≡ l
@@ -48,6 +47,6 @@ unfolding patched
 patched-one at b l h = rw (add-one at) (set-split l at b h)
 
 -- put at the front
-pub patched-front : (ys l : List ℕ) → patched 0 ys l ≡ written ys l
-unfolding patched written
+pub patched-front : (ys l : List ℕ) → patched 0 ys l ≡ ys ++ drop (length ys) l
+unfolding patched
 patched-front ys l = let z : 0 + length ys ≡ length ys = omega arith in rw z refl

@@ -1,3 +1,4 @@
+pub mod Patching
 pub mod Appending
 pub mod Numbering
 pub mod Putting

@@ -7,8 +7,7 @@ use native.Mathlib.Omega.{arith}
 use lib.ListN.{length, set, length-set}
 use Rattle.terms.specs.Base.{number-bytes}
 use Rattle.terms.proofs.Limits.{length-number-bytes}
-use Rattle.store.specs.Slots.{patched}
-use Rattle.fields.specs.Puts.{Puts}
+use Rattle.fields.specs.Puts.{patched, Puts}
 use Rattle.fields.proofs.Appending.{patched-none, patched-before, patched-one}
 
 -- what is still to put is the number m in so many bytes as are left

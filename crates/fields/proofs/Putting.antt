@@ -7,9 +7,8 @@ use native.Mathlib.Omega.{arith}
 use lib.ListN.{length, take, drop, set, length-append, length-drop}
 use lib.Seq.{length-take-le}
 use Rattle.terms.specs.Base.{number-bytes, field-bytes}
-use Rattle.store.specs.Slots.{patched}
-use Rattle.store.proofs.Patching.{length-patched}
-use Rattle.fields.specs.Puts.{Puts, tagged}
+use Rattle.fields.proofs.Patching.{length-patched}
+use Rattle.fields.specs.Puts.{patched, Puts, tagged}
 use Rattle.fields.proofs.Appending.{patched-behind, patched-one}
 
 -- the buffer's length stays

@@ -1,9 +1,18 @@
 // Fields put into a lent buffer, one behind the other. Each function answers the place behind what it put.
+ghost use mathlib.Core.Path.{_≡_};
 ghost use mathlib.Core.List.{_∷_};
 ghost use Prim.Native.Nat.{_+_, _<_, _≤_};
 ghost use lib.ListN.{length, take, drop};
 ghost use Rattle.terms.specs.Base.{number-bytes, field-bytes};
-ghost use Rattle.fields.specs.Puts.{Puts, tagged};
+ghost use Rattle.fields.specs.Puts.{patched, Puts, tagged};
+
+// All of p into d from `at` on.
+pub fn paste(d: &mut [u8], at: usize, p: &[u8])
+    requires { ⌜ at + length (now p) ≤ length (now d) ⌝ }
+    ensures { λ _. ⌜ now (d .exit) ≡ patched at (now (p .entry)) (now (d .entry)) ⌝ }
+{
+    bytes::copy(p, &mut d[at..]);
+}
 
 // A number in so many bytes, high byte first: the place behind it.
 pub fn put_number(out: &mut [u8], at: usize, width: usize, n: u32) -> usize
@@ -35,7 +44,7 @@ pub fn put_field(out: &mut [u8], at: usize, tag: u8, contents: &[u8]) -> usize
     ensures { λ r. ⌜ Puts (now (out .entry)) at (3 + length (now (contents .entry))) (field-bytes (tagged tag (now (contents .entry)))) (now (out .exit)) r ⌝ }
 {
     let a = put_head(out, at, tag, contents.len());
-    store::paste(out, a, contents);
+    paste(out, a, contents);
     at + 3 + contents.len()
 }
 
@@ -54,6 +63,6 @@ pub fn put_part(out: &mut [u8], at: usize, from: &[u8], a: usize, n: usize) -> u
     ensures { λ r. ⌜ Puts (now (out .entry)) at n (take n (drop a (now (from .entry)))) (now (out .exit)) r ⌝ }
 {
     let e = a + n;
-    store::paste(out, at, &from[a..e]);
+    paste(out, at, &from[a..e]);
     at + n
 }

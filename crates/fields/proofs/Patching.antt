@@ -1,13 +1,13 @@
 -- A list with another put over a part of it: its length, the bytes there, before and behind are the expected ones. Assumes nothing. Also what a lent
 -- part comes back as (`patched-back`).
--- Read first: specs/Slots (patched).
+-- Read first: specs/Puts (patched).
 use mathlib.Core.Path.{_≡_, refl, sym, ap, ap₂, _∙_}
 use mathlib.Core.List.{List, [], _++_, append-assoc, append-nil}
 use Prim.Native.Nat.{ℕ, _+_, _*_, _-_, _≤_}
 use native.Mathlib.Omega.{arith}
 use lib.ListN.{length, drop, take, length-append, length-drop, take-append-drop, drop-of-length-le}
 use lib.Seq.{length-take-le, take-all, take-append-le, drop-append-le, drop-append-add, take-at, drop-at, drop-drop, take-length}
-use Rattle.store.specs.Slots.{patched}
+use Rattle.fields.specs.Puts.{patched}
 
 module _ (at : ℕ) (p d : List ℕ) (room : at + length p ≤ length d) where
   front : length (take at d) ≡ at
@@ -79,6 +79,3 @@ pub filled : (src h p w : List ℕ) → src ≡ w → length w ≡ length h → 
 filled src h p w e n q =
     let j : length h ≤ length src = omega (arith, ap length e) in
     q ∙ ap₂ _++_ (take-length src) (drop-of-length-le h j) ∙ append-nil src ∙ e
-
-pub whole-slot : (d : List ℕ) (k : ℕ) → 240 * (k + 1) ≤ length d → length (take 240 (drop (240 * k) d)) ≡ 240
-whole-slot d k h = length-take-le 240 (drop (240 * k) d) (omega (arith, length-drop (240 * k) d))

@@ -1,11 +1,11 @@
 -- `paste`: what `bytes::copy` writes into the part from `at` on is the list patched there, by `patched-back`. Assumes nothing.
--- Read first: specs/Slots (patched), proofs/Patching.
-use Rattle.store.proofs.Patching.{patched-back}
+-- Read first: specs/Puts (patched), proofs/Patching.
+use Rattle.fields.proofs.Patching.{patched-back}
 use borrow.Author.Needs.{needs}
-use Rattle.store.proofs.paste.Statement.{statement}
-use Rattle.store.proofs.paste.Tie as tie
-use Rattle.store.proofs.paste.Reads as reads
-use Rattle.store.proofs.paste.Lts as lts
+use Rattle.fields.proofs.paste.Statement.{statement}
+use Rattle.fields.proofs.paste.Tie as tie
+use Rattle.fields.proofs.paste.Reads as reads
+use Rattle.fields.proofs.paste.Lts as lts
 use Rattle.bytes.proofs.copy.Reads as copy-reads
 
 returns : tie.Need-returns
