@@ -12,7 +12,8 @@ use Rattle.terms.specs.Base.{if_then_else_}
 use Rattle.terms.proofs.Shape.{zero≢one}
 use Rattle.terms.specs.Term.{Term, Pair, size}
 use Rattle.rewriting.specs.Overlap.{Rule}
-use Rattle.rewriting.specs.Rewrite.{step, End, complete, neither-above, spent, too-large, rules-full, log-full, end-number, goes-on, Paid, done, stop, Paying, return, end-with, and-then, _>>=_, end-if, pay, hold, normalise, normalise-pair}
+use Rattle.rewriting.specs.Ends.{ending, number-of}
+use Rattle.rewriting.specs.Rewrite.{step, End, complete, neither-above, spent, too-large, rules-full, log-full, end-number, Paid, done, stop, Paying, return, end-with, and-then, _>>=_, end-if, pay, hold, normalise, normalise-pair}
 use Rattle.rewriting.proofs.Relations
 use Rattle.rewriting.proofs.Relations.{Star}
 use Rattle.rewriting.proofs.Abstract.{append, one}
@@ -161,12 +162,12 @@ normalise-ends rules t = normalise-holds (λ e left. NormalEnd e) rules tt t (λ
 pub stop≢done : {A : Type 0} {a : A} {e : End} {l m : ℕ} → stop e l ≡ done a m → ⊥
 stop≢done q = zero≢one (cc)
 
--- no end has the number of what goes on
-pub goes-on≢end : (e : End) → goes-on ≡ end-number e → ⊥
-unfolding end-number
-goes-on≢end complete p = omega arith
-goes-on≢end (neither-above q) p = omega arith
-goes-on≢end spent p = omega arith
-goes-on≢end too-large p = omega arith
-goes-on≢end rules-full p = omega arith
-goes-on≢end log-full p = omega arith
+-- the code's ends have the definition's numbers
+pub number-of-ending : (e : End) → number-of (ending e) ≡ end-number e
+unfolding number-of ending end-number
+number-of-ending complete = refl
+number-of-ending (neither-above q) = refl
+number-of-ending spent = refl
+number-of-ending too-large = refl
+number-of-ending rules-full = refl
+number-of-ending log-full = refl

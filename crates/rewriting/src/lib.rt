@@ -1,21 +1,38 @@
-// Rewriting: definitions, theory, and the verdicts' numbers. The code that rewrites stands in `redex` and `normaliser`.
-// A verdict is GOES_ON, or document 01's number of the end at which the work stopped (`end-number` of specs/Rewrite): so a turn and a run answer.
-// `redex` and `normaliser` have two more of their own, REWRITTEN and NO_TERM, which are no ends.
+// Rewriting: definitions, theory, and how the work ends. The code that rewrites stands in `redex` and `normaliser`.
+ghost use mathlib.Core.Path.{_≡_};
+ghost use Rattle.rewriting.specs.Ends.{number-of};
 
-// No end: the work goes on. No end has this number.
-pub const GOES_ON: u8 = 1;
+// How a run ends; specs/Ends has what each case says, and its number.
+pub enum End {
+    Complete,
+    // Neither side above the other.
+    NeitherAbove,
+    // A unit due and the budget spent.
+    Spent,
+    // A term over 120 nodes, or a taken pair over 16 variables.
+    TooLarge,
+    // A 33rd live rule.
+    RulesFull,
+    // A 513th log entry.
+    LogFull,
+}
 
-// Complete.
-pub const COMPLETE: u8 = 0;
+// Document 01's number of an end.
+pub fn number(end: End) -> u8
+    ensures { λ r. ⌜ r ≡ number-of end ⌝ }
+{
+    match end {
+        End::Complete => 0,
+        End::NeitherAbove => 20,
+        End::Spent => 21,
+        End::TooLarge => 22,
+        End::RulesFull => 23,
+        End::LogFull => 23,
+    }
+}
 
-// Neither side above the other.
-pub const NEITHER_ABOVE: u8 = 20;
-
-// A unit due and the budget spent.
-pub const SPENT: u8 = 21;
-
-// A term over 120 nodes, or a taken pair over 16 variables.
-pub const TOO_LARGE: u8 = 22;
-
-// A 33rd live rule, or a 513th log entry.
-pub const FULL: u8 = 23;
+// What a step of a turn, and a turn, say beside their state.
+pub enum Verdict {
+    GoesOn,
+    Ends(End),
+}
