@@ -1,10 +1,10 @@
 // Document 01's limits, each once, and the sizes that follow from them. specs/Limits has the same numbers for contracts and definitions.
 
 // "Symbol n (0 to 15) is byte n."
-pub const SYMBOLS: u8 = 16;
+pub const SYMBOLS: usize = 16;
 
 // "Variable n (0 to 15) is byte 80 + n." "The taken pair has at most 16 different variables."
-pub const VARIABLES: u32 = 16;
+pub const VARIABLES: usize = 16;
 
 // "side over 120 nodes", "Every term on the way is held to 120 nodes."
 pub const NODES: usize = 120;

@@ -1,15 +1,18 @@
 // Normalising terms by rules in slots. Inside, a term stands in cells: a subterm that is known to be normal has its size in its cell.
-use redex::Out;
 ghost use mathlib.Core.Path.{_≡_};
-ghost use mathlib.Core.List.{[], _++_};
+ghost use mathlib.Core.List.{_++_};
 ghost use Prim.Native.Nat.{_≤_};
 ghost use lib.ListN.{length, drop};
+ghost use Rattle.limits.specs.Limits.{most-nodes};
 ghost use Rattle.matching.specs.Cells.{node-bytes};
-ghost use Rattle.redex.specs.Stored.{Layout};
-ghost use Rattle.normaliser.specs.Settled.{LeftNormal, Settled, SettledAll, Normalised, Reducible};
+ghost use Rattle.slots.specs.Slots.{Layout};
+ghost use Rattle.normaliser.specs.Settled.{LeftNormal, Settled, SettledAll, form-after, Normalised, Reducible};
+use limits::NODES;
+use redex::Out;
+use redex::Step;
 
-// The verdict where no term stands; no end has it.
-const NO_TERM: u8 = 3;
+// The first cell that has a size.
+const SIZED: u16 = 256;
 
 // The term at the start, whose root has the cell c, is normal. It would be no term where it ends beyond len.
 fn leave(c: u16, len: usize, units: u32) -> Out
@@ -18,9 +21,9 @@ fn leave(c: u16, len: usize, units: u32) -> Out
 {
     let e = matching::size_of(c);
     if e > len {
-        return redex::ended(NO_TERM, units, len, 0);
+        return redex::ended(Step::NoTerm, units, len, 0);
     }
-    redex::ended(rewriting::GOES_ON, units, len, e)
+    redex::ended(Step::Normal, units, len, e)
 }
 
 // Normalises the term at the start of t, of which `len` cells are in use and at most `most` may be.
@@ -30,34 +33,35 @@ fn normalise_in(
     most: usize,
     table: &[u8],
     rules: &[u8],
-    lens: &[u8],
     count: usize,
     units: u32,
 ) -> Out
-    requires { ⌜ Layout [] (now rules) (now lens) count ⌝ }
-    requires { ⌜ (len ≤ most) × (most ≤ length (now t)) × (most ≤ 120) ⌝ }
-    ensures { λ r. ⌜ Settled (now (table .entry)) (now (rules .entry)) (now (lens .entry)) count (now (t .entry)) (now (t .exit)) len most units r ⌝ }
+    requires { ⌜ Layout (now rules) count ⌝ }
+    requires { ⌜ (len ≤ most) × (most ≤ length (now t)) × (most ≤ most-nodes) ⌝ }
+    ensures { λ r. ⌜ Settled (now (table .entry)) (now (rules .entry)) count (now (t .entry)) (now (t .exit)) len most units r ⌝ }
 {
     let mut l = len;
     let mut u = units;
     loop {
         if l == 0 {
-            return redex::ended(NO_TERM, u, 0, 0);
+            return redex::ended(Step::NoTerm, u, 0, 0);
         }
         let c = t[0];
-        if c >= 256 {
+        if c >= SIZED {
             return leave(c, l, u);
         }
         let n = terms::owed_by(table, matching::byte_of(c));
         let m = most - 1;
-        let r = normalise_all(&mut t[1..], n, l - 1, m, table, rules, lens, count, u);
-        if r.verdict != rewriting::GOES_ON {
+        let r = normalise_all(&mut t[1..], n, l - 1, m, table, rules, count, u);
+        let below = r.step;
+        let Step::Normal = below else {
             return r;
-        }
-        let s = redex::rewrite(t, r.len + 1, r.end + 1, most, rules, lens, count, r.units);
-        if s.verdict != redex::REWRITTEN {
+        };
+        let s = redex::rewrite(t, r.len + 1, r.end + 1, most, rules, count, r.units);
+        let here = s.step;
+        let Step::Rewritten = here else {
             return s;
-        }
+        };
         l = s.len;
         u = s.units;
     }
@@ -71,13 +75,12 @@ fn normalise_all(
     most: usize,
     table: &[u8],
     rules: &[u8],
-    lens: &[u8],
     count: usize,
     units: u32,
 ) -> Out
-    requires { ⌜ Layout [] (now rules) (now lens) count ⌝ }
-    requires { ⌜ (len ≤ most) × (most ≤ length (now t)) × (most ≤ 120) ⌝ }
-    ensures { λ r. ⌜ SettledAll (now (table .entry)) (now (rules .entry)) (now (lens .entry)) count (now (t .entry)) (now (t .exit)) n len most units r ⌝ }
+    requires { ⌜ Layout (now rules) count ⌝ }
+    requires { ⌜ (len ≤ most) × (most ≤ length (now t)) × (most ≤ most-nodes) ⌝ }
+    ensures { λ r. ⌜ SettledAll (now (table .entry)) (now (rules .entry)) count (now (t .entry)) (now (t .exit)) n len most units r ⌝ }
 {
     let mut k = n;
     let mut p = 0;
@@ -85,16 +88,17 @@ fn normalise_all(
     let mut u = units;
     while k > 0 {
         let m = most - p;
-        let r = normalise_in(&mut t[p..], l - p, m, table, rules, lens, count, u);
-        if r.verdict != rewriting::GOES_ON {
+        let r = normalise_in(&mut t[p..], l - p, m, table, rules, count, u);
+        let step = r.step;
+        let Step::Normal = step else {
             return r;
-        }
+        };
         l = r.len + p;
         p = r.end + p;
         u = r.units;
         k -= 1;
     }
-    redex::ended(rewriting::GOES_ON, u, l, p)
+    redex::ended(Step::Normal, u, l, p)
 }
 
 fn cell(b: u8) -> u16
@@ -115,7 +119,7 @@ fn load(t: &[u8], cells: &mut [u16])
     }
 }
 
-// The nodes' bytes back into t.
+// The nodes' bytes to the front of t.
 fn unload(cells: &[u16], t: &mut [u8])
     requires { ⌜ length (now cells) ≤ length (now t) ⌝ }
     ensures { λ _. ⌜ now (t .exit) ≡ node-bytes (now (cells .entry)) ++ drop (length (now (cells .entry))) (now (t .entry)) ⌝ }
@@ -127,47 +131,70 @@ fn unload(cells: &[u16], t: &mut [u8])
     }
 }
 
-// Whether some rule matches some node of the term that t holds: a step would be due.
-pub fn reducible(t: &[u8], table: &[u8], rules: &[u8], lens: &[u8], count: usize) -> bool
-    requires { ⌜ Layout (now table) (now rules) (now lens) count ⌝ }
-    requires { ⌜ length (now t) ≤ 120 ⌝ }
-    ensures { λ r. ⌜ Reducible (now (table .entry)) (now (rules .entry)) (now (lens .entry)) count (now (t .entry)) r ⌝ }
+// Whether some rule matches some node of the term t: a step would be due.
+pub fn reducible(t: &[u8], table: &[u8], rules: &[u8], count: usize) -> bool
+    requires { ⌜ Layout (now rules) count ⌝ }
+    requires { ⌜ length (now t) ≤ most-nodes ⌝ }
+    ensures { λ r. ⌜ Reducible (now (table .entry)) (now (rules .entry)) count (now (t .entry)) r ⌝ }
 {
-    let mut cells = [0u16; 120];
+    let mut cells = [0u16; NODES];
     load(t, &mut cells);
-    let r = normalise_in(&mut cells, t.len(), 120, table, rules, lens, count, 0);
-    r.verdict == rewriting::SPENT
+    let r = normalise_in(&mut cells, t.len(), NODES, table, rules, count, 0);
+    let step = r.step;
+    match step {
+        Step::Spent => true,
+        _ => false,
+    }
 }
 
-// Verdict GOES_ON: normal; SPENT; TOO_LARGE; or another, where t held no term. `paid` units were paid, and `len` bytes are in use.
-pub struct Normal {
-    pub verdict: u8,
+// What a term's form is.
+pub enum Form {
+    // The normal form stands in the lent bytes, so many of them.
+    Normal(usize),
+    // A step is due, and no unit is left.
+    Spent,
+    // A step's term is too large.
+    TooLarge,
+}
+
+pub struct Reached {
+    pub form: Form,
+    // The units paid, one a step.
     pub paid: u32,
-    pub len: usize,
 }
 
-// The normal form of the term that t holds in its first `len` bytes, by the first `count` rules, for at most `units` steps.
+// How the walk over a term ended. Bytes that are no term do not come here.
+fn form_of(step: Step, len: usize) -> Form
+    ensures { λ r. ⌜ r ≡ form-after step len ⌝ }
+{
+    match step {
+        Step::Normal => Form::Normal(len),
+        Step::Spent => Form::Spent,
+        _ => Form::TooLarge,
+    }
+}
+
+// The normal form of the term t, by the first `count` rules, for at most `units` steps, to the front of `out`.
 pub fn normalise(
-    t: &mut [u8],
-    len: usize,
+    t: &[u8],
     table: &[u8],
     rules: &[u8],
-    lens: &[u8],
     count: usize,
     units: u32,
-) -> Normal
-    requires { ⌜ Layout (now table) (now rules) (now lens) count ⌝ }
-    requires { ⌜ (len ≤ 120) × (120 ≤ length (now t)) ⌝ }
-    ensures { λ r. ⌜ Normalised (now (table .entry)) (now (rules .entry)) (now (lens .entry)) count (now (t .entry)) (now (t .exit)) len units r ⌝ }
+    out: &mut [u8],
+) -> Reached
+    requires { ⌜ Layout (now rules) count ⌝ }
+    requires { ⌜ (length (now t) ≤ most-nodes) × (most-nodes ≤ length (now out)) ⌝ }
+    ensures { λ r. ⌜ Normalised (now (table .entry)) (now (rules .entry)) count (now (t .entry)) (now (out .entry)) (now (out .exit)) units r ⌝ }
 {
-    let mut cells = [0u16; 120];
-    load(&t[0..len], &mut cells);
-    let r = normalise_in(&mut cells, len, 120, table, rules, lens, count, units);
+    let mut cells = [0u16; NODES];
+    load(t, &mut cells);
+    let r = normalise_in(&mut cells, t.len(), NODES, table, rules, count, units);
     let n = r.len;
-    unload(&cells[0..n], t);
-    Normal {
-        verdict: r.verdict,
+    unload(&cells[0..n], out);
+    let step = r.step;
+    Reached {
+        form: form_of(step, n),
         paid: units - r.units,
-        len: n,
     }
 }

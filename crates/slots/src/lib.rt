@@ -4,9 +4,9 @@ pub mod origins;
 
 ghost use mathlib.Core.Path.{_≡_};
 ghost use Prim.Native.Nat.{_+_, _*_, _<_, _≤_};
-ghost use lib.ListN.{length};
+ghost use lib.ListN.{length, getD};
 ghost use Rattle.limits.specs.Limits.{most-nodes, origin-width};
-ghost use Rattle.slots.specs.Slots.{slot-width, slot, mark-of, left-length, left-of, right-of, Layout, PutSides, PutMark, PutRight, Removed, Inserted, MovedLast};
+ghost use Rattle.slots.specs.Slots.{left-at, slot-width, slot, mark-of, left-length, left-of, right-of, Layout, PutSides, PutMark, PutRight, Removed, Inserted, MovedLast};
 use limits::NODES;
 
 const LEFT_LENGTH: usize = limits::ORIGIN;
@@ -46,6 +46,14 @@ pub fn left(slots: &[u8], k: usize) -> &[u8]
     let a = SLOT * k + LEFT;
     let n = terms::wide(slots[SLOT * k + LEFT_LENGTH]);
     &slots[a..a + n]
+}
+
+// The first byte of the left side of pair k.
+pub fn left_root(slots: &[u8], k: usize) -> u8
+    requires { ⌜ slot-width * (k + 1) ≤ length (now slots) ⌝ }
+    ensures { λ r. ⌜ r ≡ getD (slot (now (slots .entry)) k) left-at 0 ⌝ }
+{
+    slots[SLOT * k + LEFT]
 }
 
 // The right side of pair k.
