@@ -3,36 +3,37 @@ use mathlib.Core.Path.{_≡_}
 use mathlib.Core.Bool.{Bool, true, false}
 use mathlib.Core.List.{List}
 use mathlib.Core.Option.{Option, none, some}
-use Prim.Native.Nat.{ℕ, _+_, _*_, _≤_}
+use Prim.Native.Nat.{ℕ, _+_, _*_, _<_, _≤_}
 use lib.Dec.{ltb}
-use lib.ListN.{getD, take, drop}
-use Rattle.terms.specs.Term.{Term, node, Terms, nil, cons, Pair, size, term-bytes, terms-bytes, renamed, subterm-at}
+use lib.ListN.{length}
+use Rattle.limits.specs.Limits.{most-nodes, most-variables, most-apart}
+use Rattle.terms.specs.Term.{Term, node, Terms, nil, cons, Pair, size, terms-bytes, renamed, subterm-at}
 use Rattle.terms.specs.Flat.{Wfs}
 use Rattle.unify.specs.Unify.{Binding, mgu, under}
-use Rattle.pairs.specs.Placed.{LengthsKept}
+use Rattle.slots.specs.Slots.{slot, left-length, Sides, PairAt, KeptSlot}
+use Rattle.pairs.specs.Placed.{InSlot}
 use Rattle.rewriting.specs.Overlap.{Overlap, overlap}
-use Rattle.redex.specs.Stored.{Sides, RuleAt}
+use Rattle.overlaps.specs.declared.Roots.{Roots}
 use Rattle.overlaps.specs.declared.Met.{Met}
-use Rattle.overlaps.specs.declared.Met.the-variants.{Nothing, TooLarge, Found}
+use Rattle.overlaps.specs.declared.Met.the-variants.{Nothing, TooLarge, Pair as Met-pair}
 
--- by what is above 120 nodes: the peak, the left side, the right side; else the pair, renamed, is in the buffers L and R
-abbrev pub PairIs : List ℕ → List ℕ → Met → ℕ → ℕ → Pair → Bool → Bool → Bool → Type 0
-PairIs L R r m n e true b c = r ≡ TooLarge
-PairIs L R r m n e false true c = r ≡ TooLarge
-PairIs L R r m n e false false true = r ≡ TooLarge
-PairIs L R r m n e false false false = (r ≡ Found m n) × (take m L ≡ term-bytes (e .left)) × (take n R ≡ term-bytes (e .right))
+-- nodes of an overlap's terms: two left sides, the left side with a right side in it, and a right side. 600
+abbrev pub arena-width : ℕ
+arena-width = 5 * most-nodes
 
-abbrev pub Says : List ℕ → List ℕ → Met → Option Overlap → Type 0
-Says L R r none = r ≡ Nothing
-Says L R r (some v) =
-    PairIs L R r (size (v .sides .left)) (size (v .sides .right)) (renamed (v .sides)) (ltb 120 (size (v .peak))) (ltb 120 (size (v .sides .left))) (ltb 120 (size (v .sides .right)))
+-- by what is too large: the peak, the left side, the right side; else the pair, renamed, is in the slot
+abbrev pub PairIs : List ℕ → Met → Pair → Bool → Bool → Bool → Type 0
+PairIs one r e true b c = r ≡ TooLarge
+PairIs one r e false true c = r ≡ TooLarge
+PairIs one r e false false true = r ≡ TooLarge
+PairIs one r e false false false = (r ≡ Met-pair) × InSlot one e
 
-abbrev pub Short : Met → Type 0
-Short Nothing = Unit {0}
-Short TooLarge = Unit {0}
-Short (Found m n) = (m ≤ 120) × (n ≤ 120)
+abbrev pub Says : List ℕ → Met → Option Overlap → Type 0
+Says one r none = r ≡ Nothing
+Says one r (some v) =
+    PairIs one r (renamed (v .sides)) (ltb most-nodes (size (v .peak))) (ltb most-nodes (size (v .sides .left))) (ltb most-nodes (size (v .sides .right)))
 
--- `solve`: of terms x, y, z, w, where t is the subterm of x at p
+-- `solve`: of terms x, y, z, w, where t is the subterm of x at the outer root
 abbrev pub four : Term → Term → Term → Term → Terms
 four x y z w = cons x (cons y (cons z (cons w nil)))
 
@@ -40,27 +41,36 @@ abbrev pub instances : Term → Term → Term → Option (List Binding) → Opti
 instances x z w none = none
 instances x z w (some m) = some (record { peak = under m x; sides = record { left = under m z; right = under m w } })
 
-pub record SolvesAt (l tab : List ℕ) (p n a b : ℕ) (L R L′ R′ : List ℕ) (r : Met) : Type 0 where
-  pub kept : LengthsKept L R L′ R′
-  pub short : Short r
-  pub answer : (x y z w : Term) → Wfs 32 tab (four x y z w) → l ≡ terms-bytes (four x y z w) → n ≡ size x → a ≡ n + size y → b ≡ a + size z →
-      (t : Term) → subterm-at x p ≡ some t → Says L′ R′ r (instances x z w (mgu y t))
+-- the roots stand among the nodes
+pub record Within (l : List ℕ) (at : Roots) : Type 0 where
+  pub few : length l ≤ arena-width
+  pub inner : at .inner < length l
+  pub outer : at .outer < length l
+  pub left : at .left < length l
+  pub right : at .right < length l
 
--- `meet`
+pub record SolvesAt (l tab : List ℕ) (at : Roots) (one one′ : List ℕ) (r : Met) : Type 0 where
+  pub kept : KeptSlot one one′
+  pub answer : (x y z w : Term) → Wfs most-apart tab (four x y z w) → l ≡ terms-bytes (four x y z w) →
+      at .inner ≡ size x → at .left ≡ at .inner + size y → at .right ≡ at .left + size z →
+      (t : Term) → subterm-at x (at .outer) ≡ some t → Says one′ r (instances x z w (mgu y t))
+
+-- a symbol stands at position p of the term
 abbrev pub AtSymbol : Term → ℕ → Type 0
 AtSymbol t p = (f : ℕ) × (ts : Terms) × (subterm-at t p ≡ some (node f ts))
 
-pub record Meets (tab l₁ r₁ l₂ r₂ : List ℕ) (p : ℕ) (L R L′ R′ : List ℕ) (r : Met) : Type 0 where
-  pub kept : LengthsKept L R L′ R′
-  pub short : Short r
-  pub answer : (i o : Pair) → Sides 16 tab l₁ r₁ i → Sides 16 tab l₂ r₂ o → AtSymbol (o .left) p → Says L′ R′ r (overlap i o p)
+-- `meet`
+pub record Meets (tab l₁ r₁ l₂ r₂ : List ℕ) (p : ℕ) (one one′ : List ℕ) (r : Met) : Type 0 where
+  pub kept : KeptSlot one one′
+  pub answer : (i o : Pair) → Sides most-variables tab l₁ r₁ i → Sides most-variables tab l₂ r₂ o → AtSymbol (o .left) p → Says one′ r (overlap i o p)
 
--- `side`: the left side of rule k is side 2 * k, its right side the next
-unfoldable pub side-bytes : List ℕ → List ℕ → ℕ → List ℕ
-side-bytes rules lens k = take (getD lens k 0) (drop (120 * k) rules)
+-- `possible`: where it says no there is no overlap, and where it says yes a symbol stands
+pub record Possible (tab rules : List ℕ) (inner outer p : ℕ) (r : Bool) : Type 0 where
+  pub within : r ≡ true → p < left-length (slot rules outer)
+  pub symbol : r ≡ true → (o : Pair) → PairAt most-variables tab rules outer o → AtSymbol (o .left) p
+  pub missing : r ≡ false → (i o : Pair) → PairAt most-variables tab rules inner i → PairAt most-variables tab rules outer o → overlap i o p ≡ none
 
 -- `overlap`: exactly as the definition says
-pub record Overlapped (tab rules lens : List ℕ) (inner outer p : ℕ) (L R L′ R′ : List ℕ) (r : Met) : Type 0 where
-  pub kept : LengthsKept L R L′ R′
-  pub short : Short r
-  pub answer : (i o : Pair) → RuleAt tab rules lens inner i → RuleAt tab rules lens outer o → Says L′ R′ r (overlap i o p)
+pub record Overlapped (tab rules : List ℕ) (inner outer p : ℕ) (one one′ : List ℕ) (r : Met) : Type 0 where
+  pub kept : KeptSlot one one′
+  pub answer : (i o : Pair) → PairAt most-variables tab rules inner i → PairAt most-variables tab rules outer o → AtSymbol (o .left) p → Says one′ r (overlap i o p)

@@ -1,86 +1,80 @@
 // The overlap of two stored rules at a position.
-ghost use mathlib.Core.Path.{_≡_};
-ghost use Prim.Native.Nat.{_+_, _*_, _<_, _≤_};
-ghost use lib.ListN.{length, getD};
-ghost use Rattle.redex.specs.Stored.{Layout};
-ghost use Rattle.overlaps.specs.Answer.{side-bytes, SolvesAt, Meets, Overlapped};
+ghost use Prim.Native.Nat.{_+_, _<_, _≤_};
+ghost use lib.ListN.{length};
+ghost use Rattle.limits.specs.Limits.{most-nodes};
+ghost use Rattle.slots.specs.Slots.{slot, left-length, Layout};
+ghost use Rattle.overlaps.specs.Answer.{Within, SolvesAt, Meets, Possible, Overlapped};
+
+// Nodes of an overlap's terms, one after the other: two left sides, the left side with a right side in it, and a right side. 600
+const ARENA: usize = 5 * limits::NODES;
+
+// The first byte that is no symbol's.
+const VARIABLE: u8 = 128;
 
 pub enum Met {
     // There is no overlap.
     Nothing,
-    // The peak or a side has more than 120 nodes.
+    // The peak or a side is too large.
     TooLarge,
-    // The lengths of the pair's sides.
-    Found(usize, usize),
+    // The pair stands in the lent slot.
+    Pair,
 }
 
-// Unifies the term at node n with the subterm at node p, and writes the instances of nodes a and b.
+// Where terms begin among the nodes: the inner left side and the outer subterm, which are unified, and the pair's two terms.
+pub struct Roots {
+    pub inner: usize,
+    pub outer: usize,
+    pub left: usize,
+    pub right: usize,
+}
+
+// Unifies, and puts the pair into its slot.
 fn solve_in(
     nodes: &[u8],
     table: &[u8],
-    p: usize,
-    n: usize,
-    a: usize,
-    b: usize,
+    at: Roots,
     ends: &mut [u16],
     class: &mut [u16],
     sizes: &mut [u8],
-    left: &mut [u8],
-    right: &mut [u8],
+    pair: &mut [u8],
 ) -> Met
-    requires { ⌜ (length (now nodes) ≤ 600) × (p < length (now nodes)) × (n < length (now nodes)) × (a < length (now nodes)) × (b < length (now nodes)) ⌝ }
+    requires { ⌜ Within (now nodes) at × Layout (now pair) 1 ⌝ }
     requires { ⌜ (length (now nodes) ≤ length (now ends)) × (length (now nodes) ≤ length (now class)) × (length (now nodes) ≤ length (now sizes)) ⌝ }
-    requires { ⌜ (120 ≤ length (now left)) × (120 ≤ length (now right)) ⌝ }
-    ensures { λ r. ⌜ SolvesAt (now (nodes .entry)) (now (table .entry)) p n a b (now (left .entry)) (now (right .entry)) (now (left .exit)) (now (right .exit)) r ⌝ }
+    ensures { λ r. ⌜ SolvesAt (now (nodes .entry)) (now (table .entry)) at (now (pair .entry)) (now (pair .exit)) r ⌝ }
 {
     if !unifier::laid_out(nodes, table) {
         return Met::Nothing;
     }
-    if !unifier::unify(nodes, table, n, p, ends, class, sizes) {
+    if !unifier::unify(nodes, table, at.inner, at.outer, ends, class, sizes) {
         return Met::Nothing;
     }
-    let s = pairs::place(nodes, table, ends, class, sizes, a, b, left, right);
-    if s.fits {
-        return Met::Found(s.left, s.right);
+    if pairs::place(nodes, table, ends, class, sizes, at.left, at.right, pair) {
+        return Met::Pair;
     }
     Met::TooLarge
 }
 
 // `solve_in` with buffers of its own, of which it lends as much as there are nodes.
-fn solve(
-    nodes: &[u8],
-    table: &[u8],
-    p: usize,
-    n: usize,
-    a: usize,
-    b: usize,
-    left: &mut [u8],
-    right: &mut [u8],
-) -> Met
-    requires { ⌜ (length (now nodes) ≤ 600) × (p < length (now nodes)) × (n < length (now nodes)) × (a < length (now nodes)) × (b < length (now nodes)) ⌝ }
-    requires { ⌜ (120 ≤ length (now left)) × (120 ≤ length (now right)) ⌝ }
-    ensures { λ r. ⌜ SolvesAt (now (nodes .entry)) (now (table .entry)) p n a b (now (left .entry)) (now (right .entry)) (now (left .exit)) (now (right .exit)) r ⌝ }
+fn solve(nodes: &[u8], table: &[u8], at: Roots, pair: &mut [u8]) -> Met
+    requires { ⌜ Within (now nodes) at × Layout (now pair) 1 ⌝ }
+    ensures { λ r. ⌜ SolvesAt (now (nodes .entry)) (now (table .entry)) at (now (pair .entry)) (now (pair .exit)) r ⌝ }
 {
-    let mut ends = [0u16; 600];
-    let mut class = [0u16; 600];
-    let mut sizes = [0u8; 600];
+    let mut ends = [0u16; ARENA];
+    let mut class = [0u16; ARENA];
+    let mut sizes = [0u8; ARENA];
     let k = nodes.len();
     solve_in(
         nodes,
         table,
-        p,
-        n,
-        a,
-        b,
+        at,
         &mut ends[0..k],
         &mut class[0..k],
         &mut sizes[0..k],
-        left,
-        right,
+        pair,
     )
 }
 
-// The overlap of the rule from l1 to r1 with the rule from l2 to r2 at a position of l2, where the terms do not clash.
+// The overlap of the rule from l1 to r1 with the rule from l2 to r2 at a position of l2.
 fn meet(
     l1: &[u8],
     r1: &[u8],
@@ -88,63 +82,59 @@ fn meet(
     r2: &[u8],
     table: &[u8],
     position: usize,
-    left: &mut [u8],
-    right: &mut [u8],
+    pair: &mut [u8],
 ) -> Met
-    requires { ⌜ (length (now l1) ≤ 120) × (length (now r1) ≤ 120) × (length (now l2) ≤ 120) × (length (now r2) ≤ 120) ⌝ }
-    requires { ⌜ (position < length (now l2)) × (0 < length (now r2)) ⌝ }
-    requires { ⌜ (120 ≤ length (now left)) × (120 ≤ length (now right)) ⌝ }
-    ensures { λ r. ⌜ Meets (now (table .entry)) (now (l1 .entry)) (now (r1 .entry)) (now (l2 .entry)) (now (r2 .entry)) position (now (left .entry)) (now (right .entry)) (now (left .exit)) (now (right .exit)) r ⌝ }
+    requires { ⌜ (length (now l1) ≤ most-nodes) × (length (now r1) ≤ most-nodes) × (length (now l2) ≤ most-nodes) × (length (now r2) ≤ most-nodes) ⌝ }
+    requires { ⌜ (position < length (now l2)) × (0 < length (now r2)) × Layout (now pair) 1 ⌝ }
+    ensures { λ r. ⌜ Meets (now (table .entry)) (now (l1 .entry)) (now (r1 .entry)) (now (l2 .entry)) (now (r2 .entry)) position (now (pair .entry)) (now (pair .exit)) r ⌝ }
 {
-    if clash::clash(l1, l2, table, position) {
-        return Met::Nothing;
-    }
-    let mut nodes = [0u8; 600];
+    let mut nodes = [0u8; ARENA];
     let end = laying::lay_four(l1, r1, l2, r2, table, position, &mut nodes);
     let n = l2.len();
-    let a = n + l1.len();
-    let b = end - r2.len();
-    solve(&nodes[0..end], table, position, n, a, b, left, right)
+    let at = Roots {
+        inner: n,
+        outer: position,
+        left: n + l1.len(),
+        right: end - r2.len(),
+    };
+    solve(&nodes[0..end], table, at, pair)
 }
 
-// The bytes of a stored side: the left side of rule k is side 2 * k, its right side the next.
-fn side<'a>(rules: &'a [u8], lens: &[u8], k: usize) -> &'a [u8]
-    requires { ⌜ (120 * k + 120 ≤ length (now rules)) × (k < length (now lens)) × (getD (now lens) k 0 ≤ 120) ⌝ }
-    ensures { λ r. ⌜ now r ≡ side-bytes (now (rules .entry)) (now (lens .entry)) k ⌝ }
-    ensures { λ r. ⌜ length (now r) ≤ 120 ⌝ }
+// Whether a symbol stands at the position of the outer rule's left side, and does not clash with the inner rule's left side there: else there is no
+// overlap.
+pub fn possible(rules: &[u8], table: &[u8], inner: usize, outer: usize, position: usize) -> bool
+    requires { ⌜ Layout (now rules) (inner + 1) × Layout (now rules) (outer + 1) ⌝ }
+    ensures { λ r. ⌜ Possible (now (table .entry)) (now (rules .entry)) inner outer position r ⌝ }
 {
-    let start = 120 * k;
-    let end = start + terms::wide(lens[k]);
-    &rules[start..end]
+    let l2 = slots::left(rules, outer);
+    if position >= l2.len() {
+        return false;
+    }
+    if l2[position] >= VARIABLE {
+        return false;
+    }
+    !clash::clash(slots::left(rules, inner), l2, table, position)
 }
 
-// The overlap of an inner rule with an outer rule at a position of its left side: the pair is left in left and right, renamed.
+// The overlap of an inner rule with an outer rule at a position of its left side, where one is possible: the pair, renamed, is left in the slot `pair`.
 pub fn overlap(
     rules: &[u8],
-    lens: &[u8],
     table: &[u8],
     inner: usize,
     outer: usize,
     position: usize,
-    left: &mut [u8],
-    right: &mut [u8],
+    pair: &mut [u8],
 ) -> Met
-    requires { ⌜ Layout (now table) (now rules) (now lens) (inner + 1) × Layout (now table) (now rules) (now lens) (outer + 1) ⌝ }
-    requires { ⌜ (120 ≤ length (now left)) × (120 ≤ length (now right)) ⌝ }
-    ensures { λ r. ⌜ Overlapped (now (table .entry)) (now (rules .entry)) (now (lens .entry)) inner outer position (now (left .entry)) (now (right .entry)) (now (left .exit)) (now (right .exit)) r ⌝ }
+    requires { ⌜ Layout (now rules) (inner + 1) × Layout (now rules) (outer + 1) ⌝ }
+    requires { ⌜ (position < left-length (slot (now rules) outer)) × Layout (now pair) 1 ⌝ }
+    ensures { λ r. ⌜ Overlapped (now (table .entry)) (now (rules .entry)) inner outer position (now (pair .entry)) (now (pair .exit)) r ⌝ }
 {
-    let l2 = side(rules, lens, 2 * outer);
-    if position >= l2.len() {
-        return Met::Nothing;
-    }
-    if l2[position] >= 128 {
-        return Met::Nothing;
-    }
-    let r2 = side(rules, lens, 2 * outer + 1);
+    let r2 = slots::right(rules, outer);
     if r2.len() == 0 {
         return Met::Nothing;
     }
-    let l1 = side(rules, lens, 2 * inner);
-    let r1 = side(rules, lens, 2 * inner + 1);
-    meet(l1, r1, l2, r2, table, position, left, right)
+    let l2 = slots::left(rules, outer);
+    let l1 = slots::left(rules, inner);
+    let r1 = slots::right(rules, inner);
+    meet(l1, r1, l2, r2, table, position, pair)
 }

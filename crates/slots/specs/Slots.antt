@@ -89,6 +89,12 @@ pub record OnlySlot (slots : List ℕ) (k : ℕ) (slots′ : List ℕ) : Type 0 
   pub same : length slots′ ≡ length slots
   pub others : (i : ℕ) → (i ≡ k → ⊥) → slot slots′ i ≡ slot slots i
 
+-- a slot that is lent alone keeps its mark, and what stands in it stays short
+pub record KeptSlot (one one′ : List ℕ) : Type 0 where
+  pub same : length one′ ≡ length one
+  pub mark : mark-of (slot one′ 0) ≡ mark-of (slot one 0)
+  pub layout : Layout one 1 → Layout one′ 1
+
 -- `put_sides`, `put_mark`, `put_right`
 pub record PutSides (slots : List ℕ) (k : ℕ) (left right slots′ : List ℕ) : Type 0 where
   pub only : OnlySlot slots k slots′
