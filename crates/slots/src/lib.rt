@@ -106,7 +106,7 @@ pub fn put_mark(slots: &mut [u8], k: usize, mark: &[u8])
 
 // Another right side into slot k.
 pub fn put_right(slots: &mut [u8], k: usize, right: &[u8])
-    requires { ⌜ slot-width * (k + 1) ≤ length (now slots) ⌝ }
+    requires { ⌜ Layout (now slots) (k + 1) ⌝ }
     requires { ⌜ length (now right) ≤ most-nodes ⌝ }
     ensures { λ _. ⌜ PutRight (now (slots .entry)) k (now (right .entry)) (now (slots .exit)) ⌝ }
 {

@@ -8,10 +8,11 @@ use Rattle.terms.specs.Base.{count-from, if_then_else_}
 use Rattle.terms.specs.Term.{size}
 use Rattle.rewriting.specs.Overlap.{Rule, places, places-with}
 use Rattle.rewriting.specs.Rewrite.{Paying}
+use Rattle.slots.specs.Slots.{slot, left-length}
 use Rattle.completion.specs.Turn.{Candidate}
-use Rattle.joining.specs.Joins.{ScanPart}
-use Rattle.scan.specs.declared.spots.Spot.{Spot}
-use Rattle.scan.specs.Walk.{visits, rule-at, at-place, of-rules}
+use Rattle.forms.specs.Forms.{ScanPart}
+use Rattle.scanning.specs.declared.spots.Spot.{Spot}
+use Rattle.scanning.specs.Walk.{visits, rule-at, at-place, of-rules}
 
 -- the positions from one on
 unfoldable pub at-positions : ℕ → ℕ → ℕ → List Rule → ScanPart
@@ -35,9 +36,9 @@ unfoldable pub place-rank : Spot → ℕ
 place-rank at = at .position + 256 * ((at .inner - at .outer) + 40 * (at .inner - (at .inner - at .outer)) + 2000 * (at .inner + (at .outer - at .inner)))
 
 -- `next`
-pub record Follows (lens : List ℕ) (at r : Spot) : Type 0 where
+pub record Follows (rules : List ℕ) (at r : Spot) : Type 0 where
   pub low : r .position < 256
   pub within : (count : ℕ) → at .inner < count → at .outer < count → r .outer < count → r .inner < count
   pub rises : place-rank at < place-rank r
-  pub leads : (rs : List Rule) → ((k : ℕ) → k < length rs → getD lens (2 * k) 0 ≡ size (rule-at rs k .sides .left)) → at .inner < length rs → at .outer < length rs →
+  pub leads : (rs : List Rule) → ((k : ℕ) → k < length rs → left-length (slot rules k) ≡ size (rule-at rs k .sides .left)) → at .inner < length rs → at .outer < length rs →
       (next : Paying Candidate) → to-come at rs next ≡ at-place at rs (to-come r rs next)

@@ -1,17 +1,23 @@
 -- What a walk over places or over input equations comes to, and what the functions of the scan answer. Assumes nothing.
 use mathlib.Core.Path.{_≡_}
 use mathlib.Core.List.{List, [], _∷_, map}
-use Prim.Native.Nat.{ℕ, _<_}
+use Prim.Native.Nat.{ℕ, _<_, _≤_}
 use lib.ListN.{length, getD, drop, take}
+use Rattle.terms.specs.Base.{number-bytes}
 use Rattle.terms.specs.Term.{var}
 use Rattle.problem.specs.Problem.{Equation}
 use Rattle.rewriting.specs.Overlap.{Rule, sides-of, overlap, Place, all-places}
-use Rattle.rewriting.specs.Rewrite.{end-number, goes-on, Paid, done, stop, _>>=_}
+use Rattle.rewriting.specs.Rewrite.{End, complete, neither-above, spent, too-large, rules-full, log-full, Paid, done, stop, _>>=_}
 use Rattle.completion.specs.Turn.{scanned-input, Candidate, candidates, scan-overlap, if-different-overlap, scan}
-use Rattle.redex.specs.Stored.{Stored}
-use Rattle.joining.specs.declared.Walk.{Walk}
-use Rattle.joining.specs.Joins.{ScanPart, compared, Shows, Walked, FormsRoom}
-use Rattle.scan.specs.declared.spots.Spot.{Spot}
+use Rattle.slots.specs.Slots.{slot, number-of, Layout, Stored}
+use Rattle.forms.specs.declared.Walk.{Walk}
+use Rattle.forms.specs.declared.Taken.{Taken}
+use Rattle.forms.specs.declared.Found.{Found}
+use Rattle.forms.specs.declared.Found.the-variants.{Equal, Different, Ends}
+use Rattle.rewriting.specs.declared.End.the-variants.{Spent, TooLarge}
+use Rattle.overlaps.specs.Answer.{AtSymbol}
+use Rattle.forms.specs.Forms.{ScanPart, compared, Shows, Walked, WalkRoom, walk-of}
+use Rattle.scanning.specs.declared.spots.Spot.{Spot}
 
 -- one place, places, and inputs
 unfoldable pub visit : List Rule → Place → ScanPart
@@ -28,9 +34,9 @@ visit-inputs rules [] next = next
 visit-inputs rules (c ∷ cs) next = compared rules (c .origin) (c .sides) (visit-inputs rules cs next)
 
 -- A function that walks over the part d, of whatever it is handed that is as H says.
-pub record Walks {W : Type 0} (H : W → Type 0) (d : W → ScanPart) (tab L R L′ R′ : List ℕ) (units : ℕ) (w : Walk) : Type 0 where
-  pub room : FormsRoom L R L′ R′ units w
-  pub answer : (x : W) → H x → Walked tab L′ R′ (d x) units w
+pub record Walks {W : Type 0} (H : W → Type 0) (d : W → ScanPart) (tab one one′ : List ℕ) (units : ℕ) (w : Walk) : Type 0 where
+  pub room : WalkRoom one one′ units w
+  pub answer : (x : W) → H x → Walked tab one′ (d x) units w
 
 -- a rule by its place
 abbrev pub no-rule : Rule
@@ -39,11 +45,16 @@ no-rule = record { number = 0; sides = record { left = var 0; right = var 0 } }
 abbrev pub rule-at : List Rule → ℕ → Rule
 rule-at rs k = getD rs k no-rule
 
--- the rules stand in the slots, and their numbers beside them
-pub record RulesIn (tab rules lens numbers : List ℕ) (count : ℕ) (rs : List Rule) : Type 0 where
-  pub stored : Stored tab rules lens 0 (sides-of rs)
+-- the rules stand in the slots, with their numbers in the marks
+pub record RulesIn (tab rules : List ℕ) (count : ℕ) (rs : List Rule) : Type 0 where
+  pub stored : Stored tab rules 0 (sides-of rs)
   pub counted : count ≡ length rs
-  pub numbered : (k : ℕ) → k < count → getD numbers k 0 ≡ rule-at rs k .number
+  pub numbered : (k : ℕ) → k < count → number-of (slot rules k) ≡ number-bytes 2 (rule-at rs k .number)
+
+-- and a symbol stands at the place
+pub record OverlapsAt (tab rules : List ℕ) (count : ℕ) (at : Spot) (rs : List Rule) : Type 0 where
+  pub rules-are : RulesIn tab rules count rs
+  pub symbol : AtSymbol (rule-at rs (at .outer) .sides .left) (at .position)
 
 -- the parts that the functions walk over: one place; the rules from b on
 unfoldable pub at-place : Spot → List Rule → ScanPart
@@ -60,10 +71,9 @@ pub record World : Type 0 where
 abbrev pub world-inputs : World → List Candidate
 world-inputs x = candidates scanned-input 1 (x .equations)
 
-pub record InSlots (tab rules lens : List ℕ) (count : ℕ) (bytes sizes : List ℕ) (number : ℕ) (x : World) : Type 0 where
-  pub stored : Stored tab rules lens 0 (sides-of (x .rules))
-  pub counted : count ≡ length (x .rules)
-  pub inputs : Stored tab bytes sizes 0 (map (λ c. c .sides) (world-inputs x))
+pub record InSlots (tab rules : List ℕ) (count : ℕ) (list : List ℕ) (number : ℕ) (x : World) : Type 0 where
+  pub rules-are : RulesIn tab rules count (x .rules)
+  pub inputs : Stored tab list 0 (map (λ c. c .sides) (world-inputs x))
   pub number-is : number ≡ length (x .equations)
 
 -- one input; the inputs from k on; the whole scan
@@ -82,13 +92,21 @@ rules-part x = of-rules 0 (x .rules)
 unfoldable pub of-all : World → ScanPart
 of-all x next = of-rules 0 (x .rules) (of-inputs 0 x next)
 
--- `scan`: exactly as the definition says
-abbrev pub Finds : List ℕ → List ℕ → List ℕ → Walk → Paid Candidate → Type 0
-Finds tab L R w (done c left) = (w .verdict ≡ goes-on) × (w .units ≡ left) × Shows tab L R w c
-Finds tab L R w (stop e left) = (w .verdict ≡ end-number e) × (w .units ≡ left)
+-- what a scan finds where it comes to an end: "If there is none, the end is 0, complete."
+abbrev pub StopsWith : End → Found → Type 0
+StopsWith complete f = f ≡ Equal
+StopsWith (neither-above e) f = ⊥
+StopsWith spent f = f ≡ Ends Spent
+StopsWith too-large f = f ≡ Ends TooLarge
+StopsWith rules-full f = ⊥
+StopsWith log-full f = ⊥
 
-pub record ScanIs (tab rules lens numbers : List ℕ) (count : ℕ) (bytes sizes : List ℕ) (number : ℕ) (L R L′ R′ : List ℕ) (units : ℕ) (w : Walk) : Type 0 where
-  pub room : FormsRoom L R L′ R′ units w
-  pub answer : (rs : List Rule) → RulesIn tab rules lens numbers count rs →
-      (es : List Equation) → Stored tab bytes sizes 0 (map (λ c. c .sides) (candidates scanned-input 1 es)) → number ≡ length es →
-      Finds tab L′ R′ w (scan rs (candidates scanned-input 1 es) (all-places [] rs) units)
+-- `scan`: exactly as the definition says
+abbrev pub Finds : List ℕ → Taken → Paid Candidate → Type 0
+Finds tab t (done c left) = (t .found ≡ Different) × (t .units ≡ left) × Shows tab (t .pair) c
+Finds tab t (stop e left) = StopsWith e (t .found) × (t .units ≡ left)
+
+pub record ScanIs (tab list : List ℕ) (number : ℕ) (rules : List ℕ) (count units : ℕ) (t : Taken) : Type 0 where
+  pub layout : Layout (t .pair) 1
+  pub left-over : t .units ≤ units
+  pub answer : (x : World) → InSlots tab rules count list number x → Finds tab t (scan (x .rules) (world-inputs x) (all-places [] (x .rules)) units)

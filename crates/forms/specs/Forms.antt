@@ -1,0 +1,73 @@
+-- A part of the scan, and what comparing a pair's two normal forms answers of it. Assumes nothing.
+use mathlib.Core.Path.{_≡_}
+use mathlib.Core.List.{List}
+use Prim.Native.Nat.{ℕ, _≤_}
+use lib.ListN.{length}
+use Rattle.limits.specs.Limits.{most-variables, most-apart}
+use Rattle.terms.specs.Term.{Term, Pair, term-bytes}
+use Rattle.terms.specs.Flat.{Wf}
+use Rattle.rewriting.specs.Overlap.{Rule, sides-of}
+use Rattle.rewriting.specs.Rewrite.{spent, too-large, done, stop, Paying, _>>=_, normalise, normalise-pair}
+use Rattle.rewriting.specs.declared.End.the-variants.{Spent, TooLarge}
+use Rattle.completion.specs.Turn.{Origin, Candidate, if-different}
+use Rattle.completion.specs.Calls.{origin-bytes}
+use Rattle.slots.specs.Slots.{slot, mark-of, Layout, PairAt, Stored, KeptSlot}
+use Rattle.forms.specs.declared.Walk.{Walk}
+use Rattle.forms.specs.declared.Taken.{Taken}
+use Rattle.forms.specs.declared.Found.the-variants.{Equal, Different, Ends}
+
+-- A part of the scan, before what follows it.
+abbrev pub ScanPart : Type 0
+ScanPart = Paying Candidate → Paying Candidate
+
+-- a pair's two normal forms are compared; the right one with a left one that is known
+unfoldable pub compared : List Rule → Origin → Pair → ScanPart
+compared rules origin e next = do
+  forms ← normalise-pair rules e
+  if-different origin forms next
+
+unfoldable pub compared-right : List Rule → Origin → Term → Term → ScanPart
+compared-right rules origin l t next = do
+  r ← normalise rules t
+  if-different origin (record { left = l; right = r }) next
+
+-- The pair that was found stands in a slot: its forms, and where it came from.
+pub record Shows (tab one : List ℕ) (c : Candidate) : Type 0 where
+  pub sides : PairAt most-apart tab one 0 (c .sides)
+  pub from : mark-of (slot one 0) ≡ origin-bytes (c .origin)
+
+-- What a walk over the part d answers, that began with u units and left the slot `one`.
+pub data Walked (tab one : List ℕ) (d : ScanPart) (u : ℕ) (w : Walk) : Type 0 where
+  found : (c : Candidate) → w .found ≡ Different → ((next : Paying Candidate) → d next u ≡ done c (w .units)) → Shows tab one c → Walked tab one d u w
+  short : w .found ≡ Ends Spent → ((next : Paying Candidate) → d next u ≡ stop spent (w .units)) → Walked tab one d u w
+  large : w .found ≡ Ends TooLarge → ((next : Paying Candidate) → d next u ≡ stop too-large (w .units)) → Walked tab one d u w
+  on : w .found ≡ Equal → ((next : Paying Candidate) → d next u ≡ next (w .units)) → Walked tab one d u w
+
+-- what every answer has
+pub record WalkRoom (one one′ : List ℕ) (units : ℕ) (w : Walk) : Type 0 where
+  pub kept : KeptSlot one one′
+  pub left-over : w .units ≤ units
+
+-- `join_right`: the left form is known
+pub record RightWalk (tab rules : List ℕ) (count : ℕ) (first t one one′ : List ℕ) (units : ℕ) (w : Walk) : Type 0 where
+  pub room : WalkRoom one one′ units w
+  pub answer : (rs : List Rule) → Stored tab rules 0 (sides-of rs) → count ≡ length rs →
+      (o : Origin) (l x : Term) → mark-of (slot one 0) ≡ origin-bytes o → Wf most-apart tab l → Wf most-apart tab x → first ≡ term-bytes l → t ≡ term-bytes x →
+      Walked tab one′ (compared-right rs o l x) units w
+
+-- `join`: the pair in slot k of a list
+pub record PairWalk (tab list : List ℕ) (k : ℕ) (rules : List ℕ) (count : ℕ) (one one′ : List ℕ) (units : ℕ) (w : Walk) : Type 0 where
+  pub room : WalkRoom one one′ units w
+  pub answer : (rs : List Rule) → Stored tab rules 0 (sides-of rs) → count ≡ length rs →
+      (o : Origin) (e : Pair) → mark-of (slot one 0) ≡ origin-bytes o → PairAt most-apart tab list k e → Walked tab one′ (compared rs o e) units w
+
+-- what was found and the units, without the pair
+abbrev pub walk-of : Taken → Walk
+walk-of t = record { found = t .found; units = t .units }
+
+-- `oldest`: the pair behind the live rules
+pub record OldestIs (tab pairs : List ℕ) (live units : ℕ) (t : Taken) : Type 0 where
+  pub layout : Layout (t .pair) 1
+  pub left-over : t .units ≤ units
+  pub answer : (rs : List Rule) → Stored tab pairs 0 (sides-of rs) → live ≡ length rs →
+      (o : Origin) (e : Pair) → mark-of (slot pairs live) ≡ origin-bytes o → PairAt most-variables tab pairs live e → Walked tab (t .pair) (compared rs o e) units (walk-of t)
