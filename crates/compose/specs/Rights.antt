@@ -1,50 +1,55 @@
 -- Step 7 of a turn on the rules in their slots: what the functions answer. Assumes nothing.
 use mathlib.Core.Path.{_≡_}
 use mathlib.Core.List.{List, [], _∷_, _++_, map}
-use Prim.Native.Nat.{ℕ, _+_, _≤_}
+use Prim.Native.Nat.{ℕ, _+_, _<_, _≤_}
 use lib.ListN.{length}
-use Rattle.terms.specs.Term.{Term}
+use Rattle.terms.specs.Term.{Term, Pair}
 use Rattle.rewriting.specs.Overlap.{Rule, sides-of}
-use Rattle.rewriting.specs.Rewrite.{Paid, done, stop, normalise, end-number, goes-on}
-use Rattle.redex.specs.Stored.{Layout, Stored}
+use Rattle.rewriting.specs.Rewrite.{Paid, done, stop, normalise, End, neither-above}
+use Rattle.rewriting.specs.Ends.{ending}
+use Rattle.rewriting.specs.declared.Verdict.the-variants.{GoesOn, Ends}
+use Rattle.slots.specs.Slots.{slot, mark-of, Layout, Stored}
 use Rattle.completion.specs.Turn.{normalise-rights}
-use Rattle.store.specs.Slots.{SameSlot, OnlySlot}
 use Rattle.compose.specs.declared.Composed.{Composed}
 
 -- the rule `old` stands in slot k, between the rules `before` and the rules `after`
-pub record Amid (tab rules lens : List ℕ) (k older : ℕ) (before : List Rule) (old : Rule) (after : List Rule) : Type 0 where
+pub record Amid (tab rules : List ℕ) (k count : ℕ) (before : List Rule) (old : Rule) (after : List Rule) : Type 0 where
   pub place : length before ≡ k
-  pub total : length before + length after ≡ older
-  pub stored : Stored tab rules lens 0 (sides-of (before ++ (old ∷ after)))
+  pub total : length (before ++ (old ∷ after)) ≡ count
+  pub stored : Stored tab rules 0 (sides-of (before ++ (old ∷ after)))
+
+-- marks stay, and so do the slots outside those from `a` to before `e`; each slot that was short is short
+pub record RightsOnly (a e : ℕ) (slots slots′ : List ℕ) : Type 0 where
+  pub same : length slots′ ≡ length slots
+  pub marks : (i : ℕ) → mark-of (slot slots′ i) ≡ mark-of (slot slots i)
+  pub before : (i : ℕ) → i < a → slot slots′ i ≡ slot slots i
+  pub behind : (i : ℕ) → e ≤ i → slot slots′ i ≡ slot slots i
+  pub layout : (n : ℕ) → Layout slots n → Layout slots′ n
+
+-- the end is none that holds two forms
+abbrev pub NoForms : End → Type 0
+NoForms e = (g : Pair) → e ≡ neither-above g → ⊥
 
 -- `compose_one`: that rule's right side is normalised
-abbrev pub OneIs : List ℕ → List ℕ → List ℕ → List Rule → Rule → List Rule → Composed → Paid Term → Type 0
-OneIs tab rules lens before old after o (done y left) =
-    (o .verdict ≡ goes-on) × (o .units ≡ left) × Stored tab rules lens 0 (sides-of before ++ (record { left = old .sides .left; right = y } ∷ sides-of after))
-OneIs tab rules lens before old after o (stop e left) = (o .verdict ≡ end-number e) × (o .units ≡ left)
+abbrev pub OneIs : List ℕ → List ℕ → List Rule → Rule → List Rule → Composed → Paid Term → Type 0
+OneIs tab rules before old after o (done y left) =
+    (o .verdict ≡ GoesOn) × (o .units ≡ left) × Stored tab rules 0 (sides-of before ++ (record { left = old .sides .left; right = y } ∷ sides-of after))
+OneIs tab rules before old after o (stop e left) = (o .verdict ≡ Ends (ending e)) × (o .units ≡ left) × NoForms e
 
-pub record One (tab rules lens rules′ lens′ : List ℕ) (k older units : ℕ) (o : Composed) : Type 0 where
-  pub only : OnlySlot rules lens k rules′ lens′
-  pub layout : Layout tab rules′ lens′ (older + 1)
+pub record One (tab rules rules′ : List ℕ) (k count units : ℕ) (o : Composed) : Type 0 where
+  pub only : RightsOnly k (k + 1) rules rules′
   pub left-over : o .units ≤ units
-  pub answer : (before : List Rule) (old : Rule) (after : List Rule) → Amid tab rules lens k older before old after →
-      OneIs tab rules′ lens′ before old after o (normalise (before ++ (old ∷ after)) (old .sides .right) units)
+  pub answer : (before : List Rule) (old : Rule) (after : List Rule) → Amid tab rules k count before old after →
+      OneIs tab rules′ before old after o (normalise (before ++ (old ∷ after)) (old .sides .right) units)
 
--- what no bytes break: the lengths, the slots from `older` on, and the units
-pub record OthersKept (tab rules lens rules′ lens′ : List ℕ) (older units left : ℕ) : Type 0 where
-  pub same-bytes : length rules′ ≡ length rules
-  pub same-lengths : length lens′ ≡ length lens
-  pub layout : Layout tab rules′ lens′ (older + 1)
-  pub others : (i : ℕ) → older ≤ i → SameSlot rules lens rules′ lens′ i
-  pub left-over : left ≤ units
+-- `compose`: exactly as the definition says; the newest rule stands last
+abbrev pub AllIs : List ℕ → List ℕ → List Rule → Composed → Paid (List Rule) → Type 0
+AllIs tab rules rs o (done rs′ left) =
+    (o .verdict ≡ GoesOn) × (o .units ≡ left) × Stored tab rules 0 (sides-of rs′) × (map (λ r. r .number) rs′ ≡ map (λ r. r .number) rs)
+AllIs tab rules rs o (stop e left) = (o .verdict ≡ Ends (ending e)) × (o .units ≡ left) × NoForms e
 
--- `compose`: exactly as the definition says
-abbrev pub AllIs : List ℕ → List ℕ → List ℕ → ℕ → List Rule → Composed → Paid (List Rule) → Type 0
-AllIs tab rules lens older rs o (done rs′ left) =
-    (o .verdict ≡ goes-on) × (o .units ≡ left) × Stored tab rules lens 0 (sides-of rs′) × (length rs′ ≡ older + 1) × (map (λ r. r .number) rs′ ≡ map (λ r. r .number) rs)
-AllIs tab rules lens older rs o (stop e left) = (o .verdict ≡ end-number e) × (o .units ≡ left)
-
-pub record All (tab rules lens rules′ lens′ : List ℕ) (older units : ℕ) (o : Composed) : Type 0 where
-  pub kept : OthersKept tab rules lens rules′ lens′ older units (o .units)
-  pub answer : (rs : List Rule) (new : Rule) → length rs ≡ older → Stored tab rules lens 0 (sides-of (rs ++ (new ∷ []))) →
-      AllIs tab rules′ lens′ older (rs ++ (new ∷ [])) o (normalise-rights [] rs new units)
+pub record All (tab rules rules′ : List ℕ) (count units : ℕ) (o : Composed) : Type 0 where
+  pub only : RightsOnly 0 count rules rules′
+  pub left-over : o .units ≤ units
+  pub answer : (rs : List Rule) (new : Rule) → length (rs ++ (new ∷ [])) ≡ count → Stored tab rules 0 (sides-of (rs ++ (new ∷ []))) →
+      AllIs tab rules′ (rs ++ (new ∷ [])) o (normalise-rights [] rs new units)

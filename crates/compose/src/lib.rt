@@ -1,69 +1,64 @@
 // Step 7 of a turn: the older rules' right sides, ascending, each normalised by all live rules as they then read.
 ghost use Prim.Native.Nat.{_+_, _<_};
-ghost use Rattle.redex.specs.Stored.{Layout};
+ghost use Rattle.slots.specs.Slots.{Layout};
 ghost use Rattle.compose.specs.Rights.{One, All};
+use limits::NODES;
+use normaliser::Form;
+use rewriting::End;
+use rewriting::Verdict;
 
-// Verdict GOES_ON: done; SPENT; TOO_LARGE; or another, where a slot held no term. `units` are left.
+// Whether the turn goes on, and the units left.
 pub struct Composed {
-    pub verdict: u8,
+    pub verdict: Verdict,
     pub units: u32,
 }
 
-// The right side of rule k, normalised by the first older + 1 rules.
-fn compose_one(
-    rules: &mut [u8],
-    lens: &mut [u8],
-    k: usize,
-    older: usize,
-    table: &[u8],
-    units: u32,
-) -> Composed
-    requires { ⌜ Layout (now table) (now rules) (now lens) (older + 1) ⌝ }
-    requires { ⌜ k < older ⌝ }
-    ensures { λ r. ⌜ One (now (table .entry)) (now (rules .entry)) (now (lens .entry)) (now (rules .exit)) (now (lens .exit)) k older units r ⌝ }
+// The right side of rule k, normalised by all.
+fn compose_one(rules: &mut [u8], k: usize, count: usize, table: &[u8], units: u32) -> Composed
+    requires { ⌜ Layout (now rules) count × (k < count) ⌝ }
+    ensures { λ r. ⌜ One (now (table .entry)) (now (rules .entry)) (now (rules .exit)) k count units r ⌝ }
 {
-    let mut t = [0u8; 120];
-    let n = store::get_right(rules, lens, k, &mut t);
-    let count = older + 1;
-    let r = normaliser::normalise(&mut t, n, table, rules, lens, count, units);
+    let mut t = [0u8; NODES];
+    let r = normaliser::normalise(slots::right(rules, k), table, rules, count, units, &mut t);
     let left = units - r.paid;
-    if r.verdict != rewriting::GOES_ON {
-        return Composed {
-            verdict: r.verdict,
+    let form = r.form;
+    match form {
+        Form::Normal(len) => {
+            slots::put_right(rules, k, &t[0..len]);
+            Composed {
+                verdict: Verdict::GoesOn,
+                units: left,
+            }
+        }
+        Form::Spent => Composed {
+            verdict: Verdict::Ends(End::Spent),
             units: left,
-        };
-    }
-    let len = r.len;
-    store::put_right(rules, lens, k, &t[0..len]);
-    Composed {
-        verdict: rewriting::GOES_ON,
-        units: left,
+        },
+        Form::TooLarge => Composed {
+            verdict: Verdict::Ends(End::TooLarge),
+            units: left,
+        },
     }
 }
 
-// The new rule stands in slot `older`, behind the older ones.
-pub fn compose(
-    rules: &mut [u8],
-    lens: &mut [u8],
-    older: usize,
-    table: &[u8],
-    units: u32,
-) -> Composed
-    requires { ⌜ Layout (now table) (now rules) (now lens) (older + 1) ⌝ }
-    ensures { λ r. ⌜ All (now (table .entry)) (now (rules .entry)) (now (lens .entry)) (now (rules .exit)) (now (lens .exit)) older units r ⌝ }
+// The first `count` pairs are the rules; the newest stands last.
+pub fn compose(rules: &mut [u8; slots::ROOM], count: usize, table: &[u8], units: u32) -> Composed
+    requires { ⌜ Layout (now rules) count ⌝ }
+    ensures { λ r. ⌜ All (now (table .entry)) (now (rules .entry)) (now (rules .exit)) count units r ⌝ }
 {
     let mut left = units;
     let mut k = 0;
-    while k < older {
-        let r = compose_one(rules, lens, k, older, table, left);
-        if r.verdict != rewriting::GOES_ON {
+    while k + 1 < count {
+        let r = compose_one(rules, k, count, table, left);
+        let verdict = r.verdict;
+        let Verdict::GoesOn = verdict else {
             return r;
-        }
+        };
         left = r.units;
         k += 1;
     }
     Composed {
-        verdict: rewriting::GOES_ON,
+        verdict: Verdict::GoesOn,
         units: left,
     }
 }

@@ -1,56 +1,68 @@
--- Where the sides of the input equations stand in a problem's bytes, and what is left of them in the slots. Assumes nothing.
+-- Candidates in slots; where the sides of the input equations stand in a problem's bytes, and what is left of them in the slots. Assumes nothing.
 use mathlib.Core.Path.{_≡_}
 use mathlib.Core.List.{List, _++_, map}
 use Prim.Native.Nat.{ℕ, _+_, _-_, _<_, _≤_}
 use lib.ListN.{length, drop, take}
+use Rattle.limits.specs.Limits.{most-nodes, most-variables}
+use Rattle.terms.specs.Base.{Every}
 use Rattle.terms.specs.Term.{Term, Pair, term-bytes, size, renamed}
 use Rattle.terms.specs.Flat.{Wf}
-use Rattle.terms.specs.Base.{Every}
-use Rattle.redex.specs.Stored.{Layout, RuleAt, Stored}
-use Rattle.problem.specs.Problem.{ok, due, Equation, Problem}
+use Rattle.slots.specs.Slots.{slot, mark-of, Short, PairAt, Marked, Holds, Layout, OnlySlot, numbered-bytes}
+use Rattle.slots.specs.declared.Pairs.{Pairs}
+use Rattle.problem.specs.Problem.{ok, due, Problem}
 use Rattle.problem.specs.Parser.{field-at, ParsedAt}
-use Rattle.store.specs.Slots.{OnlySlot, ShortAt}
+use Rattle.completion.specs.Turn.{waiting-input, Candidate, candidates}
+use Rattle.completion.specs.Calls.{origin-bytes}
+
+-- a candidate stands in a slot with its origin as the mark
+abbrev pub marked : Candidate → Marked
+marked c = record { mark = origin-bytes (c .origin); sides = c .sides }
+
+-- these candidates, and no more, stand in the slots
+pub record Held (tab : List ℕ) (pairs : Pairs) (cs : List Candidate) : Type 0 where
+  pub holds : Holds tab (pairs .bytes) 0 (map marked cs)
+  pub counted : pairs .count ≡ length cs
 
 -- no byte is above that of the last variable
 abbrev pub KnownBytes : List ℕ → Type 0
-KnownBytes l = Every (λ b. b < 144) l
+KnownBytes l = Every (λ b. b < 128 + most-variables) l
 
 -- the two sides of a pair stand one behind the other, each of at most 120 nodes with variables below 16
-pub record PairAt (tab l : List ℕ) (at : ℕ) (p : Pair) : Type 0 where
-  pub left-wf : Wf 16 tab (p .left)
-  pub right-wf : Wf 16 tab (p .right)
-  pub left-small : size (p .left) ≤ 120
-  pub right-small : size (p .right) ≤ 120
+pub record SidesAt (tab l : List ℕ) (at : ℕ) (p : Pair) : Type 0 where
+  pub left-wf : Wf most-variables tab (p .left)
+  pub right-wf : Wf most-variables tab (p .right)
+  pub left-small : size (p .left) ≤ most-nodes
+  pub right-small : size (p .right) ≤ most-nodes
   pub rest : List ℕ
   pub bytes : drop at l ≡ term-bytes (p .left) ++ (term-bytes (p .right) ++ rest)
 
 -- `side_end`
 pub record SideEnd (tab l : List ℕ) (at r : ℕ) : Type 0 where
   pub low : at ≤ r
-  pub high : r ≤ at + 120
+  pub high : r ≤ at + most-nodes
   pub within : r ≤ length l
   pub known : KnownBytes (take (r - at) (drop at l))
-  pub answer : (x : Term) (rest : List ℕ) → Wf 16 tab x → size x ≤ 120 → drop at l ≡ term-bytes x ++ rest → r ≡ at + size x
+  pub answer : (x : Term) (rest : List ℕ) → Wf most-variables tab x → size x ≤ most-nodes → drop at l ≡ term-bytes x ++ rest → r ≡ at + size x
 
 -- `put_sides`
-pub record PutSides (tab l : List ℕ) (at : ℕ) (bytes lens : List ℕ) (k : ℕ) (bytes′ lens′ : List ℕ) : Type 0 where
-  pub only : OnlySlot bytes lens k bytes′ lens′
-  pub short : ShortAt lens′ k
-  pub answer : (p : Pair) → PairAt tab l at p → RuleAt tab bytes′ lens′ k (renamed p)
+pub record PutsSides (tab l : List ℕ) (at : ℕ) (slots : List ℕ) (k : ℕ) (slots′ : List ℕ) : Type 0 where
+  pub only : OnlySlot slots k slots′
+  pub mark : mark-of (slot slots′ k) ≡ mark-of (slot slots k)
+  pub short : Short (slot slots′ k)
+  pub answer : (p : Pair) → SidesAt tab l at p → PairAt most-variables tab slots′ k (renamed p)
 
--- `put_equation`
-pub record PutEquation (tab l : List ℕ) (at : ℕ) (bytes lens : List ℕ) (k : ℕ) (bytes′ lens′ : List ℕ) (r : ℕ) : Type 0 where
-  pub only : OnlySlot bytes lens k bytes′ lens′
-  pub short : ShortAt lens′ k
-  pub answer : (e : ℕ) (p : Pair) → due 0x03 at (drop at l) ≡ ok (field-at 0x03 l at e) → PairAt tab l (at + 3) p → (r ≡ e) × RuleAt tab bytes′ lens′ k (renamed p)
+-- `put_equation`: the equation's number is one more than its slot's
+pub record PutsEquation (tab l : List ℕ) (at : ℕ) (slots : List ℕ) (k : ℕ) (slots′ : List ℕ) (r : ℕ) : Type 0 where
+  pub only : OnlySlot slots k slots′
+  pub mark : mark-of (slot slots′ k) ≡ numbered-bytes 1 (k + 1)
+  pub short : Short (slot slots k) → Short (slot slots′ k)
+  pub answer : (e : ℕ) (p : Pair) → due 0x03 at (drop at l) ≡ ok (field-at 0x03 l at e) → SidesAt tab l (at + 3) p → (r ≡ e) × PairAt most-variables tab slots′ k (renamed p)
 
--- "Every equation and rule held is so renamed."
-abbrev pub inputs-of : Problem → List Pair
-inputs-of P = map (λ (e : Equation). renamed (e .sides)) (P .equations)
+-- `read`: "the waiting list (at first the equations in order)"
+abbrev pub inputs-of : Problem → List Candidate
+inputs-of P = candidates waiting-input 1 (P .equations)
 
--- `fill`
-pub record Filled (l : List ℕ) (table-end count : ℕ) (bytes lens bytes′ lens′ : List ℕ) : Type 0 where
-  pub same-bytes : length bytes′ ≡ length bytes
-  pub same-lengths : length lens′ ≡ length lens
-  pub layout : Layout (take (table-end - 3) (drop 3 l)) bytes′ lens′ count
-  pub stored : (budget : ℕ) (P : Problem) → ParsedAt l table-end budget count P → Stored (take (table-end - 3) (drop 3 l)) bytes′ lens′ 0 (inputs-of P)
+pub record InputsRead (l : List ℕ) (table-end count : ℕ) (r : Pairs) : Type 0 where
+  pub layout : Layout (r .bytes) (r .count)
+  pub counted : r .count ≡ count
+  pub held : (budget : ℕ) (P : Problem) → ParsedAt l table-end budget count P → Held (take (table-end - 3) (drop 3 l)) r (inputs-of P)

@@ -1,9 +1,22 @@
-// The input equations of a problem, each renamed as a pair, in slots.
-ghost use Prim.Native.Nat.{_+_, _*_, _≤_};
-ghost use lib.ListN.{length, drop, take};
-ghost use Rattle.naming.specs.Names.{renamed-bytes};
-ghost use Rattle.store.specs.Slots.{SlotRoom, SlotHolds, OnlySlot};
-ghost use Rattle.inputs.specs.Inputs.{KnownBytes, SideEnd, PutSides, PutEquation, Filled};
+// The input equations of a problem, each renamed as a pair, in slots, marked as they wait at first.
+ghost use Prim.Native.Nat.{_+_, _*_, _<_, _≤_};
+ghost use lib.ListN.{length};
+ghost use Rattle.limits.specs.Limits.{most-equations};
+ghost use Rattle.slots.specs.Slots.{slot-width};
+ghost use Rattle.inputs.specs.Inputs.{SideEnd, PutsSides, PutsEquation, InputsRead};
+use limits::FIELD_HEAD;
+use limits::NODES;
+use slots::Pairs;
+use slots::origins;
+
+// The byte of the last variable.
+const LAST_VARIABLE: u8 = 143;
+
+// The tag of an equation's field.
+const EQUATION: u8 = 3;
+
+// The bytes of the budget field, which stands between the symbols and the equations.
+const BUDGET_FIELD: usize = FIELD_HEAD + 4;
 
 // The end of the side that starts at `at`; at the latest it ends before a byte above the last variable's, and after 120 bytes.
 fn side_end(problem: &[u8], table: &[u8], at: usize) -> usize
@@ -13,10 +26,10 @@ fn side_end(problem: &[u8], table: &[u8], at: usize) -> usize
     let e = terms::term_end(problem, table, at);
     let mut i = at;
     while i < e {
-        if i - at >= 120 {
+        if i - at >= NODES {
             return i;
         }
-        if problem[i] > 143 {
+        if problem[i] > LAST_VARIABLE {
             return i;
         }
         i += 1;
@@ -24,67 +37,54 @@ fn side_end(problem: &[u8], table: &[u8], at: usize) -> usize
     i
 }
 
-// Two sides, the left one of m bytes, renamed together, into slot k.
-fn put_renamed(sides: &[u8], m: usize, bytes: &mut [u8], lens: &mut [u8], k: usize)
-    requires { ⌜ SlotRoom (now bytes) (now lens) k ⌝ }
-    requires { ⌜ (m ≤ length (now sides)) × (m ≤ 120) × (length (now sides) ≤ m + 120) × KnownBytes (now sides) ⌝ }
-    ensures { λ _. ⌜ SlotHolds (now (bytes .exit)) (now (lens .exit)) k (take m (renamed-bytes (now (sides .entry)))) (drop m (renamed-bytes (now (sides .entry)))) ⌝ }
-    ensures { λ _. ⌜ OnlySlot (now (bytes .entry)) (now (lens .entry)) k (now (bytes .exit)) (now (lens .exit)) ⌝ }
-{
-    let n = sides.len();
-    let mut held = [0u8; 240];
-    bytes::copy(sides, &mut held);
-    naming::rename_front(&mut held, n);
-    store::put_parts(bytes, lens, k, &held, m, n);
-}
-
-// The two sides that start at `at`, into slot k.
-fn put_sides(problem: &[u8], table: &[u8], at: usize, bytes: &mut [u8], lens: &mut [u8], k: usize)
-    requires { ⌜ SlotRoom (now bytes) (now lens) k ⌝ }
+// The two sides that start at `at`, renamed together, into slot k.
+fn put_sides(problem: &[u8], table: &[u8], at: usize, slots: &mut [u8], k: usize)
+    requires { ⌜ slot-width * (k + 1) ≤ length (now slots) ⌝ }
     requires { ⌜ (at ≤ length (now problem)) × (length (now problem) ≤ 65536) ⌝ }
-    ensures { λ _. ⌜ PutSides (now (table .entry)) (now (problem .entry)) at (now (bytes .entry)) (now (lens .entry)) k (now (bytes .exit)) (now (lens .exit)) ⌝ }
+    ensures { λ _. ⌜ PutsSides (now (table .entry)) (now (problem .entry)) at (now (slots .entry)) k (now (slots .exit)) ⌝ }
 {
     let m = side_end(problem, table, at);
     let e = side_end(problem, table, m);
-    put_renamed(&problem[at..e], m - at, bytes, lens, k);
+    let mut held = [0u8; limits::PAIR];
+    bytes::copy(&problem[at..e], &mut held);
+    naming::rename_front(&mut held, e - at);
+    let n = m - at;
+    let end = e - at;
+    slots::put_sides(slots, k, &held[0..n], &held[n..end]);
 }
 
-// The equation field at `at`, into slot k: the place behind it. Where there is none, the slot is empty.
-fn put_equation(
-    problem: &[u8],
-    table: &[u8],
-    at: usize,
-    bytes: &mut [u8],
-    lens: &mut [u8],
-    k: usize,
-) -> usize
-    requires { ⌜ SlotRoom (now bytes) (now lens) k ⌝ }
+// The equation field at `at`, into slot k: the place behind it. Where there is none, the slot keeps its sides.
+fn put_equation(problem: &[u8], table: &[u8], at: usize, slots: &mut [u8], k: usize) -> usize
+    requires { ⌜ (slot-width * (k + 1) ≤ length (now slots)) × (k < most-equations) ⌝ }
     requires { ⌜ length (now problem) ≤ 65536 ⌝ }
-    ensures { λ r. ⌜ PutEquation (now (table .entry)) (now (problem .entry)) at (now (bytes .entry)) (now (lens .entry)) k (now (bytes .exit)) (now (lens .exit)) r ⌝ }
+    ensures { λ r. ⌜ PutsEquation (now (table .entry)) (now (problem .entry)) at (now (slots .entry)) k (now (slots .exit)) r ⌝ }
 {
-    match problem::due(problem, at, 3) {
+    let mark = origins::numbered(origins::WAITING_INPUT, (k + 1) as u16);
+    slots::put_mark(slots, k, &mark);
+    match problem::due(problem, at, EQUATION) {
         problem::Read::Refused {
             number: _,
             place: _,
-        } => {
-            store::put(bytes, lens, k, &problem[0..0], &problem[0..0]);
-            at
-        }
+        } => at,
         problem::Read::Value(e) => {
-            put_sides(problem, table, at + 3, bytes, lens, k);
+            put_sides(problem, table, at + FIELD_HEAD, slots, k);
             e
         }
     }
 }
 
-// The problem's equations, each renamed, in slots 0 .. count - 1. The table ends at `table_end`, and the equation fields start behind the budget field.
-pub fn fill(problem: &[u8], table_end: usize, count: usize, bytes: &mut [u8], lens: &mut [u8])
-    requires { ⌜ (3 ≤ «table_end») × («table_end» ≤ length (now problem)) × (length (now problem) ≤ 65536) ⌝ }
-    requires { ⌜ (240 * count ≤ length (now bytes)) × (2 * count ≤ length (now lens)) × (count ≤ 33) ⌝ }
-    ensures { λ _. ⌜ Filled (now (problem .entry)) «table_end» count (now (bytes .entry)) (now (lens .entry)) (now (bytes .exit)) (now (lens .exit)) ⌝ }
+// The problem's equations. The table ends at `table_end`, and the equation fields start behind the budget field.
+pub fn read(problem: &[u8], table_end: usize, count: usize) -> Pairs
+    requires { ⌜ (3 ≤ «table_end») × («table_end» ≤ length (now problem)) × (length (now problem) ≤ 65536) × (count ≤ most-equations) ⌝ }
+    ensures { λ r. ⌜ InputsRead (now (problem .entry)) «table_end» count r ⌝ }
 {
-    let mut i = table_end + 7;
+    let mut slots = [0u8; slots::ROOM];
+    let mut i = table_end + BUDGET_FIELD;
     for k in 0..count {
-        i = put_equation(problem, &problem[3..table_end], i, bytes, lens, k);
+        i = put_equation(problem, &problem[FIELD_HEAD..table_end], i, &mut slots, k);
+    }
+    Pairs {
+        bytes: slots,
+        count: count,
     }
 }

@@ -1,2 +1,2 @@
 pub mod Seen
-pub mod Oriented
+pub mod Orients

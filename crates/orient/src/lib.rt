@@ -2,9 +2,17 @@
 ghost use mathlib.Core.List.{[], _∷_, _++_, List·Memᴰ};
 ghost use Prim.Native.Nat.{ℕ, _<_, _≤_};
 ghost use lib.ListN.{length};
-ghost use Rattle.store.specs.Slots.{SlotRoom};
-ghost use Rattle.orient.specs.Oriented.{PutRenamed, RulePlaced};
+ghost use Rattle.limits.specs.Limits.{most-nodes};
+ghost use Rattle.slots.specs.Slots.{Layout};
+ghost use Rattle.orient.specs.Orients.{IsUpper, Placed, RuleOf};
 ghost use Rattle.orient.specs.Seen.{Seen, Counted};
+use rewriting::End;
+use rewriting::Verdict;
+use slots::SLOT;
+use slots::origins;
+
+// "The taken pair has at most 16 different variables."
+const MOST_VARIABLES: u32 = limits::VARIABLES as u32;
 
 // A variable is a bit of the set; a byte above all variables fills it.
 fn with_byte(seen: u32, b: u8) -> u32
@@ -40,44 +48,72 @@ pub fn variable_count(left: &[u8], right: &[u8]) -> u32
     u32::count_ones(seen)
 }
 
-// The pair, renamed, into slot k.
-fn put_renamed(left: &[u8], right: &[u8], rules: &mut [u8], lens: &mut [u8], k: usize)
-    requires { ⌜ SlotRoom (now rules) (now lens) k ⌝ }
-    requires { ⌜ (length (now left) ≤ 120) × (length (now right) ≤ 120) × ((b : ℕ) → List·Memᴰ b (now left ++ now right) → b < 160) ⌝ }
-    ensures { λ _. ⌜ PutRenamed (now (left .entry)) (now (right .entry)) (now (rules .entry)) (now (lens .entry)) k (now (rules .exit)) (now (lens .exit)) ⌝ }
+// Which side of a taken pair is above, or how the turn ends.
+pub enum Above {
+    Left,
+    Right,
+    Ends(End),
+}
+
+fn upper(left: &[u8], right: &[u8], table: &[u8]) -> Above
+    requires { ⌜ (length (now left) ≤ most-nodes) × (length (now right) ≤ most-nodes) ⌝ }
+    ensures { λ r. ⌜ IsUpper (now (table .entry)) (now (left .entry)) (now (right .entry)) r ⌝ }
+{
+    if variable_count(left, right) > MOST_VARIABLES {
+        return Above::Ends(End::TooLarge);
+    }
+    if order::above(left, right, table) {
+        return Above::Left;
+    }
+    if order::above(right, left, table) {
+        return Above::Right;
+    }
+    Above::Ends(End::NeitherAbove)
+}
+
+// The rule from one term to another, renamed, with its number, in a slot.
+fn placed(left: &[u8], right: &[u8], number: u16) -> [u8; SLOT]
+    requires { ⌜ (length (now left) ≤ most-nodes) × (length (now right) ≤ most-nodes) × ((b : ℕ) → List·Memᴰ b (now left ++ now right) → b < 160) ⌝ }
+    ensures { λ r. ⌜ Placed (now (left .entry)) (now (right .entry)) number r ⌝ }
 {
     let n = left.len();
     let e = n + right.len();
-    let mut out = [0u8; 240];
-    store::paste(&mut out, 0, left);
-    store::paste(&mut out, n, right);
+    let mut out = [0u8; limits::PAIR];
+    fields::paste(&mut out, 0, left);
+    fields::paste(&mut out, n, right);
     naming::rename_front(&mut out, e);
-    store::put_parts(rules, lens, k, &out, n, e);
+    let mut one = [0u8; SLOT];
+    slots::put_sides(&mut one, 0, &out[0..n], &out[n..e]);
+    let mark = origins::numbered(origins::REMOVED_RULE, number);
+    slots::put_mark(&mut one, 0, &mark);
+    one
 }
 
-// The new rule of a taken pair into slot k: GOES_ON, or the number of the end.
-pub fn place(
-    left: &[u8],
-    right: &[u8],
-    table: &[u8],
-    rules: &mut [u8],
-    lens: &mut [u8],
-    k: usize,
-) -> u8
-    requires { ⌜ SlotRoom (now rules) (now lens) k ⌝ }
-    requires { ⌜ (length (now left) ≤ 120) × (length (now right) ≤ 120) ⌝ }
-    ensures { λ r. ⌜ RulePlaced (now (table .entry)) (now (left .entry)) (now (right .entry)) (now (rules .entry)) (now (lens .entry)) k r (now (rules .exit)) (now (lens .exit)) ⌝ }
+// The new rule in a slot, where the turn goes on.
+pub struct Oriented {
+    pub rule: [u8; SLOT],
+    pub verdict: Verdict,
+}
+
+// The rule that the pair in a slot becomes, with its number.
+pub fn rule_of(pair: &[u8], table: &[u8], number: u16) -> Oriented
+    requires { ⌜ Layout (now pair) 1 ⌝ }
+    ensures { λ r. ⌜ RuleOf (now (table .entry)) (now (pair .entry)) number r ⌝ }
 {
-    if variable_count(left, right) > 16 {
-        return rewriting::TOO_LARGE;
+    let left = slots::left(pair, 0);
+    let right = slots::right(pair, 0);
+    match upper(left, right, table) {
+        Above::Left => Oriented {
+            rule: placed(left, right, number),
+            verdict: Verdict::GoesOn,
+        },
+        Above::Right => Oriented {
+            rule: placed(right, left, number),
+            verdict: Verdict::GoesOn,
+        },
+        Above::Ends(end) => Oriented {
+            rule: [0u8; SLOT],
+            verdict: Verdict::Ends(end),
+        },
     }
-    if order::above(left, right, table) {
-        put_renamed(left, right, rules, lens, k);
-        return rewriting::GOES_ON;
-    }
-    if order::above(right, left, table) {
-        put_renamed(right, left, rules, lens, k);
-        return rewriting::GOES_ON;
-    }
-    rewriting::NEITHER_ABOVE
 }

@@ -1,0 +1,57 @@
+-- The run's state: what its values are held to, and which state of the definition it stands for. Assumes nothing.
+use mathlib.Core.Path.{_≡_}
+use mathlib.Core.List.{List, _++_, map, flatMap}
+use Prim.Native.Nat.{ℕ, _+_, _*_, _≤_}
+use lib.ListN.{length, take}
+use Rattle.limits.specs.Limits.{most-rules, most-pairs, most-entries, origin-width}
+use Rattle.terms.specs.Base.{number-bytes}
+use Rattle.rewriting.specs.Overlap.{Rule}
+use Rattle.slots.specs.Slots.{Layout}
+use Rattle.completion.specs.Turn.{removed-rule, Candidate, Entry, State as RunState}
+use Rattle.completion.specs.Calls.{origin-bytes}
+use Rattle.inputs.specs.Inputs.{Held}
+use Rattle.state.specs.declared.State.{State}
+use Rattle.state.specs.declared.Log.{Log}
+
+-- an entry in the log, the contents of its field 13: an origin, and the number of the rule made. 8 bytes
+abbrev pub logged-width : ℕ
+logged-width = origin-width + 2
+
+unfoldable pub logged : Entry → List ℕ
+logged e = origin-bytes (e .origin) ++ number-bytes 2 (e .made)
+
+-- the entries es, and no more, stand in the log, oldest first
+pub record Logged (log : Log) (es : List Entry) : Type 0 where
+  pub bytes : take (logged-width * (log .count)) (log .bytes) ≡ flatMap logged es
+  pub counted : log .count ≡ length es
+
+-- a live rule stands in its slot as the candidate that it is once it is removed
+unfoldable pub as-removed : Rule → Candidate
+as-removed r = record { origin = removed-rule (r .number); sides = r .sides }
+
+-- the rules, then what waits
+abbrev pub held : List Rule → List Candidate → List Candidate
+held rules waiting = map as-removed rules ++ waiting
+
+-- What no bytes break: the counts, the lengths and the room. Between a new rule and its entry one rule more may be live, and the log is one behind.
+pub record FineBut (behind : ℕ) (st : State) : Type 0 where
+  pub layout : Layout (st .pairs .bytes) (st .pairs .count)
+  pub within : st .live ≤ st .pairs .count
+  pub together : st .pairs .count ≤ most-pairs
+  pub live-few : st .live ≤ most-rules + behind
+  pub log-few : st .log .count ≤ most-entries
+  pub made-few : st .made ≤ st .log .count + behind
+
+abbrev pub Fine : State → Type 0
+Fine st = FineBut 0 st
+
+-- The state stands for the definition's state s, over the table tab.
+pub record Represents (tab : List ℕ) (st : State) (s : RunState) : Type 0 where
+  pub pairs : Held tab (st .pairs) (held (s .rules) (s .waiting))
+  pub live : st .live ≡ length (s .rules)
+  pub made : st .made ≡ s .made
+  pub log : Logged (st .log) (s .log)
+
+-- the state with other units
+abbrev pub with-units : State → ℕ → State
+with-units st u = record { pairs = st .pairs; live = st .live; made = st .made; log = st .log; units = u }

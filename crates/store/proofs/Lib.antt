@@ -1,3 +1,0 @@
-pub mod Patching
-pub mod Slotting
-pub mod Listing
