@@ -3,60 +3,73 @@ ghost use mathlib.Core.Path.{_≡_};
 ghost use mathlib.Core.List.{[], _++_, flatMap};
 ghost use Prim.Native.Nat.{_+_, _*_, _<_, _≤_};
 ghost use lib.ListN.{length};
+ghost use Rattle.limits.specs.Limits.{most-nodes, rule-width, entry-width, forms-width, most-result};
 ghost use Rattle.terms.specs.Base.{field-bytes};
-ghost use Rattle.redex.specs.Stored.{Layout};
 ghost use Rattle.naming.specs.Names.{collect, renamed-bytes};
 ghost use Rattle.fields.specs.Puts.{Puts, PutsSome, tagged};
-ghost use Rattle.report.specs.Fields.{Lent, slot-field, slot-fields, low, forms-bytes};
-ghost use Rattle.report.specs.Report.{Reports, OfState};
+ghost use Rattle.slots.specs.Slots.{Layout};
+ghost use Rattle.state.specs.Run.{logged-width, Fine};
+ghost use Rattle.report.specs.Fields.{slot-field, slot-fields, logged-fields, low, forms-bytes, forms-if};
+ghost use Rattle.report.specs.Report.{Reports};
+use rewriting::End;
+use run::Ran;
 
-// The tags of the result's fields. Those of the log, 0x13, stand in the log.
+// The tags of the result's fields.
 const END: u8 = 0x10;
 
 const UNITS: u8 = 0x11;
 
 const RULE: u8 = 0x12;
 
+const ENTRY: u8 = 0x13;
+
 const FORMS: u8 = 0x14;
 
+// The first byte above those of the variables of two rules set apart.
+const NO_VARIABLE: u8 = 160;
+
 // Field 12 of the rule in slot k.
-fn put_rule(
-    out: &mut [u8],
-    at: usize,
-    rules: &[u8],
-    lens: &[u8],
-    numbers: &[u16],
-    k: usize,
-) -> usize
-    requires { ⌜ at + 245 ≤ length (now out) ⌝ }
-    requires { ⌜ Layout [] (now rules) (now lens) (k + 1) × (k < length (now numbers)) ⌝ }
-    ensures { λ r. ⌜ PutsSome 245 (now (out .entry)) at 1 (field-bytes (slot-field (now (rules .entry)) (now (lens .entry)) (now (numbers .entry)) k)) (now (out .exit)) r ⌝ }
+fn put_rule(out: &mut [u8], at: usize, rules: &[u8], k: usize) -> usize
+    requires { ⌜ at + rule-width ≤ length (now out) ⌝ }
+    requires { ⌜ Layout (now rules) (k + 1) ⌝ }
+    ensures { λ r. ⌜ PutsSome rule-width (now (out .entry)) at 1 (field-bytes (slot-field (now (rules .entry)) k)) (now (out .exit)) r ⌝ }
 {
-    let n = terms::wide(lens[2 * k]);
-    let m = terms::wide(lens[2 * k + 1]);
-    let a = fields::put_head(out, at, RULE, 2 + n + m);
-    let b = fields::put_number(out, a, 2, numbers[k] as u32);
-    let c = fields::put_part(out, b, rules, 240 * k, n);
-    fields::put_part(out, c, rules, 240 * k + 120, m)
+    let left = slots::left(rules, k);
+    let right = slots::right(rules, k);
+    let number = slots::number(rules, k);
+    let a = fields::put_head(out, at, RULE, 2 + left.len() + right.len());
+    fields::paste(out, a, &number);
+    fields::paste(out, a + 2, left);
+    fields::paste(out, a + 2 + left.len(), right);
+    a + 2 + left.len() + right.len()
 }
 
 // Field 12, once a rule.
-fn put_rules(
-    out: &mut [u8],
-    at: usize,
-    rules: &[u8],
-    lens: &[u8],
-    numbers: &[u16],
-    count: usize,
-) -> usize
-    requires { ⌜ at + 245 * count ≤ length (now out) ⌝ }
-    requires { ⌜ Layout [] (now rules) (now lens) count × (count ≤ length (now numbers)) ⌝ }
-    ensures { λ r. ⌜ PutsSome 245 (now (out .entry)) at count (flatMap field-bytes (slot-fields (now (rules .entry)) (now (lens .entry)) (now (numbers .entry)) 0 count)) (now (out .exit)) r ⌝ }
+fn put_rules(out: &mut [u8], at: usize, rules: &[u8], count: usize) -> usize
+    requires { ⌜ at + rule-width * count ≤ length (now out) ⌝ }
+    requires { ⌜ Layout (now rules) count ⌝ }
+    ensures { λ r. ⌜ PutsSome rule-width (now (out .entry)) at count (flatMap field-bytes (slot-fields (now (rules .entry)) 0 count)) (now (out .exit)) r ⌝ }
 {
     let mut i = 0;
     let mut a = at;
     while i < count {
-        a = put_rule(out, a, rules, lens, numbers, i);
+        a = put_rule(out, a, rules, i);
+        i += 1;
+    }
+    a
+}
+
+// Field 13, once an entry.
+fn put_log(out: &mut [u8], at: usize, log: &[u8], count: usize) -> usize
+    requires { ⌜ at + entry-width * count ≤ length (now out) ⌝ }
+    requires { ⌜ logged-width * count ≤ length (now log) ⌝ }
+    ensures { λ r. ⌜ PutsSome entry-width (now (out .entry)) at count (flatMap field-bytes (logged-fields (now (log .entry)) 0 count)) (now (out .exit)) r ⌝ }
+{
+    let mut i = 0;
+    let mut a = at;
+    while i < count {
+        let e = state::ENTRY * i;
+        a = fields::put_field(out, a, ENTRY, &log[e..e + state::ENTRY]);
         i += 1;
     }
     a
@@ -64,15 +77,15 @@ fn put_rules(
 
 // Field 14: two terms, renamed as a pair.
 fn put_forms(out: &mut [u8], at: usize, left: &[u8], right: &[u8]) -> usize
-    requires { ⌜ (at + 243 ≤ length (now out)) × (length (now left) ≤ 120) × (length (now right) ≤ 120) ⌝ }
+    requires { ⌜ (at + forms-width ≤ length (now out)) × (length (now left) ≤ most-nodes) × (length (now right) ≤ most-nodes) ⌝ }
     requires { ⌜ length (collect [] (now left ++ now right)) ≤ 127 ⌝ }
     ensures { λ r. ⌜ Puts (now (out .entry)) at (3 + (length (now (left .entry)) + length (now (right .entry)))) (field-bytes (tagged 0x14 (renamed-bytes (now (left .entry) ++ now (right .entry))))) (now (out .exit)) r ⌝ }
 {
-    let mut pair = [0u8; 240];
+    let mut pair = [0u8; limits::PAIR];
     let n = left.len();
     let e = n + right.len();
-    store::paste(&mut pair, 0, left);
-    store::paste(&mut pair, n, right);
+    fields::paste(&mut pair, 0, left);
+    fields::paste(&mut pair, n, right);
     naming::rename_front(&mut pair, e);
     fields::put_field(out, at, FORMS, &pair[0..e])
 }
@@ -83,7 +96,7 @@ fn low(t: &[u8]) -> bool
 {
     let mut i = 0;
     while i < t.len() {
-        if t[i] >= 160 {
+        if t[i] >= NO_VARIABLE {
             return false;
         }
         i += 1;
@@ -92,13 +105,15 @@ fn low(t: &[u8]) -> bool
 }
 
 // Field 14, only with end 20.
-fn put_forms_if(out: &mut [u8], at: usize, end: u8, left: &[u8], right: &[u8]) -> usize
-    requires { ⌜ (at + 243 ≤ length (now out)) × (length (now left) ≤ 120) × (length (now right) ≤ 120) ⌝ }
-    ensures { λ r. ⌜ PutsSome 243 (now (out .entry)) at 1 (forms-bytes end (now (left .entry)) (now (right .entry))) (now (out .exit)) r ⌝ }
+fn put_forms_if(out: &mut [u8], at: usize, end: End, pair: &[u8]) -> usize
+    requires { ⌜ (at + forms-width ≤ length (now out)) × Layout (now pair) 1 ⌝ }
+    ensures { λ r. ⌜ PutsSome forms-width (now (out .entry)) at 1 (forms-if end (now (pair .entry))) (now (out .exit)) r ⌝ }
 {
-    if end != rewriting::NEITHER_ABOVE {
+    let End::NeitherAbove = end else {
         return at;
-    }
+    };
+    let left = slots::left(pair, 0);
+    let right = slots::right(pair, 0);
     if !low(left) {
         return at;
     }
@@ -108,60 +123,19 @@ fn put_forms_if(out: &mut [u8], at: usize, end: u8, left: &[u8], right: &[u8]) -
     put_forms(out, at, left, right)
 }
 
-// The result of a run whose rules, log, end, units and, with end 20, two normal forms are these: its bytes at the front, and their count.
-pub fn report(
-    out: &mut [u8],
-    end: u8,
-    units: u32,
-    rules: &[u8],
-    lens: &[u8],
-    numbers: &[u16],
-    count: usize,
-    log: &[u8],
-    entries: usize,
-    left: &[u8],
-    right: &[u8],
-) -> usize
-    requires { ⌜ 13726 ≤ length (now out) ⌝ }
-    requires { ⌜ Lent (now rules) (now lens) (now numbers) count (now log) entries (now left) (now right) ⌝ }
-    ensures { λ r. ⌜ Reports end units (now (rules .entry)) (now (lens .entry)) (now (numbers .entry)) count (now (log .entry)) entries (now (left .entry)) (now (right .entry)) (now (out .entry)) (now (out .exit)) r ⌝ }
+// The result of a run: its bytes at the front, and their count.
+pub fn report(ran: Ran, out: &mut [u8]) -> usize
+    requires { ⌜ most-result ≤ length (now out) ⌝ }
+    requires { ⌜ Fine (ran .state) × Layout (ran .pair) 1 ⌝ }
+    ensures { λ r. ⌜ Reports ran (now (out .entry)) (now (out .exit)) r ⌝ }
 {
-    let a = fields::put_number_field(out, 0, END, 1, end as u32);
-    let b = fields::put_number_field(out, a, UNITS, 4, units);
-    let c = put_rules(out, b, rules, lens, numbers, count);
-    let d = fields::put_part(out, c, log, 0, 11 * entries);
-    put_forms_if(out, d, end, left, right)
-}
-
-// The same from the run's last state, whose rules and log lie in the lent buffers.
-pub fn of_state(
-    state: engine::State,
-    rules: &[u8],
-    log: &[u8],
-    end: u8,
-    units: u32,
-    left: &[u8],
-    right: &[u8],
-    out: &mut [u8],
-) -> usize
-    requires { ⌜ 13726 ≤ length (now out) ⌝ }
-    requires { ⌜ Layout [] (now rules) (state .lens) (state .count) × (state .count ≤ 32) × (state .entries ≤ 512) × (length (now log) ≡ 5632) ⌝ }
-    requires { ⌜ (length (now left) ≤ 120) × (length (now right) ≤ 120) ⌝ }
-    ensures { λ r. ⌜ OfState state (now (rules .entry)) (now (log .entry)) end units (now (left .entry)) (now (right .entry)) (now (out .entry)) (now (out .exit)) r ⌝ }
-{
-    let lens = state.lens;
-    let numbers = state.numbers;
-    report(
-        out,
-        end,
-        units,
-        rules,
-        &lens,
-        &numbers,
-        state.count,
-        log,
-        state.entries,
-        left,
-        right,
-    )
+    let end = ran.end;
+    let a = fields::put_number_field(out, 0, END, 1, rewriting::number(end) as u32);
+    let b = fields::put_number_field(out, a, UNITS, 4, ran.paid);
+    let live = ran.state.live;
+    let c = put_rules(out, b, &ran.state.pairs.bytes, live);
+    let entries = ran.state.log.count;
+    let d = put_log(out, c, &ran.state.log.bytes, entries);
+    let pair = ran.pair;
+    put_forms_if(out, d, end, &pair)
 }

@@ -6,7 +6,7 @@ ghost use mathlib.Core.Path.{_≡_};
 ghost use Prim.Native.Nat.{_+_, _*_, _<_, _≤_};
 ghost use lib.ListN.{length, getD};
 ghost use Rattle.limits.specs.Limits.{most-nodes, origin-width};
-ghost use Rattle.slots.specs.Slots.{left-at, slot-width, slot, mark-of, left-length, left-of, right-of, Layout, PutSides, PutMark, PutRight, Removed, Inserted, MovedLast};
+ghost use Rattle.slots.specs.Slots.{left-at, slot-width, slot, mark-of, number-of, left-length, left-of, right-of, Layout, PutSides, PutMark, PutRight, Removed, Inserted, MovedLast};
 use limits::NODES;
 
 const LEFT_LENGTH: usize = limits::ORIGIN;
@@ -81,6 +81,15 @@ pub fn mark(slots: &[u8], k: usize) -> [u8; limits::ORIGIN]
         slots[a + 4],
         slots[a + 5],
     ]
+}
+
+// The two bytes of the first number of pair k's mark: of a rule, its number.
+pub fn number(slots: &[u8], k: usize) -> [u8; 2]
+    requires { ⌜ slot-width * (k + 1) ≤ length (now slots) ⌝ }
+    ensures { λ r. ⌜ r ≡ number-of (slot (now (slots .entry)) k) ⌝ }
+{
+    let a = SLOT * k + origins::FIRST;
+    [slots[a], slots[a + 1]]
 }
 
 // A pair's sides into slot k.

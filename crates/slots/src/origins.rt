@@ -15,7 +15,7 @@ pub const SCANNED_INPUT: u8 = 3;
 const OVERLAPPING: u8 = 4;
 
 // The first number of a mark stands behind its kind.
-const FIRST: usize = 1;
+pub const FIRST: usize = 1;
 
 // An origin with one number: the kind in one byte, the number in two, and zeros.
 pub fn numbered(kind: u8, n: u16) -> [u8; limits::ORIGIN]

@@ -1,51 +1,123 @@
--- What a turn answers: the next state, or a stop, with 20 the two forms in the lent buffers. Assumes nothing.
+-- What a turn answers, by cases on what the definition comes to: the next state, or an end and the state as at the turn's beginning. Assumes nothing.
 use mathlib.Core.Path.{_≡_}
-use mathlib.Core.List.{List, map}
-use Prim.Native.Nat.{ℕ, suc}
-use lib.ListN.{length, take}
-use Rattle.terms.specs.Term.{Pair, renamed}
+use mathlib.Core.Bool.{Bool, true, false}
+use mathlib.Core.List.{List, [], _∷_, map}
+use Prim.Native.Nat.{ℕ, _+_, _<_, _≤_}
+use lib.Dec.{leb}
+use lib.ListN.{length}
+use Rattle.limits.specs.Limits.{most-apart, most-entries}
+use Rattle.terms.specs.Base.{if_then_else_}
+use Rattle.terms.specs.Term.{Pair, same}
 use Rattle.order.specs.Walk.{rank}
+use Rattle.rewriting.specs.Overlap.{Rule}
+use Rattle.rewriting.specs.Rewrite.{End, complete, neither-above, spent, too-large, rules-full, log-full, Paid, done, stop}
+use Rattle.rewriting.specs.Ends.{ending}
+use Rattle.rewriting.specs.declared.End.{End as Ending}
+use Rattle.rewriting.specs.declared.End.the-variants.{Complete, Spent, TooLarge, LogFull}
+use Rattle.rewriting.specs.declared.Verdict.{Verdict}
+use Rattle.rewriting.specs.declared.Verdict.the-variants.{GoesOn, Ends}
 use Rattle.problem.specs.Problem.{rank-of, Problem}
-use Rattle.rewriting.specs.Rewrite.{Paid, goes-on}
-use Rattle.redex.specs.Stored.{Sides, Stored}
-use Rattle.completion.specs.Turn.{State as RunState, turn}
-use Rattle.engine.specs.State.{Whole, Represents}
-use Rattle.making.specs.Made.{Outcome, RulesKept, TurnSafe, TurnWith}
-
--- the two forms that stand in the buffers
-abbrev pub Shown : List ℕ → List ℕ → List ℕ → ℕ → ℕ → Pair → Type 0
-Shown tab L R m n e = Sides 32 tab (take m L) (take n R) e
-
--- they stand in the buffers
-abbrev pub TurnedIs : List ℕ → RunState → List ℕ → List ℕ → Outcome → Paid RunState → Type 0
-TurnedIs tab s L R o p = TurnWith (λ g. Shown tab L R (o .m) (o .n) g) tab s o p
-
-pub record Buffers (L R L′ R′ : List ℕ) : Type 0 where
-  pub left-kept : length L′ ≡ length L
-  pub right-kept : length R′ ≡ length R
-
--- `turn_waiting`
-pub record WaitingTurn (st : Whole) (tab L R L′ R′ : List ℕ) (u : ℕ) (o : Outcome) : Type 0 where
-  pub safe : TurnSafe (st .entries) o
-  pub stays : (o .verdict ≡ goes-on → ⊥) → RulesKept st (o .state)
-  pub buffers : Buffers L R L′ R′
-  pub answer : (P : Problem) → rank-of (P .symbols) ≡ rank tab → (s : RunState) → Represents tab st s → TurnedIs tab s L′ R′ o (turn P s (suc u))
+use Rattle.slots.specs.Slots.{slot, mark-of, Layout, PairAt, Stored, Holds}
+use Rattle.completion.specs.Turn.{Origin, Candidate, State as RunState, Taken as TakenPair, take-pair, make-rule, turn}
+use Rattle.completion.specs.Calls.{origin-bytes}
+use Rattle.inputs.specs.Inputs.{marked, inputs-of}
+use Rattle.forms.specs.declared.Found.{Found}
+use Rattle.forms.specs.declared.Found.the-variants.{Equal, Different, Ends as FoundEnds}
+use Rattle.forms.specs.declared.Taken.{Taken}
+use Rattle.state.specs.declared.State.{State}
+use Rattle.state.specs.Run.{held, Fine, Represents, with-units}
+use Rattle.state.specs.Steps.{behind-first, without-oldest, with-entry}
+use Rattle.turn.specs.declared.Turned.{Turned}
+use Rattle.turn.specs.declared.Due.{Due}
+use Rattle.turn.specs.declared.Due.the-variants.{Stop, Settle, Make}
 
 -- the input equations stand renamed in their slots, and the table gives the ranks
-pub record Given (tab inputs lens : List ℕ) (count : ℕ) (P : Problem) : Type 0 where
+pub record Given (tab inputs : List ℕ) (count : ℕ) (P : Problem) : Type 0 where
   pub ranks : rank-of (P .symbols) ≡ rank tab
-  pub stored : Stored tab inputs lens 0 (map (λ e. renamed (e .sides)) (P .equations))
+  pub stored : Stored tab inputs 0 (map (λ c. c .sides) (inputs-of P))
   pub counted : count ≡ length (P .equations)
 
--- `turn_scan`, where nothing waits, and `turn`
-pub record ScanTurn (st : Whole) (tab inputs lens : List ℕ) (count : ℕ) (L R L′ R′ : List ℕ) (u : ℕ) (o : Outcome) : Type 0 where
-  pub safe : TurnSafe (st .entries) o
-  pub stays : (o .verdict ≡ goes-on → ⊥) → RulesKept st (o .state)
-  pub buffers : Buffers L R L′ R′
-  pub answer : (P : Problem) → Given tab inputs lens count P → (s : RunState) → Represents tab st s → TurnedIs tab s L′ R′ o (turn P s (suc u))
+-- `ended`, `going`
+abbrev pub ended-as : State → Ending → ℕ → List ℕ → Turned
+ended-as st end units pair = record { state = with-units st units; verdict = Ends end; pair = pair }
 
-pub record WholeTurn (st : Whole) (tab inputs lens : List ℕ) (count : ℕ) (L R L′ R′ : List ℕ) (o : Outcome) : Type 0 where
-  pub safe : TurnSafe (st .entries) o
-  pub stays : (o .verdict ≡ goes-on → ⊥) → RulesKept st (o .state)
-  pub buffers : Buffers L R L′ R′
-  pub answer : (P : Problem) → Given tab inputs lens count P → (s : RunState) → Represents tab st s → TurnedIs tab s L′ R′ o (turn P s (st .units))
+abbrev pub going-as : State → List ℕ → Turned
+going-as st pair = record { state = st; verdict = GoesOn; pair = pair }
+
+-- `with_room`, `due_after`: steps 1 to 3, from what was found. "With 512 entries in the log, end 23."
+unfoldable pub with-room : ℕ → Due → Due
+with-room entries due = if leb most-entries entries then Stop LogFull else due
+
+unfoldable pub due-after : Found → Bool → ℕ → Due
+due-after Equal true entries = with-room entries Settle
+due-after Equal false entries = Stop Complete
+due-after Different waits entries = with-room entries Make
+due-after (FoundEnds e) waits entries = Stop e
+
+-- the slots hold the rules and what waits of s, and whether something waits
+unfoldable pub some-wait : List Candidate → Bool
+some-wait [] = false
+some-wait (c ∷ cs) = true
+
+pub record PairsOf (tab pairs : List ℕ) (live : ℕ) (waits : Bool) (s : RunState) : Type 0 where
+  pub holds : Holds tab pairs 0 (map marked (held (s .rules) (s .waiting)))
+  pub live-is : live ≡ length (s .rules)
+  pub waits-is : waits ≡ some-wait (s .waiting)
+
+-- `look`: step 1. The taken pair's forms are equal, which only a waiting equation's can be, or stand in the slot
+abbrev pub FormsIn : List ℕ → Taken → Bool → Candidate → Bool → Type 0
+FormsIn tab t waits c true = (t .found ≡ Equal) × (waits ≡ true)
+FormsIn tab t waits c false = (t .found ≡ Different) × PairAt most-apart tab (t .pair) 0 (c .sides)
+
+-- "If there is none, the end is 0, complete."
+abbrev pub LookStops : End → Taken → Bool → Type 0
+LookStops complete t waits = (t .found ≡ Equal) × (waits ≡ false)
+LookStops (neither-above e) t waits = ⊥
+LookStops spent t waits = t .found ≡ FoundEnds Spent
+LookStops too-large t waits = t .found ≡ FoundEnds TooLarge
+LookStops rules-full t waits = ⊥
+LookStops log-full t waits = ⊥
+
+abbrev pub LookIs : List ℕ → Taken → Bool → RunState → Paid TakenPair → Type 0
+LookIs tab t waits s (done k left) =
+    (t .units ≡ left) × (k .waiting ≡ behind-first (s .waiting)) × (mark-of (slot (t .pair) 0) ≡ origin-bytes (k .pair .origin))
+    × FormsIn tab t waits (k .pair) (same (k .pair .sides .left) (k .pair .sides .right))
+LookIs tab t waits s (stop e left) = (t .units ≡ left) × LookStops e t waits
+
+pub record Looks (tab pairs : List ℕ) (live : ℕ) (waits : Bool) (inputs : List ℕ) (count units : ℕ) (t : Taken) : Type 0 where
+  pub layout : Layout (t .pair) 1
+  pub left-over : t .units ≤ units
+  pub answer : (P : Problem) → Given tab inputs count P → (s : RunState) → PairsOf tab pairs live waits s → LookIs tab t waits s (take-pair P (s .rules) (s .waiting) units)
+
+-- what every answer of a turn from st has; a stop hands back the state as at the turn's beginning
+pub record TurnSafe (st : State) (o : Turned) : Type 0 where
+  pub fine : Fine (o .state)
+  pub grows : o .verdict ≡ GoesOn → o .state .log .count ≡ st .log .count + 1
+  pub stays : (o .verdict ≡ GoesOn → ⊥) → o .state ≡ with-units st (o .state .units)
+  pub less : o .state .units ≤ st .units
+  pub layout : Layout (o .pair) 1
+
+-- `settle`: steps 2 and 3
+pub record Settles (st : State) (t : Taken) (o : Turned) : Type 0 where
+  pub safe : t .units ≤ st .units → TurnSafe st o
+  pub goes : o .verdict ≡ GoesOn
+  pub units : o .state .units ≡ t .units
+  pub represents : (tab : List ℕ) (s : RunState) (from : Origin) → Represents tab st s → mark-of (slot (t .pair) 0) ≡ origin-bytes from →
+      Represents tab (o .state) (with-entry (without-oldest s) from 0)
+
+-- the next state, or an end with the two forms of 20 in the slot
+abbrev pub TurnedIs : List ℕ → RunState → Turned → Paid RunState → Type 0
+TurnedIs tab s o (done s′ left) = (o .verdict ≡ GoesOn) × (o .state .units ≡ left) × Represents tab (o .state) s′
+TurnedIs tab s o (stop f left) =
+    (o .verdict ≡ Ends (ending f)) × (o .state .units ≡ left) × Represents tab (o .state) s × ((g : Pair) → f ≡ neither-above g → PairAt most-apart tab (o .pair) 0 g)
+
+-- `make`: steps 4 to 7 and the log
+pub record Makes (tab : List ℕ) (st : State) (t : Taken) (o : Turned) : Type 0 where
+  pub safe : t .units ≤ st .units → TurnSafe st o
+  pub answer : (P : Problem) → rank-of (P .symbols) ≡ rank tab → (s : RunState) (k : TakenPair) → Represents tab st s → k .waiting ≡ behind-first (s .waiting) →
+      PairAt most-apart tab (t .pair) 0 (k .pair .sides) → mark-of (slot (t .pair) 0) ≡ origin-bytes (k .pair .origin) → TurnedIs tab s o (make-rule P s k (t .units))
+
+-- `turn`: exactly as the definition says
+pub record Turns (tab inputs : List ℕ) (count : ℕ) (st : State) (o : Turned) : Type 0 where
+  pub safe : TurnSafe st o
+  pub answer : (P : Problem) → Given tab inputs count P → (s : RunState) → Represents tab st s → TurnedIs tab s o (turn P s (st .units))

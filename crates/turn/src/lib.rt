@@ -1,204 +1,155 @@
-// A turn of the run: it takes the oldest waiting equation or scans, and the rest is steps 2 to 7 of crate `making`.
+// A turn of the run: from a state to the next; or, where the turn ends the run, to the state as at its beginning with the units that are left.
 ghost use mathlib.Core.Path.{_≡_};
-ghost use Prim.Native.Nat.{_<_, _≤_};
-ghost use lib.ListN.{length, take};
-ghost use Rattle.redex.specs.Stored.{Layout};
-ghost use Rattle.engine.specs.State.{whole, Fine};
-ghost use Rattle.joining.specs.Joins.{SlotWalk};
-ghost use Rattle.scan.specs.Walk.{ScanIs};
-ghost use Rattle.making.specs.Made.{outcome};
-ghost use Rattle.turn.specs.Turns.{WaitingTurn, ScanTurn, WholeTurn};
-use engine::State;
-use joining::Walk;
-use making::Turned;
+ghost use mathlib.Core.Bool.{true};
+ghost use Prim.Native.Nat.{_+_, _<_, _≤_};
+ghost use lib.ListN.{length};
+ghost use Rattle.limits.specs.Limits.{most-pairs, most-equations, most-entries};
+ghost use Rattle.slots.specs.Slots.{Layout};
+ghost use Rattle.state.specs.Run.{Fine};
+ghost use Rattle.turn.specs.Turns.{ended-as, going-as, with-room, due-after, Looks, Settles, Makes, Turns};
+use forms::Found;
+use forms::Taken;
+use rewriting::End;
+use rewriting::Verdict;
+use slots::SLOT;
+use state::State;
 
-// The origin of the oldest waiting equation.
-fn oldest(st: State) -> [u8; 6]
-    ensures { λ r. ⌜ r ≡ take 6 (st .origins) ⌝ }
-{
-    let o = st.origins;
-    [o[0], o[1], o[2], o[3], o[4], o[5]]
+// The state; whether the run goes on with it; and the forms of the pair that the turn took, where they differ.
+pub struct Turned {
+    pub state: State,
+    pub verdict: Verdict,
+    pub pair: [u8; SLOT],
 }
 
-// The forms of the oldest waiting equation.
-fn walk_oldest(
-    st: State,
-    rules: &[u8],
-    waiting: &[u8],
-    table: &[u8],
-    origin: [u8; 6],
-    left: &mut [u8],
-    right: &mut [u8],
-) -> Walk
-    requires { ⌜ Layout (now table) (now rules) (st .lens) (st .count) × Layout (now table) (now waiting) (st .lengths) 1 ⌝ }
-    requires { ⌜ (120 ≤ length (now left)) × (120 ≤ length (now right)) ⌝ }
-    ensures { λ r. ⌜ SlotWalk (now (table .entry)) (now (rules .entry)) (st .lens) (st .count) (now (waiting .entry)) (st .lengths) 0 (now (left .entry)) (now (right .entry)) (now (left .exit)) (now (right .exit)) origin (st .units) r ⌝ }
+fn ended(first: State, end: End, units: u32, pair: [u8; SLOT]) -> Turned
+    ensures { λ r. ⌜ r ≡ ended-as first end units pair ⌝ }
 {
-    let lens = st.lens;
-    let lengths = st.lengths;
-    let count = st.count;
-    joining::join_slot(
-        rules,
-        &lens,
-        count,
-        table,
-        waiting,
-        &lengths,
-        0,
-        origin,
-        left,
-        right,
-        st.units,
-    )
-}
-
-// A turn that takes the oldest waiting equation; `st` has begun it.
-fn turn_waiting(
-    st: State,
-    rules: &mut [u8],
-    waiting: &mut [u8],
-    log: &mut [u8],
-    table: &[u8],
-    left: &mut [u8],
-    right: &mut [u8],
-) -> Turned
-    requires { ⌜ Fine (whole st (now rules) (now waiting) (now log)) × (0 < st .waits) ⌝ }
-    requires { ⌜ (120 ≤ length (now left)) × (120 ≤ length (now right)) ⌝ }
-    ensures { λ r. ⌜ WaitingTurn (whole st (now (rules .entry)) (now (waiting .entry)) (now (log .entry))) (now (table .entry)) (now (left .entry)) (now (right .entry)) (now (left .exit)) (now (right .exit)) (st .units) (outcome r (now (rules .exit)) (now (waiting .exit)) (now (log .exit))) ⌝ }
-{
-    let origin = oldest(st);
-    let w = walk_oldest(st, rules, waiting, table, origin, left, right);
-    if w.verdict == rewriting::COMPLETE {
-        return making::settled(st, waiting, log, origin, w.units);
+    Turned {
+        state: first.left(units),
+        verdict: Verdict::Ends(end),
+        pair: pair,
     }
-    if w.verdict != rewriting::GOES_ON {
-        return making::stopped(st, w.verdict, w.units, 0, 0);
-    }
-    let m = w.m;
-    let n = w.n;
-    let rest = st.take(waiting);
-    making::make(
-        st,
-        rest,
-        rules,
-        waiting,
-        log,
-        table,
-        &left[0..m],
-        &right[0..n],
-        origin,
-        w.units,
-    )
 }
 
-// The forms of the first pair that the scan finds.
-fn walk_scan(
-    st: State,
-    rules: &[u8],
-    table: &[u8],
-    inputs: &[u8],
-    sizes: &[u8],
-    number: usize,
-    left: &mut [u8],
-    right: &mut [u8],
-) -> Walk
-    requires { ⌜ Layout (now table) (now rules) (st .lens) (st .count) × (st .count ≤ length (st .numbers)) ⌝ }
-    requires { ⌜ Layout (now table) (now inputs) (now sizes) number ⌝ }
-    requires { ⌜ (120 ≤ length (now left)) × (120 ≤ length (now right)) ⌝ }
-    ensures { λ r. ⌜ ScanIs (now (table .entry)) (now (rules .entry)) (st .lens) (st .numbers) (st .count) (now (inputs .entry)) (now (sizes .entry)) number (now (left .entry)) (now (right .entry)) (now (left .exit)) (now (right .exit)) (st .units) r ⌝ }
+fn going(next: State, pair: [u8; SLOT]) -> Turned
+    ensures { λ r. ⌜ r ≡ going-as next pair ⌝ }
 {
-    let lens = st.lens;
-    let numbers = st.numbers;
-    let count = st.count;
-    scan::scan(
-        rules,
-        &lens,
-        &numbers,
-        count,
-        table,
-        inputs,
-        sizes,
-        number,
-        left,
-        right,
-        st.units,
-    )
-}
-
-// A turn that scans, where nothing waits; `st` has begun it.
-fn turn_scan(
-    st: State,
-    rules: &mut [u8],
-    waiting: &mut [u8],
-    log: &mut [u8],
-    table: &[u8],
-    inputs: &[u8],
-    sizes: &[u8],
-    number: usize,
-    left: &mut [u8],
-    right: &mut [u8],
-) -> Turned
-    requires { ⌜ Fine (whole st (now rules) (now waiting) (now log)) × (st .waits ≡ 0) ⌝ }
-    requires { ⌜ Layout (now table) (now inputs) (now sizes) number × (number ≤ 16) ⌝ }
-    requires { ⌜ (120 ≤ length (now left)) × (120 ≤ length (now right)) ⌝ }
-    ensures { λ r. ⌜ ScanTurn (whole st (now (rules .entry)) (now (waiting .entry)) (now (log .entry))) (now (table .entry)) (now (inputs .entry)) (now (sizes .entry)) number (now (left .entry)) (now (right .entry)) (now (left .exit)) (now (right .exit)) (st .units) (outcome r (now (rules .exit)) (now (waiting .exit)) (now (log .exit))) ⌝ }
-{
-    let w = walk_scan(st, rules, table, inputs, sizes, number, left, right);
-    if w.verdict != rewriting::GOES_ON {
-        return making::stopped(st, w.verdict, w.units, 0, 0);
+    Turned {
+        state: next,
+        verdict: Verdict::GoesOn,
+        pair: pair,
     }
-    let m = w.m;
-    let n = w.n;
-    let origin = w.origin;
-    making::make(
-        st,
-        st,
-        rules,
-        waiting,
-        log,
-        table,
-        &left[0..m],
-        &right[0..n],
-        origin,
-        w.units,
-    )
 }
 
-// A turn: its unit is paid first.
-pub fn turn(
-    st: State,
-    rules: &mut [u8],
-    waiting: &mut [u8],
-    log: &mut [u8],
-    table: &[u8],
+// What is due once the forms are known.
+pub enum Due {
+    Stop(End),
+    Settle,
+    Make,
+}
+
+// Step 2: with 512 entries in the log there is no room for another.
+fn with_room(entries: usize, due: Due) -> Due
+    ensures { λ r. ⌜ r ≡ with-room entries due ⌝ }
+{
+    if entries >= limits::ENTRIES {
+        return Due::Stop(End::LogFull);
+    }
+    due
+}
+
+// Steps 1 to 3: what follows from what was found.
+fn due_after(found: Found, waits: bool, entries: usize) -> Due
+    ensures { λ r. ⌜ r ≡ due-after found waits entries ⌝ }
+{
+    match found {
+        Found::Ends(end) => Due::Stop(end),
+        Found::Different => with_room(entries, Due::Make),
+        Found::Equal => {
+            if waits {
+                return with_room(entries, Due::Settle);
+            }
+            Due::Stop(End::Complete)
+        }
+    }
+}
+
+// Step 1: the forms of the oldest waiting equation, or, where none waits, of the first pair that the scan finds.
+fn look(
+    pairs: &[u8],
+    live: usize,
+    waits: bool,
     inputs: &[u8],
-    sizes: &[u8],
-    number: usize,
-    left: &mut [u8],
-    right: &mut [u8],
-) -> Turned
-    requires { ⌜ Fine (whole st (now rules) (now waiting) (now log)) ⌝ }
-    requires { ⌜ Layout (now table) (now inputs) (now sizes) number × (number ≤ 16) ⌝ }
-    requires { ⌜ (120 ≤ length (now left)) × (120 ≤ length (now right)) ⌝ }
-    ensures { λ r. ⌜ WholeTurn (whole st (now (rules .entry)) (now (waiting .entry)) (now (log .entry))) (now (table .entry)) (now (inputs .entry)) (now (sizes .entry)) number (now (left .entry)) (now (right .entry)) (now (left .exit)) (now (right .exit)) (outcome r (now (rules .exit)) (now (waiting .exit)) (now (log .exit))) ⌝ }
+    count: usize,
+    table: &[u8],
+    units: u32,
+) -> Taken
+    requires { ⌜ Layout (now pairs) live × (live ≤ most-pairs) × (waits ≡ true → Layout (now pairs) (live + 1)) ⌝ }
+    requires { ⌜ Layout (now inputs) count × (count ≤ most-equations) ⌝ }
+    ensures { λ r. ⌜ Looks (now (table .entry)) (now (pairs .entry)) live waits (now (inputs .entry)) count units r ⌝ }
+{
+    if waits {
+        return forms::oldest(pairs, live, table, units);
+    }
+    scanning::scan(inputs, count, pairs, live, table, units)
+}
+
+// Step 3: the taken equation has equal forms, and its entry is made.
+fn settle(begun: State, t: Taken) -> Turned
+    requires { ⌜ Fine begun × (begun .log .count < most-entries) × Layout (t .pair) 1 ⌝ }
+    ensures { λ r. ⌜ Settles begun t r ⌝ }
+{
+    let pair = t.pair;
+    let origin = slots::mark(&pair, 0);
+    going(begun.take().log(origin, 0, t.units), pair)
+}
+
+// Steps 4 to 7: the taken pair becomes a rule, and its entry is made.
+fn make(begun: State, t: Taken, table: &[u8]) -> Turned
+    requires { ⌜ Fine begun × (begun .log .count < most-entries) × Layout (t .pair) 1 ⌝ }
+    ensures { λ r. ⌜ Makes (now (table .entry)) begun t r ⌝ }
+{
+    let pair = t.pair;
+    let o = begun.take().orient(&pair, table);
+    let way = o.verdict;
+    if let Verdict::Ends(end) = way {
+        return ended(begun, end, t.units, pair);
+    }
+    let mut next = o.state.collapse(table);
+    let live = next.live;
+    if live > limits::RULES {
+        return ended(begun, End::RulesFull, t.units, pair);
+    }
+    let c = compose::compose(&mut next.pairs.bytes, live, table, t.units);
+    let composed = c.verdict;
+    if let Verdict::Ends(end) = composed {
+        return ended(begun, end, c.units, pair);
+    }
+    let origin = slots::mark(&pair, 0);
+    let made = next.made as u16;
+    going(next.log(origin, made, c.units), pair)
+}
+
+// A turn, with the input equations: its unit is paid first.
+pub fn turn(st: State, inputs: &[u8], count: usize, table: &[u8]) -> Turned
+    requires { ⌜ Fine st × Layout (now inputs) count × (count ≤ most-equations) ⌝ }
+    ensures { λ r. ⌜ Turns (now (table .entry)) (now (inputs .entry)) count st r ⌝ }
 {
     if st.units == 0 {
-        return making::stopped(st, rewriting::SPENT, 0, 0, 0);
+        return ended(st, End::Spent, 0, [0u8; SLOT]);
     }
     let begun = st.begin();
-    if begun.waits > 0 {
-        return turn_waiting(begun, rules, waiting, log, table, left, right);
+    let live = begun.live;
+    let waits = live < begun.pairs.count;
+    let left = begun.units;
+    let t = look(&begun.pairs.bytes, live, waits, inputs, count, table, left);
+    let found = t.found;
+    match due_after(found, waits, begun.log.count) {
+        Due::Stop(end) => {
+            let pair = t.pair;
+            ended(begun, end, t.units, pair)
+        }
+        Due::Settle => settle(begun, t),
+        Due::Make => make(begun, t, table),
     }
-    turn_scan(
-        begun,
-        rules,
-        waiting,
-        log,
-        table,
-        inputs,
-        sizes,
-        number,
-        left,
-        right,
-    )
 }
