@@ -123,6 +123,12 @@ pub record Removed (slots : List ℕ) (k count : ℕ) (slots′ : List ℕ) : Ty
   pub before : (i : ℕ) → i < k → slot slots′ i ≡ slot slots i
   pub behind : (i : ℕ) → k ≤ i → i + 1 < count → slot slots′ i ≡ slot slots (i + 1)
 
+-- `make_room`: those before k stand as they did, and those from k on took the places behind them
+pub record RoomMade (slots : List ℕ) (k count : ℕ) (slots′ : List ℕ) : Type 0 where
+  pub same : length slots′ ≡ length slots
+  pub before : (i : ℕ) → i < k → slot slots′ i ≡ slot slots i
+  pub behind : (i : ℕ) → k ≤ i → i < count → slot slots′ (i + 1) ≡ slot slots i
+
 -- `insert`: one more slot stands at k, and those from k on took the places behind them
 pub record Inserted (slots : List ℕ) (k count : ℕ) (one slots′ : List ℕ) : Type 0 where
   pub same : length slots′ ≡ length slots

@@ -6,7 +6,7 @@ ghost use mathlib.Core.Path.{_≡_};
 ghost use Prim.Native.Nat.{_+_, _*_, _<_, _≤_};
 ghost use lib.ListN.{length, getD};
 ghost use Rattle.limits.specs.Limits.{most-nodes, origin-width};
-ghost use Rattle.slots.specs.Slots.{left-at, slot-width, slot, mark-of, number-of, left-length, left-of, right-of, Layout, PutSides, PutMark, PutRight, Removed, Inserted, MovedLast};
+ghost use Rattle.slots.specs.Slots.{left-at, slot-width, slot, mark-of, number-of, left-length, left-of, right-of, Layout, PutSides, PutMark, PutRight, Removed, RoomMade, Inserted, MovedLast};
 use limits::NODES;
 
 const LEFT_LENGTH: usize = limits::ORIGIN;
@@ -99,8 +99,8 @@ pub fn put_sides(slots: &mut [u8], k: usize, left: &[u8], right: &[u8])
     ensures { λ _. ⌜ PutSides (now (slots .entry)) k (now (left .entry)) (now (right .entry)) (now (slots .exit)) ⌝ }
 {
     fields::paste(slots, SLOT * k + LEFT, left);
-    fields::paste(slots, SLOT * k + RIGHT, right);
     slots[SLOT * k + LEFT_LENGTH] = left.len() as u8;
+    fields::paste(slots, SLOT * k + RIGHT, right);
     slots[SLOT * k + RIGHT_LENGTH] = right.len() as u8;
 }
 
@@ -148,7 +148,7 @@ pub fn remove(slots: &mut [u8], k: usize, count: usize)
 // Of `count` pairs, those from k on take the places behind them.
 fn make_room(slots: &mut [u8], k: usize, count: usize)
     requires { ⌜ (k ≤ count) × (slot-width * (count + 1) ≤ length (now slots)) ⌝ }
-    ensures { λ _. ⌜ (length (now (slots .exit)) ≡ length (now (slots .entry))) ⌝ }
+    ensures { λ _. ⌜ RoomMade (now (slots .entry)) k count (now (slots .exit)) ⌝ }
 {
     let a = SLOT * k;
     let mut i = SLOT * count;

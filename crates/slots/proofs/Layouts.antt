@@ -1,0 +1,89 @@
+-- Room and lengths of slots, and the pair that stands in a slot that was put. Assumes nothing.
+-- Read first: specs/Slots (Layout, OnlySlot, PutSides).
+use mathlib.Core.Path.{_≡_, refl, sym, _∙_, subst}
+use mathlib.Core.List.{List}
+use Prim.Native.Nat.{ℕ, zero, suc, _+_, _*_, _<_, _≤_}
+use native.Mathlib.Omega.{arith}
+use native.Mathlib.Decide.{ℕ-discrete}
+use lib.ListN.{length, drop, replicate, length-take}
+use Rattle.limits.specs.Limits.{most-nodes}
+use Rattle.terms.specs.Term.{Term, Pair, term-bytes}
+use Rattle.terms.specs.Flat.{Wf}
+use Rattle.slots.specs.Slots.{slot-width, left-at, right-at, slot, left-of, right-of, left-length, right-length, Short, Layout, Sides, PairAt, OnlySlot, PutSides, PutMark, PutRight, KeptSlot}
+
+pub layout-none : (slots : List ℕ) → Layout slots 0
+layout-none slots = record { room = omega arith; short = λ k h. absurd (omega arith) }
+
+pub layout-less : {slots : List ℕ} {m n : ℕ} → m ≤ n → Layout slots n → Layout slots m
+layout-less h y = let r = y .room in record { room = omega arith; short = λ k j. y .short k (omega arith) }
+
+pub layout-room : {slots : List ℕ} {n k : ℕ} → Layout slots n → k < n → slot-width * (k + 1) ≤ length slots
+layout-room y h = let r = y .room in omega arith
+
+pub short-moved : (slots slots′ : List ℕ) (j k : ℕ) → slot slots′ k ≡ slot slots j → Short (slot slots j) → Short (slot slots′ k)
+short-moved slots slots′ j k e s = subst Short (sym e) s
+
+-- slot k below n, or behind them, was written
+pub layout-put : {slots slots′ : List ℕ} {n k : ℕ} → Layout slots n → OnlySlot slots k slots′ → Short (slot slots′ k) → Layout slots′ n
+layout-put {slots} {slots′} {n} {k} y o s = let r = y .room in record { room = omega (arith, o .same); short = λ i h. go i h (ℕ-discrete i k) }
+  where
+    go : (i : ℕ) → i < n → Dec (i ≡ k) → Short (slot slots′ i)
+    go i h (yes e) = subst (λ z. Short (slot slots′ z)) (sym e) s
+    go i h (no e) = short-moved slots slots′ i i (o .others i e) (y .short i h)
+
+-- the same, with slot n written for the first time
+pub layout-more : {slots slots′ : List ℕ} {n : ℕ} → Layout slots n → slot-width * (n + 1) ≤ length slots → OnlySlot slots n slots′ → Short (slot slots′ n) →
+    Layout slots′ (n + 1)
+layout-more {slots} {slots′} {n} y r o s = record { room = omega (arith, o .same); short = λ i h. go i h (ℕ-discrete i n) }
+  where
+    go : (i : ℕ) → i < n + 1 → Dec (i ≡ n) → Short (slot slots′ i)
+    go i h (yes e) = subst (λ z. Short (slot slots′ z)) (sym e) s
+    go i h (no e) = short-moved slots slots′ i i (o .others i e) (y .short i (omega arith))
+
+-- one slot of zeros
+zeros-short : Short (slot (replicate slot-width 0) 0)
+unfolding slot left-length right-length
+zeros-short = record { left = omega arith; right = omega arith }
+
+pub layout-zeros : Layout (replicate slot-width 0) 1
+layout-zeros = record { room = omega arith; short = go }
+  where
+    go : (k : ℕ) → k < 1 → Short (slot (replicate slot-width 0) k)
+    go zero h = zeros-short
+    go (suc k) h = absurd (omega arith)
+
+pub left-short : {s : List ℕ} → Short s → length (left-of s) ≤ most-nodes
+unfolding left-of
+left-short {s} h = let m = h .left in omega (arith, length-take (left-length s) (drop left-at s))
+
+pub right-short : {s : List ℕ} → Short s → length (right-of s) ≤ most-nodes
+unfolding right-of
+right-short {s} h = let m = h .right in omega (arith, length-take (right-length s) (drop right-at s))
+
+-- the pair of a slot that was put, of one that got a mark, and of one that got another right side
+pub pair-put : {n : ℕ} {tab slots : List ℕ} {k : ℕ} {left right slots′ : List ℕ} {e : Pair} → PutSides slots k left right slots′ → Sides n tab left right e →
+    PairAt n tab slots′ k e
+pair-put p s = record {
+  sides = record { left-wf = s .left-wf; right-wf = s .right-wf; left-bytes = p .left-is ∙ s .left-bytes; right-bytes = p .right-is ∙ s .right-bytes };
+}
+
+pub pair-mark : {n : ℕ} {tab slots : List ℕ} {k : ℕ} {mark slots′ : List ℕ} {e : Pair} → PutMark slots k mark slots′ → PairAt n tab slots k e → PairAt n tab slots′ k e
+pair-mark p h =
+    let s = h .sides in
+    record { sides = record { left-wf = s .left-wf; right-wf = s .right-wf; left-bytes = p .left-kept ∙ s .left-bytes; right-bytes = p .right-kept ∙ s .right-bytes } }
+
+pub pair-right : {n : ℕ} {tab slots : List ℕ} {k : ℕ} {right slots′ : List ℕ} {e : Pair} {u : Term} → PutRight slots k right slots′ → PairAt n tab slots k e → Wf n tab u →
+    right ≡ term-bytes u → PairAt n tab slots′ k (record { left = e .left; right = u })
+pair-right p h w q =
+    let s = h .sides in
+    record { sides = record { left-wf = s .left-wf; right-wf = w; left-bytes = p .left-kept ∙ s .left-bytes; right-bytes = p .right-is ∙ q } }
+
+-- a slot that is lent alone
+pub kept-none : (one : List ℕ) → KeptSlot one one
+kept-none one = record { same = refl; mark = refl; layout = λ y. y }
+
+pub kept-trans : {one one₁ one₂ : List ℕ} → KeptSlot one one₁ → KeptSlot one₁ one₂ → KeptSlot one one₂
+kept-trans p q = record { same = q .same ∙ p .same; mark = q .mark ∙ p .mark; layout = λ y. q .layout (p .layout y) }
+
+pub kept-put : {one left right one′ : List ℕ} → PutSides one 0 left right one′ → KeptSlot one one′
+kept-put p = record { same = p .only .same; mark = p .mark; layout = λ y. layout-put y (p .only) (p .short) }

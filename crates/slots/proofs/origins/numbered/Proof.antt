@@ -1,0 +1,18 @@
+-- `numbered`: the bytes put are the definition’s by computation. Assumes nothing.
+-- Read first: `numbered` in src/origins.rt, fields/specs/Puts.
+use Rattle.terms.specs.Base.{number-bytes}
+use Rattle.fields.specs.Puts.{patched}
+use borrow.Author.Needs.{needs}
+use Rattle.slots.proofs.origins.numbered.Statement.{statement}
+use Rattle.slots.proofs.origins.numbered.Tie as tie
+use Rattle.slots.proofs.origins.numbered.Reads as reads
+use Rattle.slots.proofs.origins.numbered.Lts as lts
+use Rattle.fields.proofs.put_number.Reads as put-number-reads
+
+returns : tie.Need-returns
+unfolding number-bytes patched
+returns c = c .before .put-number .ensures .bytes
+
+pub numbered-spec : {M : Type 1} → statement M
+numbered-spec =
+    tie.close (tie.spec (λ c. search needs) (λ c. search needs) (λ c κs. search needs) returns)

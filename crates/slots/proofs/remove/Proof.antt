@@ -1,0 +1,62 @@
+-- `remove`: the bytes from the slot’s begin to i are those one slot further on; end - i falls. Assumes nothing.
+-- Read first: `remove` in src/lib.rt, proofs/Shifting (Removing).
+use Prim.Native.Nat.{_*_, _-_}
+use native.Mathlib.Omega.{arith}
+use Rattle.slots.proofs.Shifting.{Removing, removing-start, removing-more, removing-end}
+use borrow.Author.Needs.{needs}
+use Rattle.slots.proofs.remove.Statement.{statement}
+use Rattle.slots.proofs.remove.Tie as tie
+use Rattle.slots.proofs.remove.Reads as reads
+use Rattle.slots.proofs.remove.Lts as lts
+
+abbrev Inv-loop : tie.InvT-loop
+Inv-loop slots₀ k count end i₀ slots i = Removing slots₀ (248 * k) slots i
+
+abbrev μ-loop : tie.MeasureT-loop
+μ-loop slots₀ k count end i₀ slots i = end - i
+
+loop-holds : tie.Need-loop-holds Inv-loop μ-loop
+loop-holds c = removing-start _ _
+
+slice-read-slots : tie.Need-slice-read-slots Inv-loop μ-loop
+slice-read-slots c =
+    let at-loop : tie.At-loop Inv-loop μ-loop = search depth 0 in
+    omega (arith, at-loop .loop .inv .same)
+
+slice-write-slots : tie.Need-slice-write-slots Inv-loop μ-loop
+slice-write-slots c =
+    let at-loop : tie.At-loop Inv-loop μ-loop = search depth 0 in
+    omega (arith, at-loop .loop .inv .same)
+
+loop-again : tie.Need-loop-again Inv-loop μ-loop
+loop-again c =
+    let at-loop : tie.At-loop Inv-loop μ-loop = search depth 0 in
+    removing-more _ _ _ _ (at-loop .loop .inv) (search needs)
+
+same-length : tie.Need-same-length Inv-loop μ-loop
+same-length c = c .before .loop .inv .same
+
+returns : tie.Need-returns Inv-loop μ-loop
+returns c =
+    let at-loop : tie.At-loop Inv-loop μ-loop = search depth 0 in
+    let entry : tie.Start Inv-loop μ-loop = search depth 0 in
+    removing-end _ _ _ _ _ (entry .pre .0) (entry .pre .1) (at-loop .loop .inv) (search needs)
+
+pub remove-spec : {M : Type 1} → statement M
+remove-spec =
+    tie.close
+    (tie.spec
+    Inv-loop
+    μ-loop
+    (λ c. search needs)
+    (λ c. search needs)
+    (λ c. search needs)
+    loop-holds
+    (λ c. search needs)
+    slice-read-slots
+    slice-write-slots
+    (λ c. search needs)
+    (λ c. search needs)
+    loop-again
+    same-length
+    returns)
