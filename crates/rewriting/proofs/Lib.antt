@@ -20,3 +20,4 @@ pub mod Limits
 pub mod Holds
 pub mod Counts
 pub mod Relations
+pub mod Verdicts

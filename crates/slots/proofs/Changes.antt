@@ -11,7 +11,8 @@ use Rattle.slots.specs.Slots.{slot-width, slot, Short, Layout, Marked, M
 use Rattle.slots.proofs.Listing.{all-split, all-join, all-one, all-cons, all-first, all-rest, marked-moved, holds-moved}
 use Rattle.slots.proofs.Layouts.{short-moved}
 
-pub removed-layout : {slots : List ℕ} {k count n : ℕ} {slots′ : List ℕ} → Removed slots k count slots′ → Layout slots count → suc n ≡ count → k < count → Layout slots′ n
+pub removed-layout : {slots : List ℕ} {k count n : ℕ} {slots′ : List ℕ} → Removed slots k count slots′ → Layout slots count → suc n ≡ count →
+    k < count → Layout slots′ n
 removed-layout {slots} {k} {count} {n} {slots′} r y e h =
     let m = y .room in
     record { room = omega (arith, r .same); short = λ i j. go i j (decLt i k) }
@@ -20,7 +21,8 @@ removed-layout {slots} {k} {count} {n} {slots′} r y e h =
     go i j (yes b) = short-moved slots slots′ i i (r .before i b) (y .short i (omega arith))
     go i j (no b) = short-moved slots slots′ (i + 1) i (r .behind i (omega arith) (omega arith)) (y .short (i + 1) (omega arith))
 
-pub inserted-layout : {slots : List ℕ} {k count : ℕ} {one slots′ : List ℕ} → Inserted slots k count one slots′ → slot-width * (count + 1) ≤ length slots → Layout slots count →
+pub inserted-layout : {slots : List ℕ} {k count : ℕ} {one slots′ : List ℕ} → Inserted slots k count one slots′ →
+    slot-width * (count + 1) ≤ length slots → Layout slots count →
     Short (slot one 0) → k ≤ count → Layout slots′ (count + 1)
 inserted-layout {slots} {k} {count} {one} {slots′} r m y s h = record { room = omega (arith, r .same); short = λ i j. go i j (decLt i k) }
   where
@@ -60,7 +62,8 @@ removed-holds {slots} {k} {count} {slots′} tab xs m ys h e f r =
     (all-rest (MarkedAt tab slots) (0 + length xs) m ys (s .1)))
 
 pub inserted-holds : {slots : List ℕ} {k count : ℕ} {one slots′ : List ℕ} (tab : List ℕ) (xs : List Marked) (m : Marked) (ys : List Marked) →
-    Holds tab slots 0 (xs ++ ys) → length xs ≡ k → length (xs ++ ys) ≡ count → MarkedAt tab one 0 m → Inserted slots k count one slots′ → Holds tab slots′ 0 (xs ++ (m ∷ ys))
+    Holds tab slots 0 (xs ++ ys) → length xs ≡ k → length (xs ++ ys) ≡ count → MarkedAt tab one 0 m → Inserted slots k count one slots′ →
+    Holds tab slots′ 0 (xs ++ (m ∷ ys))
 inserted-holds {slots} {k} {count} {one} {slots′} tab xs m ys h e f p r =
     let s = all-split (MarkedAt tab slots) 0 xs ys h in
     let n : length xs + length ys ≡ count = sym (length-append xs ys) ∙ f in
@@ -72,17 +75,19 @@ inserted-holds {slots} {k} {count} {one} {slots′} tab xs m ys h e f p r =
     (λ i q. same-place slots′ (suc (0 + length xs) + i) (0 + length xs + i + 1) (omega arith) ∙ r .behind (0 + length xs + i) (omega arith) (omega arith))
     (s .1)))
 
+-- the others stand as if it were removed
+pub removed-of : {slots : List ℕ} {k count : ℕ} {slots′ : List ℕ} → MovedLast slots k count slots′ → Removed slots k count slots′
+removed-of r = record { same = r .same; before = r .before; behind = r .behind }
+
 pub moved-holds : {slots : List ℕ} {k count : ℕ} {slots′ : List ℕ} (tab : List ℕ) (xs : List Marked) (m : Marked) (ys : List Marked) →
-    Holds tab slots 0 (xs ++ (m ∷ ys)) → length xs ≡ k → length (xs ++ (m ∷ ys)) ≡ count → MovedLast slots k count slots′ → Holds tab slots′ 0 (xs ++ ys ++ (m ∷ []))
+    Holds tab slots 0 (xs ++ (m ∷ ys)) → length xs ≡ k → length (xs ++ (m ∷ ys)) ≡ count → MovedLast slots k count slots′ →
+    Holds tab slots′ 0 (xs ++ ys ++ (m ∷ []))
 moved-holds {slots} {k} {count} {slots′} tab xs m ys h e f r =
-    let s = all-split (MarkedAt tab slots) 0 xs (m ∷ ys) h in
     let n : length xs + suc (length ys) ≡ count = sym (length-append xs (m ∷ ys)) ∙ f in
     let w : length (xs ++ ys) + 1 ≡ count = omega (arith, length-append xs ys) in
+    let s = all-split (MarkedAt tab slots) 0 xs (m ∷ ys) h in
+    let q : slot slots′ (0 + length (xs ++ ys)) ≡ slot slots (0 + length xs) =
+    r .last (0 + length (xs ++ ys)) (omega arith) ∙ same-place slots k (0 + length xs) (omega arith) in
     all-join (MarkedAt tab slots′) 0 (xs ++ ys) (m ∷ [])
-    (all-join (MarkedAt tab slots′) 0 xs ys
-    (holds-moved tab slots slots′ 0 0 xs (λ i q. r .before (0 + i) (omega arith)) (s .0))
-    (holds-moved tab slots slots′ (suc (0 + length xs)) (0 + length xs) ys
-    (λ i q. r .behind (0 + length xs + i) (omega arith) (omega arith) ∙ same-place slots (0 + length xs + i + 1) (suc (0 + length xs) + i) (omega arith))
-    (all-rest (MarkedAt tab slots) (0 + length xs) m ys (s .1))))
-    (all-one (MarkedAt tab slots′) (0 + length (xs ++ ys)) m
-    (marked-moved (r .last (0 + length (xs ++ ys)) (omega arith) ∙ same-place slots k (0 + length xs) (omega arith)) (all-first (MarkedAt tab slots) (0 + length xs) m ys (s .1))))
+    (removed-holds tab xs m ys h e f (removed-of r))
+    (all-one (MarkedAt tab slots′) (0 + length (xs ++ ys)) m (marked-moved q (all-first (MarkedAt tab slots) (0 + length xs) m ys (s .1))))

@@ -171,7 +171,8 @@ module _ (slots : List ℕ) (k : ℕ) (room : slot-width * (k + 1) ≤ length sl
       }
 
   -- `put_right`
-  module _ (right slots₁ : List ℕ) (h : left-length (slot slots k) ≤ most-nodes) (f : length right ≤ most-nodes) (e : slots₁ ≡ patched (slot-width * k + right-at) right slots) where
+  module _ (right slots₁ : List ℕ) (h : left-length (slot slots k) ≤ most-nodes) (f : length right ≤ most-nodes) (e : slots₁ ≡ patched
+      (slot-width * k + right-at) right slots) where
     abbrev with-right-side : List ℕ
     with-right-side = set slots₁ (slot-width * k + (origin-width + 1)) (length right)
 

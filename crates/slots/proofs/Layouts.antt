@@ -67,13 +67,16 @@ pair-put p s = record {
   sides = record { left-wf = s .left-wf; right-wf = s .right-wf; left-bytes = p .left-is ∙ s .left-bytes; right-bytes = p .right-is ∙ s .right-bytes };
 }
 
-pub pair-mark : {n : ℕ} {tab slots : List ℕ} {k : ℕ} {mark slots′ : List ℕ} {e : Pair} → PutMark slots k mark slots′ → PairAt n tab slots k e → PairAt n tab slots′ k e
+pub pair-mark : {n : ℕ} {tab slots : List ℕ} {k : ℕ} {mark slots′ : List ℕ} {e : Pair} → PutMark slots k mark slots′ → PairAt n tab slots k e →
+    PairAt n tab slots′ k e
 pair-mark p h =
     let s = h .sides in
-    record { sides = record { left-wf = s .left-wf; right-wf = s .right-wf; left-bytes = p .left-kept ∙ s .left-bytes; right-bytes = p .right-kept ∙ s .right-bytes } }
+    record {
+      sides = record { left-wf = s .left-wf; right-wf = s .right-wf; left-bytes = p .left-kept ∙ s .left-bytes; right-bytes = p .right-kept ∙ s .right-bytes };
+    }
 
-pub pair-right : {n : ℕ} {tab slots : List ℕ} {k : ℕ} {right slots′ : List ℕ} {e : Pair} {u : Term} → PutRight slots k right slots′ → PairAt n tab slots k e → Wf n tab u →
-    right ≡ term-bytes u → PairAt n tab slots′ k (record { left = e .left; right = u })
+pub pair-right : {n : ℕ} {tab slots : List ℕ} {k : ℕ} {right slots′ : List ℕ} {e : Pair} {u : Term} → PutRight slots k right slots′ →
+    PairAt n tab slots k e → Wf n tab u → right ≡ term-bytes u → PairAt n tab slots′ k (record { left = e .left; right = u })
 pair-right p h w q =
     let s = h .sides in
     record { sides = record { left-wf = s .left-wf; right-wf = w; left-bytes = p .left-kept ∙ s .left-bytes; right-bytes = p .right-is ∙ q } }

@@ -68,7 +68,8 @@ module _ {A : Type 0} (R : ℕ → A → Type 0) where
             (h .1),
       )
 
-pub all-map : {A B : Type 0} (R : ℕ → A → Type 0) (S : ℕ → B → Type 0) (f : A → B) → ((k : ℕ) (x : A) → R k x → S k (f x)) → (k : ℕ) (xs : List A) → AllFrom R k xs →
+pub all-map : {A B : Type 0} (R : ℕ → A → Type 0) (S : ℕ → B → Type 0) (f : A → B) → ((k : ℕ) (x : A) → R k x → S k (f x)) → (k : ℕ) (xs : List A) →
+    AllFrom R k xs →
     AllFrom S k (map f xs)
 unfolding AllFrom
 all-map R S f g k [] h = tt

@@ -46,14 +46,15 @@ module _ (slots : List ℕ) (k : ℕ) where
         ∙ ap (λ z. take z (drop right-at (slot slots k))) (e ∙ sym right-length-at)
 
 -- `copy`: the slot fills the array
+abbrev lent : List ℕ → ℕ → List ℕ
+lent slots k = take (slot-width * k + slot-width - slot-width * k) (drop (slot-width * k) slots)
+
 pub copied : (slots : List ℕ) (k : ℕ) (h one : List ℕ) → slot-width * (k + 1) ≤ length slots → length h ≡ slot-width →
-    one ≡ take (length (take (slot-width * k + slot-width - slot-width * k) (drop (slot-width * k) slots))) (take (slot-width * k + slot-width - slot-width * k) (drop (slot-width * k) slots))
-    ++ drop (length (take (slot-width * k + slot-width - slot-width * k) (drop (slot-width * k) slots))) h → slot one 0 ≡ slot slots k
+    one ≡ take (length (lent slots k)) (lent slots k) ++ drop (length (lent slots k)) h → slot one 0 ≡ slot slots k
 unfolding slot
 copied slots k h one r w q =
     let m = slot-length slots k r in
-    let p : one ≡ slot slots k =
-    filled (take (slot-width * k + slot-width - slot-width * k) (drop (slot-width * k) slots)) h one (slot slots k) (part-is slots (slot-width * k) slot-width) (omega arith) q in
+    let p : one ≡ slot slots k = filled (lent slots k) h one (slot slots k) (part-is slots (slot-width * k) slot-width) (omega arith) q in
     take-all slot-width one (omega (arith, ap length p)) ∙ p
 
 -- the first six bytes, and the second and third, one by one
@@ -74,12 +75,14 @@ two (a ∷ (b ∷ (c ∷ l))) h = refl
 
 module _ (slots : List ℕ) (k : ℕ) (r : slot-width * (k + 1) ≤ length slots) where
   pub mark-bytes : (a : ℕ) → a ≡ slot-width * k →
-      getD slots a 0 ∷ (getD slots (a + 1) 0 ∷ (getD slots (a + 2) 0 ∷ (getD slots (a + 3) 0 ∷ (getD slots (a + 4) 0 ∷ (getD slots (a + 5) 0 ∷ []))))) ≡ mark-of (slot slots k)
+      getD slots a 0 ∷ (getD slots (a + 1) 0 ∷ (getD slots (a + 2) 0 ∷ (getD slots (a + 3) 0 ∷ (getD slots (a + 4) 0 ∷ (getD slots (a + 5) 0 ∷ [])))))
+      ≡ mark-of (slot slots k)
   unfolding mark-of
   mark-bytes a e =
       let z : a ≡ slot-width * k + 0 = omega arith in
       let b₀ : getD (slot slots k) 0 0 ≡ getD slots a 0 = slot-byte slots k 0 (omega arith) ∙ ap (λ i. getD slots i 0) (sym z) in
-      let at : (i : ℕ) → i < slot-width → getD (slot slots k) i 0 ≡ getD slots (a + i) 0 = λ i h. slot-byte slots k i h ∙ ap (λ j. getD slots (j + i) 0) (sym e) in
+      let at : (i : ℕ) → i < slot-width → getD (slot slots k) i 0 ≡ getD slots (a + i) 0 =
+      λ i h. slot-byte slots k i h ∙ ap (λ j. getD slots (j + i) 0) (sym e) in
       let s = six (slot slots k) (omega (arith, slot-length slots k r)) in
       cc (b₀, at 1 (omega arith), at 2 (omega arith), at 3 (omega arith), at 4 (omega arith), at 5 (omega arith), s)
 
@@ -93,7 +96,8 @@ module _ (slots : List ℕ) (k : ℕ) (r : slot-width * (k + 1) ≤ length slots
       cc
 
 -- `overlapping`
-pub overlapping-at : (rules : List ℕ) (inner outer position a b : ℕ) → slot-width * (inner + 1) ≤ length rules → slot-width * (outer + 1) ≤ length rules → position < 256 →
+pub overlapping-at : (rules : List ℕ) (inner outer position a b : ℕ) → slot-width * (inner + 1) ≤ length rules →
+    slot-width * (outer + 1) ≤ length rules → position < 256 →
     a ≡ slot-width * inner + 1 → b ≡ slot-width * outer + 1 →
     4 ∷ (getD rules a 0 ∷ (getD rules (a + 1) 0 ∷ (getD rules b 0 ∷ (getD rules (b + 1) 0 ∷ (position ∷ []))))) ≡ overlapping-bytes rules inner outer position
 unfolding number-bytes

@@ -45,7 +45,8 @@ removing-more d a d′ i r h =
         ∙ ap (λ z. getD d (z + slot-width) 0) (sym e)
     go j q n (no e) = getD-set-other d′ i j (getD d′ (i + slot-width) 0) 0 e ∙ r .moved j q (omega (arith, e))
 
-pub removing-end : (slots : List ℕ) (k count : ℕ) (slots′ : List ℕ) (i : ℕ) → k < count → slot-width * count ≤ length slots → Removing slots (slot-width * k) slots′ i →
+pub removing-end : (slots : List ℕ) (k count : ℕ) (slots′ : List ℕ) (i : ℕ) → k < count → slot-width * count ≤ length slots →
+    Removing slots (slot-width * k) slots′ i →
     slot-width * (count - 1) ≤ i → Removed slots k count slots′
 removing-end slots k count slots′ i h m r e =
     let l = r .same in

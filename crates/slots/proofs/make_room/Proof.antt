@@ -2,6 +2,7 @@
 -- Read first: `make_room` in src/lib.rt, proofs/Shifting (Making).
 use Prim.Native.Nat.{_≤_, _*_}
 use native.Mathlib.Omega.{arith}
+use Rattle.slots.specs.Slots.{slot-width}
 use Rattle.slots.proofs.Shifting.{Making, making-start, making-more, making-end}
 use borrow.Author.Needs.{needs}
 use Rattle.slots.proofs.make_room.Statement.{statement}
@@ -10,7 +11,7 @@ use Rattle.slots.proofs.make_room.Reads as reads
 use Rattle.slots.proofs.make_room.Lts as lts
 
 abbrev Inv-loop : tie.InvT-loop
-Inv-loop slots₀ k count a i₀ slots i = Making slots₀ (248 * count) slots i × (a ≤ i)
+Inv-loop slots₀ k count a i₀ slots i = Making slots₀ (slot-width * count) slots i × (a ≤ i)
 
 abbrev μ-loop : tie.MeasureT-loop
 μ-loop slots₀ k count a i₀ slots i = i

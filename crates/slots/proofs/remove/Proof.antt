@@ -1,7 +1,8 @@
--- `remove`: the bytes from the slot’s begin to i are those one slot further on; end - i falls. Assumes nothing.
+-- `remove`: the bytes from the begin of the slot to i are those one slot further on; end - i falls. Assumes nothing.
 -- Read first: `remove` in src/lib.rt, proofs/Shifting (Removing).
 use Prim.Native.Nat.{_*_, _-_}
 use native.Mathlib.Omega.{arith}
+use Rattle.slots.specs.Slots.{slot-width}
 use Rattle.slots.proofs.Shifting.{Removing, removing-start, removing-more, removing-end}
 use borrow.Author.Needs.{needs}
 use Rattle.slots.proofs.remove.Statement.{statement}
@@ -10,7 +11,7 @@ use Rattle.slots.proofs.remove.Reads as reads
 use Rattle.slots.proofs.remove.Lts as lts
 
 abbrev Inv-loop : tie.InvT-loop
-Inv-loop slots₀ k count end i₀ slots i = Removing slots₀ (248 * k) slots i
+Inv-loop slots₀ k count end i₀ slots i = Removing slots₀ (slot-width * k) slots i
 
 abbrev μ-loop : tie.MeasureT-loop
 μ-loop slots₀ k count end i₀ slots i = end - i

@@ -1,4 +1,4 @@
--- `numbered`: the bytes put are the definition’s by computation. Assumes nothing.
+-- `numbered`: the bytes put are those of the definition by computation. Assumes nothing.
 -- Read first: `numbered` in src/origins.rt, fields/specs/Puts.
 use Rattle.terms.specs.Base.{number-bytes}
 use Rattle.fields.specs.Puts.{patched}
