@@ -1,5 +1,5 @@
 -- The bytes laid out are the four terms of an overlap: outer left, inner left renamed apart, outer left rewritten, outer right. Assumes nothing.
--- Read first: laying/specs/Layout (four-bytes), specs/Answer (four), redex/specs/Stored (Sides), rewriting/specs/Overlap (apart), laying/proofs/Moving.
+-- Read first: laying/specs/Layout (four-bytes), specs/Answer (four), slots/specs/Slots (Sides), rewriting/specs/Overlap (apart), laying/proofs/Moving.
 use mathlib.Core.Path.{_≡_, refl, sym, ap, ap₂, _∙_}
 use mathlib.Core.List.{List, [], _∷_, _++_, map, map-append, append-assoc, append-nil}
 use mathlib.Core.Option.{some}
@@ -14,7 +14,7 @@ use Rattle.terms.proofs.Bytes.{length-bytes, around}
 use Rattle.terms.proofs.Flats.{widen, skip-term, wf-subterm, wf-subst-below, wf-replace}
 use Rattle.rewriting.specs.Overlap.{apart}
 use Rattle.laying.specs.Layout.{moved, four-bytes}
-use Rattle.redex.specs.Stored.{Sides}
+use Rattle.slots.specs.Slots.{Sides}
 use Rattle.overlaps.specs.Answer.{four}
 use Rattle.laying.proofs.Moving.{moved-symbol, moved-variable}
 
@@ -47,25 +47,31 @@ module _ (tab l₁ r₁ l₂ r₂ : List ℕ) (i o : Pair) (s : Sides 16 tab l�
   unfolding Wfs
   four-wf =
       let x = widen 16 32 tab (o .left) (omega arith) (t .left-wf) in
-      (x, (apart-wf tab (i .left) (s .left-wf), (wf-replace 32 tab (o .left) x p (apart (i .right)) (apart-wf tab (i .right) (s .right-wf)), (widen 16 32 tab (o .right) (omega arith) (t .right-wf), tt))))
+      let y = wf-replace 32 tab (o .left) x p (apart (i .right)) (apart-wf tab (i .right) (s .right-wf)) in
+      (x, (apart-wf tab (i .left) (s .left-wf), (y, (widen 16 32 tab (o .right) (omega arith) (t .right-wf), tt))))
 
-  replaced-bytes : (u : Term) → subterm-at (o .left) p ≡ some u → (v : Term) → take p l₂ ++ (term-bytes v ++ drop (p + skip tab (drop p l₂) 1) l₂) ≡ term-bytes (replace-at (o .left) p v)
+  -- where the subterm at p ends
+  abbrev end : ℕ
+  end = p + skip tab (drop p l₂) 1
+
+  replaced-bytes : (u : Term) → subterm-at (o .left) p ≡ some u → (v : Term) →
+      take p l₂ ++ (term-bytes v ++ drop end l₂) ≡ term-bytes (replace-at (o .left) p v)
   replaced-bytes u e v =
       let a = around (o .left) p u e in
-      let h : l₂ ≡ a .before ++ (term-bytes u ++ a .after) = t .left-bytes ∙ a .holds in
-      let b : take p l₂ ≡ a .before = ap (take p) h ∙ take-at (a .before) (term-bytes u ++ a .after) p (a .begins) in
-      let d : drop p l₂ ≡ term-bytes u ++ a .after = ap (drop p) h ∙ drop-at (a .before) (term-bytes u ++ a .after) p (a .begins) in
-      let n : skip tab (drop p l₂) 1 ≡ size u = ap (λ z. skip tab z 1) d ∙ skip-term 16 tab u (wf-subterm 16 tab (o .left) p u (t .left-wf) e) (a .after) in
-      let k : length (a .before ++ term-bytes u) ≡ p + skip tab (drop p l₂) 1 = length-append (a .before) (term-bytes u) ∙ omega (arith, a .begins, n, length-bytes u) in
-      let c : drop (p + skip tab (drop p l₂) 1) l₂ ≡ a .after =
-      ap (drop (p + skip tab (drop p l₂) 1)) (h ∙ sym (append-assoc (a .before) (term-bytes u) (a .after))) ∙ drop-at (a .before ++ term-bytes u) (a .after) (p + skip tab (drop p l₂) 1) k in
-      ap₂ (λ x y. x ++ (term-bytes v ++ y)) b c ∙ sym (a .replaced v)
+      let y : List ℕ = term-bytes u ++ a .after in
+      let h : l₂ ≡ a .before ++ y = t .left-bytes ∙ a .holds in
+      let d : drop p l₂ ≡ y = ap (drop p) h ∙ drop-at (a .before) y p (a .begins) in
+      let n : skip tab (drop p l₂) 1 ≡ size u =
+      ap (λ z. skip tab z 1) d ∙ skip-term 16 tab u (wf-subterm 16 tab (o .left) p u (t .left-wf) e) (a .after) in
+      let k : length (a .before ++ term-bytes u) ≡ end = length-append (a .before) (term-bytes u) ∙ omega (arith, a .begins, n, length-bytes u) in
+      let c : drop end l₂ ≡ a .after =
+      ap (drop end) (h ∙ sym (append-assoc (a .before) (term-bytes u) (a .after))) ∙ drop-at (a .before ++ term-bytes u) (a .after) end k in
+      ap₂ (λ x z. x ++ (term-bytes v ++ z)) (ap (take p) h ∙ take-at (a .before) y p (a .begins)) c ∙ sym (a .replaced v)
 
   pub four-terms : (u : Term) → subterm-at (o .left) p ≡ some u → four-bytes tab l₁ r₁ l₂ r₂ p ≡ terms-bytes (the-four i o p)
   unfolding four-bytes terms-bytes
   four-terms u e =
       let x : map (moved 16) l₁ ≡ term-bytes (apart (i .left)) = ap (map (moved 16)) (s .left-bytes) ∙ moved-apart tab (i .left) (s .left-wf) in
       let y : map (moved 16) r₁ ≡ term-bytes (apart (i .right)) = ap (map (moved 16)) (s .right-bytes) ∙ moved-apart tab (i .right) (s .right-wf) in
-      let z : take p l₂ ++ (map (moved 16) r₁ ++ drop (p + skip tab (drop p l₂) 1) l₂) ≡ term-bytes (replace-at (o .left) p (apart (i .right))) =
-      ap (λ k. take p l₂ ++ (k ++ drop (p + skip tab (drop p l₂) 1) l₂)) y ∙ replaced-bytes u e (apart (i .right)) in
+      let z = ap (λ k. take p l₂ ++ (k ++ drop end l₂)) y ∙ replaced-bytes u e (apart (i .right)) in
       ap₂ _++_ (t .left-bytes) (ap₂ _++_ x (ap₂ _++_ z (t .right-bytes ∙ sym (append-nil (term-bytes (o .right))))))

@@ -1,4 +1,4 @@
 pub mod Apart
 pub mod Solving
 pub mod Meeting
-pub mod Slots
+pub mod Testing

@@ -7,7 +7,7 @@ use Prim.Native.Nat.{ℕ, _+_, _-_, _≤_, _<_}
 use native.Mathlib.Omega.{arith}
 use native.Mathlib.Nat.{sub-zero}
 use lib.ListN.{length, take, drop, length-append}
-use lib.Seq.{length-take-le, length-front, take-at, drop-at, take-length}
+use lib.Seq.{take-at, drop-at}
 use Rattle.terms.specs.Term.{Term, Terms, nil, cons, Pair, size, sizes, variables, variables-of, term-bytes, terms-bytes, renamed}
 use Rattle.terms.proofs.Bytes.{length-bytes}
 use Rattle.terms.proofs.Subst.{In}
@@ -22,10 +22,12 @@ use Rattle.unifier.specs.Written.{put, RoomFor, WritesTerms}
 use Rattle.classes.proofs.Arena.{spells-one}
 use Rattle.unifier.proofs.Instance.{spells-lows}
 use Rattle.unifier.proofs.Writing.{put-append, put-reads}
-use Rattle.pairs.specs.Placed.{VariablesLow, BothSmall, PutPair}
+use Rattle.slots.specs.Slots.{PutSides}
+use Rattle.slots.proofs.Layouts.{kept-put}
+use Rattle.pairs.specs.Placed.{VariablesLow, InSlot, BothSmall, PutPair}
 
 -- the variables of what is spelt are those of the arena
-module _ (l tab ends cs : List ℕ) (rd : Ready l tab ends cs) (low : VariablesLow l) where
+module _ {l tab ends cs : List ℕ} (rd : Ready l tab ends cs) (low : VariablesLow l) where
   mutual
     unfolding variables variables-of
 
@@ -38,18 +40,15 @@ module _ (l tab ends cs : List ℕ) (rd : Ready l tab ends cs) (low : VariablesL
     lows-variables none x j = absurd (List·Memᴰ·not-nil j)
     lows-variables (more {t = t} r s) x j = ⊎-elim (λ k. low-variables r x k) (λ k. lows-variables s x k) (List·Memᴰ·append-cases (variables t) j)
 
--- L begins with S now
-abbrev Copied : List ℕ → List ℕ → List ℕ → Type 0
-Copied S L L′ = L′ ≡ take (length S) S ++ drop (length S) L
+-- what was written up to e and from there to f are the sides of the pair, renamed
+pub record Halves (e f : ℕ) (d : List ℕ) (y z : Term) : Type 0 where
+  pub order : e ≤ f
+  pub inside : f ≤ length d
+  pub left : take (e - 0) d ≡ term-bytes (renamed (record { left = y; right = z }) .left)
+  pub right : take (f - e) (drop e d) ≡ term-bytes (renamed (record { left = y; right = z }) .right)
+  pub short : (length (take (e - 0) d) ≤ 120) × (length (take (f - e) (drop e d)) ≤ 120)
 
-copied : (S X L L′ : List ℕ) (n : ℕ) → S ≡ X → Copied S L L′ → length X ≡ n → take n L′ ≡ X
-copied S X L L′ n e h k =
-    ap (take n) (h ∙ ap (λ z. z ++ drop (length S) L) (take-length S ∙ e)) ∙ take-at X (drop (length S) L) n k
-
-copied-length : (S L L′ : List ℕ) → Copied S L L′ → length S ≤ length L → length L′ ≡ length L
-copied-length S L L′ h k = ap length h ∙ length-front L (take (length S) S) (length S) (ap length (take-length S) ∙ sym (length-take-le (length S) L k))
-
-module _ (l tab ends cs : List ℕ) (rd : Ready l tab ends cs) (low : VariablesLow l) (a b : ℕ) (s : BothSmall (arena l tab ends) (at cs) a b) where
+module _ {l tab ends cs : List ℕ} (rd : Ready l tab ends cs) (low : VariablesLow l) {a b : ℕ} (s : BothSmall (arena l tab ends) (at cs) a b) where
   abbrev y : Term
   y = s .0
 
@@ -69,7 +68,7 @@ module _ (l tab ends cs : List ℕ) (rd : Ready l tab ends cs) (low : VariablesL
   unfolding sizes
   pair-room m n = (cons y nil, one, omega (arith, s .4))
 
-  module _ (d : List ℕ) (n : 240 ≤ length d) (e : ℕ) (d₁ : List ℕ) (w₁ : WritesTerms (arena l tab ends) (at cs) a 1 0 d e d₁) where
+  module _ {d : List ℕ} (n : 240 ≤ length d) {e : ℕ} {d₁ : List ℕ} (w₁ : WritesTerms (arena l tab ends) (at cs) a 1 0 d e d₁) where
     first-end : e ≡ size y
     unfolding sizes
     first-end = omega (arith, w₁ .ends (cons y nil) one)
@@ -78,18 +77,10 @@ module _ (l tab ends cs : List ℕ) (rd : Ready l tab ends cs) (low : VariablesL
     unfolding sizes
     pair-room-2 = (cons z nil, two, omega (arith, first-end, w₁ .long, s .4, s .5))
 
-    module _ (f : ℕ) (d₂ : List ℕ) (w₂ : WritesTerms (arena l tab ends) (at cs) b 1 e d₁ f d₂) where
+    module _ {f : ℕ} {d₂ : List ℕ} (w₂ : WritesTerms (arena l tab ends) (at cs) b 1 e d₁ f d₂) where
       second-end : f ≡ size y + size z
       unfolding sizes
       second-end = omega (arith, w₂ .ends (cons z nil) two, first-end)
-
-      pub pair-within : (e ≤ f) × (f ≤ length d₂) × (f ≤ 240) × (e ≤ 120) × (f - e ≤ 120)
-      pair-within =
-          let k = w₁ .long in
-          let m = w₂ .long in
-          let u = s .4 in
-          let v = s .5 in
-          (omega (arith, first-end, second-end), omega (arith, second-end), omega (arith, second-end), omega (arith, first-end), omega (arith, first-end, second-end))
 
       whole : d₂ ≡ put 0 (terms-bytes (cons y (cons z nil))) d
       unfolding terms-bytes
@@ -113,18 +104,18 @@ module _ (l tab ends cs : List ℕ) (rd : Ready l tab ends cs) (low : VariablesL
       pub pair-names : (f ≤ length d₂) × (f ≤ 240) × (length (collect [] (take f d₂)) ≤ 127)
       unfolding variables-of
       pair-names = (
-        pair-within .1,
-        pair-within .2,
+        omega (arith, second-end, w₁ .long, w₂ .long, s .4, s .5),
+        omega (arith, second-end, s .4, s .5),
         omega (
           arith,
           ap (λ k. length (collect [] k)) written,
           terms-few 32 (cons y (cons z nil)) lows-both
-              (λ x i. ⊎-elim (λ j. low-variables l tab ends cs rd low (s .2) x j) (λ j. lows-variables l tab ends cs rd low two x j) (List·Memᴰ·append-cases (variables y) i)),
+              (λ x i. ⊎-elim (λ j. low-variables rd low (s .2) x j) (λ j. lows-variables rd low two x j) (List·Memᴰ·append-cases (variables y) i)),
         ),
       )
 
       -- the buffer with its front renamed
-      module _ (d₃ : List ℕ) (h : d₃ ≡ renamed-bytes (take f d₂) ++ drop f d₂) where
+      module _ {d₃ : List ℕ} (h : d₃ ≡ renamed-bytes (take f d₂) ++ drop f d₂) where
         halves : d₃ ≡ term-bytes (renamed pair .left) ++ (term-bytes (renamed pair .right) ++ drop f d₂)
         unfolding terms-bytes Lows
         halves =
@@ -132,51 +123,30 @@ module _ (l tab ends cs : List ℕ) (rd : Ready l tab ends cs) (low : VariablesL
             ∙ ap (λ k. k ++ drop f d₂) (renamed-pair pair (lows-both .0) (lows-both .1 .0))
             ∙ append-assoc (term-bytes (renamed pair .left)) (term-bytes (renamed pair .right)) (drop f d₂)
 
-        left-length : length (term-bytes (renamed pair .left)) ≡ e
-        left-length = length-bytes (renamed pair .left) ∙ renamed-left-size pair ∙ sym first-end
+        pub pair-halves : Halves e f d₃ y z
+        pair-halves =
+            let L : List ℕ = term-bytes (renamed pair .left) in
+            let R : List ℕ = term-bytes (renamed pair .right) in
+            let m : length L ≡ e = length-bytes (renamed pair .left) ∙ renamed-left-size pair ∙ sym first-end in
+            let n : length R ≡ f - e = length-bytes (renamed pair .right) ∙ renamed-right-size pair ∙ omega (arith, first-end, second-end) in
+            let x : take (e - 0) d₃ ≡ L = ap₂ take (sub-zero e) halves ∙ take-at L (R ++ drop f d₂) e m in
+            let y : take (f - e) (drop e d₃) ≡ R =
+            ap (λ k. take (f - e) (drop e k)) halves ∙ ap (take (f - e)) (drop-at L (R ++ drop f d₂) e m) ∙ take-at R (drop f d₂) (f - e) n in
+            record {
+              order = omega (arith, first-end, second-end);
+              inside = omega (arith, simp length-append at (ap length halves), first-end, second-end);
+              left = x;
+              right = y;
+              short = (omega (arith, ap length x, first-end, s .4), omega (arith, ap length y, first-end, second-end, s .5));
+            }
 
-        right-length : length (term-bytes (renamed pair .right)) ≡ f - e
-        right-length = length-bytes (renamed pair .right) ∙ renamed-right-size pair ∙ omega (arith, first-end, second-end)
-
-        pub pair-out : (e ≤ length d₃) × (f ≤ length d₃)
-        pair-out =
-            let k = length-append (term-bytes (renamed pair .left)) (term-bytes (renamed pair .right) ++ drop f d₂) in
-            let m = length-append (term-bytes (renamed pair .right)) (drop f d₂) in
-            let n : f ≤ length d₃ = omega (arith, ap length halves, left-length, right-length, pair-within .0) in
-            (omega (arith, pair-within .0), n)
-
-        is-left : take (e - 0) d₃ ≡ term-bytes (renamed pair .left)
-        is-left = ap₂ take (sub-zero e) halves ∙ take-at (term-bytes (renamed pair .left)) (term-bytes (renamed pair .right) ++ drop f d₂) e left-length
-
-        is-right : take (f - e) (drop e d₃) ≡ term-bytes (renamed pair .right)
-        is-right =
-            ap (λ k. take (f - e) (drop e k)) halves
-            ∙ ap (take (f - e)) (drop-at (term-bytes (renamed pair .left)) (term-bytes (renamed pair .right) ++ drop f d₂) e left-length)
-            ∙ take-at (term-bytes (renamed pair .right)) (drop f d₂) (f - e) right-length
-
-        pub left-fits : (m : ℕ) → 120 ≤ m → length (take (e - 0) d₃) ≤ m
-        left-fits m h = omega (arith, ap length is-left, left-length, pair-within .3)
-
-        pub right-fits : (m : ℕ) → 120 ≤ m → length (take (f - e) (drop e d₃)) ≤ m
-        right-fits m h = omega (arith, ap length is-right, right-length, pair-within .4)
-
-        module _ (L R L′ R′ : List ℕ) (c₁ : Copied (take (e - 0) d₃) L L′) (c₂ : Copied (take (f - e) (drop e d₃)) R R′) (m₁ : 120 ≤ length L) (m₂ : 120 ≤ length R) where
-          pair-bytes : (y′ z′ : Term) → y ≡ y′ → z ≡ z′ →
-              (take (size y′) L′ ≡ term-bytes (renamed (record { left = y′; right = z′ }) .left)) × (take (size z′) R′ ≡ term-bytes (renamed (record { left = y′; right = z′ }) .right))
-          pair-bytes y′ z′ p r =
-              subst₂
-              (λ u v. (take (size u) L′ ≡ term-bytes (renamed (record { left = u; right = v }) .left)) × (take (size v) R′ ≡ term-bytes (renamed (record { left = u; right = v }) .right)))
-              p r (
-                copied (take (e - 0) d₃) (term-bytes (renamed pair .left)) L L′ (size y) is-left c₁ (left-length ∙ first-end),
-                copied (take (f - e) (drop e d₃)) (term-bytes (renamed pair .right)) R R′ (size z) is-right c₂ (right-length ∙ omega (arith, first-end, second-end)),
-              )
-
-          pub pair-put : PutPair (arena l tab ends) (at cs) a b L R L′ R′
-          pair-put =
-              record {
-                kept = record {
-                  left = copied-length (take (e - 0) d₃) L L′ c₁ (left-fits (length L) m₁);
-                  right = copied-length (take (f - e) (drop e d₃)) R R′ c₂ (right-fits (length R) m₂);
-                };
-                bytes = λ y′ z′ p r. pair-bytes y′ z′ (spells-one (arena l tab ends) (s .2) p) (spells-one (arena l tab ends) (s .3) r);
-              }
+  pub pair-put : {e f : ℕ} {d one one′ : List ℕ} → Halves e f d y z → PutSides one 0 (take (e - 0) d) (take (f - e) (drop e d)) one′ →
+      PutPair (arena l tab ends) (at cs) a b one one′
+  pair-put {one′ = one′} h p =
+      record {
+        kept = kept-put p;
+        bytes = λ y′ z′ u v.
+            let A = arena l tab ends in
+            subst₂ (λ m n. InSlot one′ (renamed (record { left = m; right = n }))) (spells-one A (s .2) u) (spells-one A (s .3) v)
+            (p .left-is ∙ h .left, p .right-is ∙ h .right);
+      }

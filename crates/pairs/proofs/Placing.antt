@@ -5,58 +5,45 @@ use mathlib.Core.Bool.{true, false}
 use mathlib.Core.List.{List}
 use Prim.Native.Nat.{ℕ, _≤_, _<_}
 use native.Mathlib.Omega.{arith}
+use lib.Dec.{ltb}
 use lib.ListN.{length}
 use borrow.Author.Tests.{lt-ltb, le-ltb}
 use Rattle.terms.specs.Term.{Term, size}
-use lib.Dec.{ltb}
 use Rattle.classes.specs.Arena.{Spells}
 use Rattle.classes.specs.Steps.{at, arena}
-use Rattle.sizing.specs.Sizes.{Sized, SizesKnown, cap}
+use Rattle.sizing.specs.Sizes.{Sized, SizesKnown}
 use Rattle.sizing.proofs.Sizing.{known-size}
-use Rattle.pairs.specs.declared.Lengths.{Lengths}
-use Rattle.pairs.specs.Placed.{BothSmall, PutPair, PlacedIf, PairPlaced}
+use Rattle.slots.proofs.Layouts.{kept-none}
+use Rattle.pairs.specs.Placed.{BothSmall, PutPair, PairPlaced}
 
-module _ (l tab ends cs zs : List ℕ) (k : Sized l tab ends cs zs) (w : SizesKnown (arena l tab ends) (at zs) true) where
-  size-at : (i : ℕ) (u : Term) → Spells (arena l tab ends) (at cs) i u → at zs i ≡ cap (size u)
-  size-at = known-size l tab ends cs zs k w
+module _ {l tab ends cs zs : List ℕ} (k : Sized l tab ends cs zs) (w : SizesKnown (arena l tab ends) (at zs) true) where
+  small : (i : ℕ) (u : Term) → at zs i ≤ 120 → Spells (arena l tab ends) (at cs) i u → ltb 120 (size u) ≡ false
+  small i u h p = le-ltb 120 (size u) (omega (arith, known-size l tab ends cs zs k w i u p))
 
-  pub pair-small : (a b m n : ℕ) → a < length l → b < length l → m ≡ at zs a → n ≡ at zs b → m ≤ 120 → n ≤ 120 → BothSmall (arena l tab ends) (at cs) a b
-  pair-small a b m n ha hb em en sm sn =
+  large : (i : ℕ) (u : Term) → 120 < at zs i → Spells (arena l tab ends) (at cs) i u → ltb 120 (size u) ≡ true
+  large i u h p = lt-ltb 120 (size u) (omega (arith, known-size l tab ends cs zs k w i u p))
+
+  pub pair-small : {a b : ℕ} → a < length l → b < length l → at zs a ≤ 120 → at zs b ≤ 120 → BothSmall (arena l tab ends) (at cs) a b
+  pair-small {a} {b} ha hb sm sn =
       let u = k .measured a ha (w a ha) in
       let v = k .measured b hb (w b hb) in
       (u .0, v .0, u .1, v .1, omega (arith, u .2), omega (arith, v .2))
 
-  module _ (a b : ℕ) (L R : List ℕ) where
-    -- what is too large is not written
-    not-placed : (r : Lengths) → (r .left ≡ 0) × (r .right ≡ 0) →
-        ((x y z : Term) → Spells (arena l tab ends) (at cs) 0 x → Spells (arena l tab ends) (at cs) a y → Spells (arena l tab ends) (at cs) b z →
-        PlacedIf L R r y z (ltb 120 (size x)) (ltb 120 (size y)) (ltb 120 (size z))) →
-        PairPlaced (arena l tab ends) (at cs) a b L R L R r
-    not-placed r e f = record { kept = record { left = refl; right = refl }; short = (omega (arith, e .0), omega (arith, e .1)); answer = f }
+  module _ {a b : ℕ} {one : List ℕ} where
+    pub place-peak : 120 < at zs 0 → PairPlaced (arena l tab ends) (at cs) a b one one false
+    place-peak h = record { kept = kept-none one; answer = λ x y z p q r. rw (large 0 x h p) refl }
 
-    module _ (r : Lengths) (o : (r .fits ≡ false) × (r .left ≡ 0) × (r .right ≡ 0)) where
-      pub place-peak : 120 < at zs 0 → PairPlaced (arena l tab ends) (at cs) a b L R L R r
-      place-peak h = not-placed r (o .1, o .2) (λ x y z p q v. rw (lt-ltb 120 (size x) (omega (arith, size-at 0 x p))) (o .0))
+    module _ (h : at zs 0 ≤ 120) where
+      pub place-left : 120 < at zs a → PairPlaced (arena l tab ends) (at cs) a b one one false
+      place-left i = record { kept = kept-none one; answer = λ x y z p q r. rw (small 0 x h p, large a y i q) refl }
 
-      pub place-left : (m : ℕ) → at zs 0 ≤ 120 → m ≡ at zs a → 120 < m → PairPlaced (arena l tab ends) (at cs) a b L R L R r
-      place-left m h e g =
-          not-placed r (o .1, o .2)
-          (λ x y z p q v. rw (le-ltb 120 (size x) (omega (arith, size-at 0 x p)), lt-ltb 120 (size y) (omega (arith, size-at a y q))) (o .0))
+      module _ (i : at zs a ≤ 120) where
+        pub place-right : 120 < at zs b → PairPlaced (arena l tab ends) (at cs) a b one one false
+        place-right j = record { kept = kept-none one; answer = λ x y z p q r. rw (small 0 x h p, small a y i q, large b z j r) refl }
 
-      pub place-right : (m n : ℕ) → at zs 0 ≤ 120 → m ≡ at zs a → m ≤ 120 → n ≡ at zs b → 120 < n → PairPlaced (arena l tab ends) (at cs) a b L R L R r
-      place-right m n h e g e′ g′ =
-          not-placed r (o .1, o .2)
-          (λ x y z p q v.
-          rw (le-ltb 120 (size x) (omega (arith, size-at 0 x p)), le-ltb 120 (size y) (omega (arith, size-at a y q)), lt-ltb 120 (size z) (omega (arith, size-at b z v))) (o .0))
-
-    pub place-found : (m n : ℕ) → at zs 0 ≤ 120 → m ≡ at zs a → m ≤ 120 → n ≡ at zs b → n ≤ 120 → (L′ R′ : List ℕ) → PutPair (arena l tab ends) (at cs) a b L R L′ R′ →
-        PairPlaced (arena l tab ends) (at cs) a b L R L′ R′ (record { fits = true; left = m; right = n })
-    place-found m n h e g e′ g′ L′ R′ t = record {
-      kept = t .kept;
-      short = (g, g′);
-      answer = λ x y z p q r.
-          let i : m ≡ size y = omega (arith, size-at a y q) in
-          let j : n ≡ size z = omega (arith, size-at b z r) in
-          rw (le-ltb 120 (size x) (omega (arith, size-at 0 x p)), le-ltb 120 (size y) (omega arith), le-ltb 120 (size z) (omega arith))
-          (refl, i, j, t .bytes y z q r .0, t .bytes y z q r .1);
-    }
+        pub place-found : at zs b ≤ 120 → {one′ : List ℕ} → PutPair (arena l tab ends) (at cs) a b one one′ →
+            PairPlaced (arena l tab ends) (at cs) a b one one′ true
+        place-found j t = record {
+          kept = t .kept;
+          answer = λ x y z p q r. rw (small 0 x h p, small a y i q, small b z j r) (refl, t .bytes y z q r);
+        }

@@ -27,7 +27,8 @@ fn put_pair(
     let e = unifier::write(nodes, table, ends, class, a, 1, &mut out, 0);
     let f = unifier::write(nodes, table, ends, class, b, 1, &mut out, e);
     naming::rename_front(&mut out, f);
-    slots::put_sides(pair, 0, &out[0..e], &out[e..f]);
+    let both = &out[..];
+    slots::put_sides(pair, 0, &both[0..e], &both[e..f]);
 }
 
 // Whether the peak, which is at node 0, and the terms at nodes a and b are small enough. Then their pair is written.

@@ -6,21 +6,17 @@ use Rattle.overlaps.proofs.solve.Statement.{statement}
 use Rattle.overlaps.proofs.solve.Tie as tie
 use Rattle.overlaps.proofs.solve.Reads as reads
 use Rattle.overlaps.proofs.solve.Lts as lts
+use Rattle.overlaps.proofs.solve_in.Reads as solve-in-reads
 
 solve-in-requires : tie.Need-solve-in-requires
 solve-in-requires c κs =
     let entry : tie.Start = search depth 0 in
-    let h = part-long _ (entry .pre .0 .0) in (entry .pre .0, ((h, h, h), entry .pre .1))
+    let h = part-long _ (entry .pre .0 .few) in (entry .pre, (h, h, h))
 
 same-length : tie.Need-same-length
 same-length c =
     let at-solve-in : tie.After-solve-in = search depth 0 in
-    at-solve-in .solve-in .ensures .kept .left
-
-same-length-2 : tie.Need-same-length-2
-same-length-2 c =
-    let at-solve-in : tie.After-solve-in = search depth 0 in
-    at-solve-in .solve-in .ensures .kept .right
+    at-solve-in .solve-in .ensures .kept .same
 
 returns : tie.Need-returns
 returns c =
@@ -42,5 +38,4 @@ solve-spec =
     (λ c. search needs)
     solve-in-requires
     same-length
-    same-length-2
     returns)
