@@ -1,24 +1,31 @@
 -- The right side of one rule, normalised by all live rules: written back (`composed`), or the end and the units left (`stopped`). Assumes nothing.
--- Read first: specs/Rights (Amid, One), proofs/Narrow, store/proofs/Listing.
+-- Read first: specs/Rights (Amid, One), proofs/Narrow, slots/proofs/{Listing, Layouts}.
 use mathlib.Core.Path.{_≡_, refl, sym, ap, _∙_, subst}
 use mathlib.Core.List.{List, _∷_, _++_, map-append}
-use Prim.Native.Nat.{ℕ, _+_, _-_, _*_, _<_, _≤_}
+use Prim.Native.Nat.{ℕ, suc, _+_, _-_, _<_}
 use native.Mathlib.Omega.{arith}
+use native.Mathlib.Decide.{ℕ-discrete}
 use native.Mathlib.Nat.{sub-zero}
-use lib.ListN.{length, getD, drop, take, length-append, length-drop, length-take, length-map}
-use lib.Seq.{length-take-le}
-use Rattle.terms.specs.Term.{Term}
+use lib.ListN.{length, drop, take, length-map}
+use Rattle.limits.specs.Limits.{most-symbols, most-variables, most-apart}
+use Rattle.terms.proofs.Shape.{zero≢one}
+use Rattle.terms.specs.Term.{Term, Pair, size}
 use Rattle.terms.proofs.Flats.{widen, made-wf}
 use Rattle.rewriting.specs.Overlap.{Rule, sides-of}
-use Rattle.rewriting.specs.Rewrite.{Paid, done, stop, normalise, goes-on}
-use Rattle.rewriting.proofs.Holds.{Holds, goes-on≢end}
-use Rattle.redex.specs.Stored.{Layout, RuleAt, Stored}
-use Rattle.normaliser.specs.Settled.{NormalIs, Normalised}
-use Rattle.normaliser.specs.declared.Normal.{Normal}
-use Rattle.store.specs.Slots.{patched, OnlySlot, RightIs}
-use Rattle.store.proofs.Patching.{patched-here}
-use Rattle.store.proofs.Listing.{slot-kept, short-at, short-right, stored-split, stored-first, stored-right, layout-kept}
-use Rattle.compose.specs.Rights.{Amid, OneIs, One}
+use Rattle.rewriting.specs.Rewrite.{Paid, done, stop, normalise, End, complete, neither-above, spent, too-large, rules-full, log-full}
+use Rattle.rewriting.specs.Ends.{ending}
+use Rattle.rewriting.specs.declared.Verdict.{Verdict}
+use Rattle.rewriting.specs.declared.Verdict.the-variants.{GoesOn, Ends}
+use Rattle.rewriting.specs.declared.End.the-variants.{Spent, TooLarge}
+use Rattle.rewriting.proofs.Holds.{Holds}
+use Rattle.slots.specs.Slots.{slot, mark-of, right-of, Layout, PairAt, Stored, OnlySlot, PutRight}
+use Rattle.slots.proofs.Listing.{all-split, all-join, all-first, all-rest, all-cons, stored-moved}
+use Rattle.slots.proofs.Layouts.{layout-put, pair-right}
+use Rattle.normaliser.specs.Settled.{FormStops, NormalIs, Normalised}
+use Rattle.normaliser.specs.declared.Form.{Form}
+use Rattle.normaliser.specs.declared.Form.the-variants.{Normal, Spent as SpentForm, TooLarge as TooLargeForm}
+use Rattle.normaliser.specs.declared.Reached.{Reached}
+use Rattle.compose.specs.Rights.{Amid, RightsOnly, NoForms, OneIs, One}
 use Rattle.compose.proofs.Narrow.{Below, normal-below}
 
 pub sides-append : (a b : List Rule) → sides-of (a ++ b) ≡ sides-of a ++ sides-of b
@@ -27,69 +34,116 @@ sides-append = map-append (λ r. r .sides)
 length-sides : (a : List Rule) → length (sides-of a) ≡ length a
 length-sides a = length-map a (λ r. r .sides)
 
-rule-here : (tab rules lens : List ℕ) (k older : ℕ) (before : List Rule) (old : Rule) (after : List Rule) → Amid tab rules lens k older before old after → RuleAt tab rules lens k (old .sides)
-rule-here tab rules lens k older before old after h =
-    let s = stored-split tab rules lens 0 (sides-of before) (sides-of (old ∷ after)) (subst (λ z. Stored tab rules lens 0 z) (sides-append before (old ∷ after)) (h .stored)) in
+-- nothing changed
+pub rights-none : (a e : ℕ) (slots : List ℕ) → RightsOnly a e slots slots
+rights-none a e slots = record { same = refl; marks = λ i. refl; before = λ i h. refl; behind = λ i h. refl; layout = λ n y. y }
+
+-- the end that each form of a stop is
+pub for-spent : (f : Form) → f ≡ SpentForm → (c : End) → FormStops c f → (Ends Spent ≡ Ends (ending c)) × NoForms c
+unfolding ending
+for-spent f e complete h = absurd h
+for-spent f e (neither-above g) h = absurd h
+for-spent f e spent h = (refl, λ g q. zero≢one (cc))
+for-spent f e too-large h = absurd (zero≢one (cc))
+for-spent f e rules-full h = absurd h
+for-spent f e log-full h = absurd h
+
+pub for-large : (f : Form) → f ≡ TooLargeForm → (c : End) → FormStops c f → (Ends TooLarge ≡ Ends (ending c)) × NoForms c
+unfolding ending
+for-large f e complete h = absurd h
+for-large f e (neither-above g) h = absurd h
+for-large f e spent h = absurd (zero≢one (cc))
+for-large f e too-large h = (refl, λ g q. zero≢one (cc))
+for-large f e rules-full h = absurd h
+for-large f e log-full h = absurd h
+
+rule-here : (tab rules : List ℕ) (k count : ℕ) (before : List Rule) (old : Rule) (after : List Rule) → Amid tab rules k count before old after → PairAt most-variables tab rules k (old .sides)
+rule-here tab rules k count before old after h =
+    let s = all-split _ 0 (sides-of before) (sides-of (old ∷ after)) (subst (λ z. Stored tab rules 0 z) (sides-append before (old ∷ after)) (h .stored)) in
     let e : 0 + length (sides-of before) ≡ k = omega (arith, length-sides before, h .place) in
-    stored-first tab rules lens k (old .sides) (sides-of after) (subst (λ z. Stored tab rules lens z (sides-of (old ∷ after))) e (s .1))
+    all-first _ k (old .sides) (sides-of after) (subst (λ z. Stored tab rules z (sides-of (old ∷ after))) e (s .1))
 
-module _ (tab rules lens : List ℕ) (k older count units n : ℕ) (t₀ t t′ : List ℕ) (o : Normal) (y : Layout tab rules lens (older + 1)) (lower : k < older) (all : count ≡ older + 1) (room : 120 ≤ length t₀)
-    (len : n ≡ getD lens (2 * k + 1) 0) (copied : t ≡ patched 0 (take n (drop (240 * k + 120) rules)) t₀) (s : Normalised tab rules lens count t t′ n units o) where
-  front : take n t ≡ take n (drop (240 * k + 120) rules)
-  front =
-      let p : List ℕ = take n (drop (240 * k + 120) rules) in
-      let q = short-at tab rules lens (older + 1) k y (omega arith) .right in
-      let v = y .slots in
-      let m : length p ≡ n = length-take-le n (drop (240 * k + 120) rules) (omega (arith, length-drop (240 * k + 120) rules)) in
-      ap (take n) copied ∙ ap (λ z. take z (patched 0 p t₀)) (sym m) ∙ patched-here 0 p t₀ (omega arith)
+-- another right side in slot k
+right-put : (tab rules : List ℕ) (k : ℕ) (right rules′ : List ℕ) (before : List Pair) (old : Pair) (after : List Pair) (x : Term) → length before ≡ k →
+    OnlySlot rules k rules′ → PairAt most-variables tab rules′ k (record { left = old .left; right = x }) →
+    Stored tab rules 0 (before ++ (old ∷ after)) → Stored tab rules′ 0 (before ++ (record { left = old .left; right = x } ∷ after))
+right-put tab rules k right rules′ before old after x e only here h =
+    let s = all-split _ 0 before (old ∷ after) h in
+    let f : 0 + length before ≡ k = omega (arith, e) in
+    let t = all-rest _ k old after (subst (λ z. Stored tab rules z (old ∷ after)) f (s .1)) in
+    all-join _ 0 before (record { left = old .left; right = x } ∷ after)
+    (stored-moved tab rules rules′ 0 0 before (λ i q. only .others (0 + i) (λ d. omega arith)) (s .0))
+    (subst (λ z. Stored tab rules′ z (record { left = old .left; right = x } ∷ after)) (sym f)
+    (all-cons _ k (record { left = old .left; right = x }) after here (stored-moved tab rules rules′ (suc k) (suc k) after (λ i q. only .others (suc k + i) (λ d. omega arith)) t)))
 
-  module _ (before : List Rule) (old : Rule) (after : List Rule) (h : Amid tab rules lens k older before old after) where
-    here : RuleAt tab rules lens k (old .sides)
-    here = rule-here tab rules lens k older before old after h
+module _ (tab rules : List ℕ) (k count units : ℕ) (t out out′ : List ℕ) (o : Reached) (y : Layout rules count) (lower : k < count)
+    (is : t ≡ right-of (slot rules k)) (s : Normalised tab rules count t out out′ units o) where
+  module _ (before : List Rule) (old : Rule) (after : List Rule) (h : Amid tab rules k count before old after) where
+    here : PairAt most-variables tab rules k (old .sides)
+    here = rule-here tab rules k count before old after h
 
-    normalised : NormalIs tab t′ units o (normalise (before ++ (old ∷ after)) (old .sides .right) units)
+    normalised : NormalIs tab out′ units o (normalise (before ++ (old ∷ after)) (old .sides .right) units)
     normalised =
-        let e : count ≡ length (before ++ (old ∷ after)) = omega (arith, length-append before (old ∷ after), h .total) in
-        s .answer (before ++ (old ∷ after)) (h .stored) e (old .sides .right) (widen 16 32 tab (old .sides .right) (omega arith) (here .right-wf))
-        (front ∙ ap (λ z. take z (drop (240 * k + 120) rules)) len ∙ here .right-bytes)
+        s .answer (before ++ (old ∷ after)) (h .stored) (sym (h .total)) (old .sides .right)
+        (widen most-variables most-apart tab (old .sides .right) (omega arith) (here .sides .right-wf)) (is ∙ here .sides .right-bytes)
 
-    low : Holds (Below 16) (λ e m. Unit {0}) (normalise (before ++ (old ∷ after)) (old .sides .right) units)
-    low = normal-below tab rules lens (before ++ (old ∷ after)) (h .stored) (old .sides .right) (here .right-wf) units
+    low : Holds (Below most-variables) (λ e m. Unit {0}) (normalise (before ++ (old ∷ after)) (old .sides .right) units)
+    low = normal-below tab rules (before ++ (old ∷ after)) (h .stored) (old .sides .right) (here .sides .right-wf) units
 
   -- no answer: nothing is written
-  pub stopped : (o .verdict ≡ goes-on → ⊥) → One tab rules lens rules lens k older units (record { verdict = o .verdict; units = units - o .paid })
-  stopped v = record { only = slot-kept rules lens k; layout = y; left-over = omega arith; answer = λ before old after h. go before old after (normalise (before ++ (old ∷ after)) (old .sides .right) units) (normalised before old after h) }
+  pub stopped : (v : Verdict) → ((n : ℕ) → o .form ≡ Normal n → ⊥) → ((c : End) → FormStops c (o .form) → (v ≡ Ends (ending c)) × NoForms c) →
+      One tab rules rules k count units (record { verdict = v; units = units - o .paid })
+  stopped v none ends = record {
+    only = rights-none k (k + 1) rules;
+    left-over = omega arith;
+    answer = λ before old after h. go before old after (normalise (before ++ (old ∷ after)) (old .sides .right) units) (normalised before old after h);
+  }
     where
-      go : (before : List Rule) (old : Rule) (after : List Rule) (p : Paid Term) → NormalIs tab t′ units o p → OneIs tab rules lens before old after (record { verdict = o .verdict; units = units - o .paid }) p
-      go before old after (done x left) e = absurd (v (e .0))
-      go before old after (stop c left) e = (e .0, omega (arith, e .1))
+      go : (before : List Rule) (old : Rule) (after : List Rule) (p : Paid Term) → NormalIs tab out′ units o p →
+          OneIs tab rules before old after (record { verdict = v; units = units - o .paid }) p
+      go before old after (done x left) e = absurd (none (size x) (e .0))
+      go before old after (stop c left) e = let q = ends c (e .0) in (q .0, omega (arith, e .1), q .1)
 
   -- the answer is written
-  module _ (rules′ lens′ : List ℕ) (written : RightIs rules lens k (take (o .len - 0) (drop 0 t′)) rules′ lens′) (only : OnlySlot rules lens k rules′ lens′) where
-    short : length (take (o .len - 0) (drop 0 t′)) ≤ 120
-    short = omega (arith, s .small, length-take (o .len - 0) (drop 0 t′))
+  module _ (len : ℕ) (normal : o .form ≡ Normal len) (rules′ : List ℕ) (written : PutRight rules k (take (len - 0) (drop 0 out′)) rules′) where
+    only-right : RightsOnly k (k + 1) rules rules′
+    only-right = record {
+      same = written .only .same;
+      marks = λ i. mark-kept i (ℕ-discrete i k);
+      before = λ i h. written .only .others i (λ e. omega arith);
+      behind = λ i h. written .only .others i (λ e. omega arith);
+      layout = λ n z. layout-put z (written .only) (written .short (y .short k lower));
+    }
+      where
+        mark-kept : (i : ℕ) → Dec (i ≡ k) → mark-of (slot rules′ i) ≡ mark-of (slot rules i)
+        mark-kept i (yes e) = rw e (written .mark)
+        mark-kept i (no n) = ap mark-of (written .only .others i n)
 
-    pub composed : o .verdict ≡ goes-on → One tab rules lens rules′ lens′ k older units (record { verdict = goes-on; units = units - o .paid })
-    composed v = record {
-      only = only;
-      layout = layout-kept tab rules lens rules′ lens′ k only (short-right (short-at tab rules lens (older + 1) k y (omega arith)) written short) (older + 1) y;
+    pub composed : One tab rules rules′ k count units (record { verdict = GoesOn; units = units - o .paid })
+    composed = record {
+      only = only-right;
       left-over = omega arith;
       answer = λ before old after h. go before old after h (normalise (before ++ (old ∷ after)) (old .sides .right) units) (normalised before old after h) (low before old after h);
     }
       where
-        go : (before : List Rule) (old : Rule) (after : List Rule) → Amid tab rules lens k older before old after →
-            (p : Paid Term) → NormalIs tab t′ units o p → Holds (Below 16) (λ e m. Unit {0}) p → OneIs tab rules′ lens′ before old after (record { verdict = goes-on; units = units - o .paid }) p
+        go : (before : List Rule) (old : Rule) (after : List Rule) → Amid tab rules k count before old after →
+            (p : Paid Term) → NormalIs tab out′ units o p → Holds (Below most-variables) (λ e m. Unit {0}) p →
+            OneIs tab rules′ before old after (record { verdict = GoesOn; units = units - o .paid }) p
         go before old after h (done x left) e b =
-            let a : length (sides-of before) ≡ k = length-sides before ∙ h .place in
-            let d : length (sides-of after) ≡ length after = length-sides after in
-            let m : length before + length after ≡ older = h .total in (
+            let n : len ≡ size x = cc in (
               refl,
               omega (arith, e .1),
-              stored-right tab rules lens rules′ lens′ (take (o .len - 0) (drop 0 t′)) (older + 1) (sides-of before) (old .sides) (sides-of after) x y (omega (arith, h .place))
-                  (subst (λ z. OnlySlot rules lens z rules′ lens′) (sym a) only)
-                  (subst (λ z. RightIs rules lens z (take (o .len - 0) (drop 0 t′)) rules′ lens′) (sym a) written)
-                  (made-wf (λ f. f < 16) 32 16 tab x (e .4) b)
-                  (ap (λ z. take z t′) (sub-zero (o .len)) ∙ e .3)
-                  (subst (λ z. Stored tab rules lens 0 z) (sides-append before (old ∷ after)) (h .stored)),
+              right-put tab rules k (take (len - 0) (drop 0 out′)) rules′ (sides-of before) (old .sides) (sides-of after) x (length-sides before ∙ h .place) (written .only)
+                  (pair-right written (here before old after h) (made-wf (λ f. f < most-symbols) most-apart most-variables tab x (e .3) b)
+                  (ap (λ z. take z out′) (sub-zero len ∙ n) ∙ e .2))
+                  (subst (λ z. Stored tab rules 0 z) (sides-append before (old ∷ after)) (h .stored)),
             )
-        go before old after h (stop c left) e b = absurd (goes-on≢end c (sym v ∙ e .0))
+        go before old after h (stop c left) e b = absurd (no-stop c (e .0))
+          where
+            no-stop : (c : End) → FormStops c (o .form) → ⊥
+            no-stop complete q = q
+            no-stop (neither-above g) q = q
+            no-stop spent q = zero≢one (cc)
+            no-stop too-large q = zero≢one (cc)
+            no-stop rules-full q = q
+            no-stop log-full q = q
