@@ -13,13 +13,14 @@ use Rattle.rewriting.proofs.Relations.{Join, Rules, Step, Of}
 use Rattle.rewriting.proofs.Steps.{join-subst}
 use Rattle.rewriting.proofs.Stepping.{StepBy}
 use Rattle.rewriting.proofs.Finite.{lhs, rhs}
+use Rattle.rewriting.proofs.Overlaps.{OverlapsJoin}
 use Rattle.rewriting.proofs.Covers.{sides-at, all-places-cover}
 use Rattle.rewriting.proofs.Holds.{reached-star}
 use Rattle.problem.specs.Problem.{ok, Equation, Problem, parse}
 use Rattle.rewriting.specs.Rewrite.{complete}
 use Rattle.completion.specs.Turn.{Origin, scanned-input, candidates, run}
 use Rattle.completion.proofs.Words.{equation-sides}
-use Rattle.completion.proofs.Ends.{SameForm, SameAt, SameCandidate, Certified}
+use Rattle.completion.proofs.Ends.{SameForm, SameAt, OverlapsSame, SameCandidate, Certified}
 use Rattle.completion.proofs.Reachable.{run-complete}
 use Rattle.completion.proofs.Invariant.{Good, GoodRules, run-good}
 use Rattle.completion.proofs.Over.{OverEquations}
@@ -28,12 +29,16 @@ use Rattle.completion.proofs.Accepts.{accepts}
 use Rattle.completion.proofs.Certificate.{Certificate}
 
 -- A renamed pair joins, so the pair does.
-renamed-joins : (R : Rules) (e : Pair) → Join (Step R) (renamed e .left) (renamed e .right) → Join (Step R) (e .left) (e .right)
+pub renamed-joins : (R : Rules) (e : Pair) → Join (Step R) (renamed e .left) (renamed e .right) → Join (Step R) (e .left) (e .right)
 renamed-joins R e j = subst₂ (Join (Step R)) (renamed-back e .0) (renamed-back e .1) (join-subst _ j)
 
 -- One normal form for both sides joins them.
-same-join : {rules : List Rule} {e : Pair} → SameForm rules e → Join (StepBy rules) (e .left) (e .right)
+pub same-join : {rules : List Rule} {e : Pair} → SameForm rules e → Join (StepBy rules) (e .left) (e .right)
 same-join h = record { at = h .to; left = reached-star (h .left .reached); right = reached-star (h .right .reached) }
+
+-- One normal form for both sides of each overlap joins all that `overlap` finds.
+pub overlaps-same-join : (rules : List Rule) → OverlapsSame rules → OverlapsJoin (sides-of rules)
+overlaps-same-join rules h i j n hi hj lt q o v = renamed-joins (Of (sides-of rules)) (o .sides) (same-join (all-places-cover (SameAt rules) rules h i j n hi hj lt q o v))
 
 inputs-join : (rules : List Rule) (origin : ℕ → Origin) (k : ℕ) (es : List Equation) → Every (SameCandidate rules) (candidates origin k es) →
     (i : ℕ) → i < length (equation-sides es) → Join (StepBy rules) (lhs (equation-sides es) i) (rhs (equation-sides es) i)
@@ -56,6 +61,5 @@ run-certificate bytes P read d =
       low = λ i h. sides-at (Good P) good i h .low;
       equal = λ i h. sides-at (Good P) good i h .equal;
       equations-join = inputs-join rules scanned-input 1 (P .equations) (c .inputs-same);
-      overlaps-join = λ i j n hi hj lt q o v.
-          renamed-joins (Of (sides-of rules)) (o .sides) (same-join (all-places-cover (SameAt rules) rules (c .overlaps) i j n hi hj lt q o v));
+      overlaps-join = overlaps-same-join rules (c .overlaps);
     }

@@ -75,7 +75,7 @@ module _ (P : Problem) (R W T : Pair → Type 0) (k : Closed P R W T) where
         subst (λ (d : Candidate). T (d .sides)) (sym e) (k .overlapped (at .inner .sides) (at .outer .sides) (at .position) o (z .is) small (both .inner-holds) (both .outer-holds)),
         subst (Every WaitingHas) (sym q) of-none,
       )
-  source-has s h c cs (of-input w i q) = (k .taken (c .sides) (every-in (candidates-every W scanned-input 1 (P .equations) (k .given)) i), subst (Every WaitingHas) (sym q) of-none)
+  source-has s h c cs (of-input w a i q) = (k .taken (c .sides) (every-in (candidates-every W scanned-input 1 (P .equations) (k .given)) i), subst (Every WaitingHas) (sym q) of-none)
 
   pub taken-has : (s : State) → Has s → (t : Taken) → Takes P s t → T (t .pair .sides) × Every WaitingHas (t .waiting)
   taken-has s h t g =

@@ -34,12 +34,25 @@ pub record Small (o : Overlap) : Type 0 where
   pub left : size (o .sides .left) ≤ 120
   pub right : size (o .sides .right) ≤ 120
 
--- the pair before it is normalised, and the equations that wait behind it: the oldest of the waiting list, an overlap, an input
+-- one normal form for both sides, of a pair and of the overlap at a place
+pub record SameForm (rules : List Rule) (e : Pair) : Type 0 where
+  pub to : Term
+  pub left : Form rules (e .left) to
+  pub right : Form rules (e .right) to
+
+abbrev pub SameAt : List Rule → Pair → Pair → ℕ → Type 0
+SameAt rules inner outer p = (o : Overlap) → overlap inner outer p ≡ some o → SameForm rules (renamed (o .sides))
+
+abbrev pub OverlapsSame : List Rule → Type 0
+OverlapsSame rules = Every (HoldsAt (SameAt rules)) (all-places [] rules)
+
+-- the pair before it is normalised, and the equations that wait behind it: the oldest of the waiting list, an overlap, an input when all overlaps
+-- have one form
 pub data Source (P : Problem) (s : State) : Candidate → List Candidate → Type 0 where
   of-waiting : {c : Candidate} {cs : List Candidate} → s .waiting ≡ c ∷ cs → Source P s c cs
   of-overlap : {c : Candidate} {cs : List Candidate} (at : Place) (o : Overlap) → Scanned s at o → Small o →
       c ≡ record { origin = overlapping (at .inner .number) (at .outer .number) (at .position); sides = renamed (o .sides) } → cs ≡ [] → Source P s c cs
-  of-input : {c : Candidate} {cs : List Candidate} → s .waiting ≡ [] → List·Memᴰ c (inputs P) → cs ≡ [] → Source P s c cs
+  of-input : {c : Candidate} {cs : List Candidate} → s .waiting ≡ [] → OverlapsSame (s .rules) → List·Memᴰ c (inputs P) → cs ≡ [] → Source P s c cs
 
 -- the pair as its normal forms
 pub record Takes (P : Problem) (s : State) (t : Taken) : Type 0 where
@@ -73,20 +86,12 @@ pub data Next (P : Problem) (s : State) : State → Type 0 where
       (done : List Rule) → Rights (new-rule s sides) (older-rules s sides) done [] → s′ ≡ next-state s t sides (done ++ (new-rule s sides ∷ [])) → Next P s s′
 
 -- 0: nothing waits, the sides of each overlap have one normal form, and so have those of each input equation.
-pub record SameForm (rules : List Rule) (e : Pair) : Type 0 where
-  pub to : Term
-  pub left : Form rules (e .left) to
-  pub right : Form rules (e .right) to
-
-abbrev pub SameAt : List Rule → Pair → Pair → ℕ → Type 0
-SameAt rules inner outer p = (o : Overlap) → overlap inner outer p ≡ some o → SameForm rules (renamed (o .sides))
-
 abbrev pub SameCandidate : List Rule → Candidate → Type 0
 SameCandidate rules c = SameForm rules (c .sides)
 
 pub record Certified (P : Problem) (s : State) : Type 0 where
   pub idle : s .waiting ≡ []
-  pub overlaps : Every (HoldsAt (SameAt (s .rules))) (all-places [] (s .rules))
+  pub overlaps : OverlapsSame (s .rules)
   pub inputs-same : Every (SameCandidate (s .rules)) (inputs P)
 
 -- 20: "neither side above the other"

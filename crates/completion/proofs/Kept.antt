@@ -159,7 +159,7 @@ module _ (P : Problem) (ok : Accepted P) where
     source-fits c cs (of-overlap at o z small e q) =
         let f : PlaceFits symbols (s .made) at = every-in (all-places-fit (s .rules) (lim .rules-fit)) (z .listed) in
         rw (e, q) (none-wait (overlapping (at .inner .number) (at .outer .number) (at .position)) (f .inner-fits .first, f .inner-fits .last, f .outer-fits .first, f .outer-fits .last, f .position-fits))
-    source-fits c cs (of-input w i q) = rw q (none-wait (c .origin) (every-in inputs-fit i .from))
+    source-fits c cs (of-input w a i q) = rw q (none-wait (c .origin) (every-in inputs-fit i .from))
 
     pub taken-fits : (t : Taken) → Takes P s t → TakenFits t
     taken-fits t g =

@@ -34,3 +34,11 @@ pub mod Instances
 pub mod Scanning
 pub mod Turning
 pub mod Comparing
+pub mod Reorders
+pub mod Soundness
+pub mod Deriving
+pub mod Confluent
+pub mod Postponed
+pub mod Encompassed
+pub mod Derived
+pub mod Published

@@ -19,7 +19,7 @@ use Rattle.rewriting.proofs.Covers.{HoldsAt}
 use Rattle.rewriting.proofs.Holds.{Form, Forms, Pays, bind-holds, return-holds, end-with-holds, end-if-holds, if-holds, pay-holds, hold-holds, normalise-holds, normalise-pair-holds}
 use Rattle.problem.specs.Problem.{Problem}
 use Rattle.completion.specs.Turn.{overlapping, Candidate, State, Taken, kept, scan-overlap, if-different, if-different-overlap, scan-inputs, scan, take-pair, orient, normalise-rights, make-rule, turn}
-use Rattle.completion.proofs.Ends.{inputs, Scanned, Source, of-waiting, of-overlap, of-input, Takes, Oriented, as-taken, other-way, Rights, none-yet, one-more, older-rules, Next, settles, makes, SameForm, SameAt, SameCandidate, Certified, Large, in-taking, in-overlap, in-right, variables, Because}
+use Rattle.completion.proofs.Ends.{inputs, Scanned, Source, of-waiting, of-overlap, of-input, Takes, Oriented, as-taken, other-way, Rights, none-yet, one-more, older-rules, Next, settles, makes, SameForm, SameAt, OverlapsSame, SameCandidate, Certified, Large, in-taking, in-overlap, in-right, variables, Because}
 
 module _ (P : Problem) (s : State) where
   abbrev pub E : End → ℕ → Type 0
@@ -53,12 +53,12 @@ module _ (P : Problem) (s : State) where
   different c f next h k go =
       if-holds _ _ _ (λ b. go (same-form (c .sides) f (same-dec (f .left) (f .right) .0 b) k)) (λ _. return-holds _ (record { of = c; source = h; origin = refl; forms = k }))
 
-  scan-inputs-traced : s .waiting ≡ [] → (cs : List Candidate) → Every (λ c. List·Memᴰ c (inputs P)) cs → (Every (SameCandidate (s .rules)) cs → Certified P s) → Pays Found E (scan-inputs (s .rules) cs)
+  scan-inputs-traced : s .waiting ≡ [] → OverlapsSame (s .rules) → (cs : List Candidate) → Every (λ c. List·Memᴰ c (inputs P)) cs → (Every (SameCandidate (s .rules)) cs → Certified P s) → Pays Found E (scan-inputs (s .rules) cs)
   unfolding scan-inputs Because
-  scan-inputs-traced w [] of-none k = end-with-holds complete (λ _. k of-none)
-  scan-inputs-traced w (c ∷ cs) (of-cons i h) k =
-      bind-holds _ _ (forms c [] (of-input w i refl)) λ f g.
-      different c f (scan-inputs (s .rules) cs) (of-input w i refl) g λ q. scan-inputs-traced w cs h (λ qs. k (of-cons q qs))
+  scan-inputs-traced w a [] of-none k = end-with-holds complete (λ _. k of-none)
+  scan-inputs-traced w a (c ∷ cs) (of-cons i h) k =
+      bind-holds _ _ (forms c [] (of-input w a i refl)) λ f g.
+      different c f (scan-inputs (s .rules) cs) (of-input w a i refl) g λ q. scan-inputs-traced w a cs h (λ qs. k (of-cons q qs))
 
   -- an overlap and its forms
   abbrev place-candidate : Place → Overlap → Candidate
@@ -88,9 +88,10 @@ module _ (P : Problem) (s : State) where
       different (place-candidate at (h .0)) f next (h .2) (h .3) λ q. go (λ v e. subst (λ (w : Overlap). SameForm (s .rules) (renamed (w .sides))) (some-inj (sym (h .1) ∙ e)) q)
 
   scan-traced : s .waiting ≡ [] → (ps : List Place) → Every (λ at. List·Memᴰ at (all-places [] (s .rules))) ps →
-      (Every (HoldsAt (SameAt (s .rules))) ps → Every (SameCandidate (s .rules)) (inputs P) → Certified P s) → Pays Found E (scan (s .rules) (inputs P) ps)
+      (Every (HoldsAt (SameAt (s .rules))) ps → OverlapsSame (s .rules)) → Pays Found E (scan (s .rules) (inputs P) ps)
   unfolding scan
-  scan-traced w [] of-none k = scan-inputs-traced w (inputs P) (every-of _ (λ c i. i)) (k of-none)
+  scan-traced w [] of-none k =
+      scan-inputs-traced w (k of-none) (inputs P) (every-of _ (λ c i. i)) (λ b. record { idle = w; overlaps = k of-none; inputs-same = b })
   scan-traced w (at ∷ ps) (of-cons i h) k =
       bind-holds _ _ (scan-overlap-traced at (overlap (at .inner .sides) (at .outer .sides) (at .position)) (λ v e. record { idle = w; listed = i; is = e })) λ f g.
       different-overlap at _ f (scan (s .rules) (inputs P) ps) g λ q. scan-traced w ps h (λ qs. k (of-cons q qs))
@@ -98,7 +99,7 @@ module _ (P : Problem) (s : State) where
   take-traced : (waiting : List Candidate) → s .waiting ≡ waiting → Pays (Takes P s) E (take-pair P (s .rules) waiting)
   unfolding take-pair
   take-traced [] w =
-      bind-holds _ _ (scan-traced w (all-places [] (s .rules)) (every-of _ (λ at i. i)) (λ a b. record { idle = w; overlaps = a; inputs-same = b })) λ c f.
+      bind-holds _ _ (scan-traced w (all-places [] (s .rules)) (every-of _ (λ at i. i)) (λ a. a)) λ c f.
       return-holds _ (record { of = f .of; source = f .source; origin = f .origin; forms = f .forms })
   take-traced (c ∷ waiting) w =
       bind-holds _ _ (forms c waiting (of-waiting w)) λ f g.
