@@ -26,7 +26,8 @@ use Rattle.completion.proofs.Kept.{PlaceFits, all-places-fit, kept-remo
 use Rattle.completion.proofs.Kept
 use Rattle.completion.proofs.Ends.{Takes, Because}
 use Rattle.completion.proofs.Traced.{takes}
-use Rattle.completion.proofs.Reachable.{Reachable, run-units}
+use Rattle.completion.proofs.Reachable.{Reachable}
+use Rattle.completion.proofs.Stopped.{run-units}
 use Rattle.completion.proofs.Accepts.{accepts}
 use Rattle.completion.proofs.Result.{result-length, result-is-bytes}
 

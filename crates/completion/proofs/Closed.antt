@@ -17,9 +17,9 @@ use Rattle.rewriting.specs.Overlap.{Rule, Overlap, overlap}
 use Rattle.rewriting.proofs.Covers.{BothHold, all-places-hold}
 use Rattle.rewriting.proofs.Holds.{Reached}
 use Rattle.problem.specs.Problem.{rank-of, Equation, Problem}
-use Rattle.completion.specs.Turn.{Origin, removed-rule, Candidate, scanned-input, waiting-input, State, Taken, candidates, initial, rewrites, kept, removed, settled, run}
+use Rattle.completion.specs.Turn.{Origin, removed-rule, Candidate, scanned-input, waiting-input, State, Taken, candidates, initial, rewrites, kept, removed, settled}
 use Rattle.completion.proofs.Ends.{Small, Source, of-waiting, of-overlap, of-input, Takes, Oriented, as-taken, other-way, Rights, none-yet, one-more, Next, settles, makes}
-use Rattle.completion.proofs.Reachable.{Reachable, from-start, by-turn, turn-next, run-stops}
+use Rattle.completion.proofs.Reachable.{Reachable, from-start, by-turn, turn-next}
 
 -- Every rule is kept or joins the waiting list.
 module _ {Q : Rule → Type 0} (new : Rule) where
@@ -113,6 +113,3 @@ module _ (P : Problem) (R W T : Pair → Type 0) (k : Closed P R W T) where
   unfolding initial
   reachable-has (from-start e b) = rw e (record { rules = of-none; waiting = candidates-every W waiting-input 1 (P .equations) (k .given) })
   reachable-has (by-turn {s} {s′} {left} {left′} r e) = next-has s s′ (reachable-has r) (turn-next P s s′ left left′ e)
-
-  pub run-has : Has (run P .state)
-  run-has = reachable-has (run-stops P .reachable)

@@ -22,7 +22,7 @@ use Rattle.problem.specs.Problem.{Problem}
 use Rattle.completion.specs.Transitions.{Properly}
 use Rattle.completion.specs.Turn.{removed-rule, Candidate, State, initial, rewrites, kept, removed, settled}
 use Rattle.completion.proofs.Words.{ItemOf, item-of, rule-sides}
-use Rattle.completion.proofs.Turning.{new-rule}
+use Rattle.completion.proofs.Sentences.{new-rule}
 use Rattle.completion.proofs.Ends.{Oriented, as-taken, other-way, Rights, none-yet, one-more, with-right, Next, settles, makes}
 use Rattle.completion.proofs.Reachable.{Reachable, from-start, by-turn, turn-next}
 use Rattle.completion.proofs.Postponed.{Reduces, ReducesRemoved, Postponed, reachable-postponed, own-left, source-rest, inputs-not-removed}

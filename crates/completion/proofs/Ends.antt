@@ -1,5 +1,5 @@
 -- What a turn does, and what each of its ends says of the state that it began with. Assumes nothing.
--- Read first: specs/Turn, rewriting/proofs/Holds, proofs/Turning (`next-state`).
+-- Read first: specs/Turn, rewriting/proofs/Holds, proofs/Sentences (`next-state`).
 use mathlib.Core.Path.{_≡_}
 use mathlib.Core.Bool.{true, false}
 use mathlib.Core.Logic.{_⊎_}
@@ -7,7 +7,7 @@ use mathlib.Core.List.{List, [], _∷_, _++_, List·Memᴰ}
 use mathlib.Core.Option.{some}
 use Prim.Native.Nat.{ℕ, suc, _≤_, _<_}
 use lib.ListN.{length}
-use Rattle.completion.proofs.Turning.{new-rule, next-state}
+use Rattle.completion.proofs.Sentences.{new-rule, next-state}
 use Rattle.terms.specs.Term.{Term, Pair, same, size, pair-variables, renamed}
 use Rattle.terms.proofs.Below.{swapped}
 use Rattle.terms.specs.Base.{Every}

@@ -26,9 +26,10 @@ use Rattle.rewriting.proofs.Lower.{above-lower}
 use Rattle.rewriting.proofs.Covers.{of-every}
 use Rattle.rewriting.proofs.Holds.{Reached, reached-star}
 use Rattle.problem.specs.Problem.{rank-of, Problem}
-use Rattle.completion.specs.Turn.{run}
+use Rattle.completion.specs.Turn.{State}
 use Rattle.completion.proofs.Words.{equation-sides, equation-pair, of-item}
-use Rattle.completion.proofs.Closed.{Closed, run-has}
+use Rattle.completion.proofs.Reachable.{Reachable}
+use Rattle.completion.proofs.Closed.{Closed, reachable-has}
 
 module _ (P : Problem) where
   abbrev pub Input : Rules
@@ -87,5 +88,5 @@ module _ (P : Problem) where
         put-off = λ e q. q .equal;
       }
 
-  pub run-good : GoodRules (run P .state .rules)
-  run-good = run-has P Good Equal Equal good-closed .rules
+  pub reachable-good : {s : State} {left : ℕ} → Reachable P s left → GoodRules (s .rules)
+  reachable-good r = reachable-has P Good Equal Equal good-closed r .rules

@@ -7,7 +7,7 @@ use mathlib.Core.Option.{some}
 use Prim.Native.Nat.{ℕ, suc, _+_, _≤_, _<_}
 use native.Mathlib.Omega.{arith}
 use lib.ListN.{length, length-append, length-map}
-use Rattle.completion.proofs.Turning.{new-rule, next-state}
+use Rattle.completion.proofs.Sentences.{new-rule, next-state}
 use Rattle.terms.specs.Base.{if_then_else_, Every, of-none, of-cons}
 use Rattle.terms.specs.Term.{Term, Pair, size, renamed}
 use Rattle.terms.proofs.Every.{every-head, every-tail, every-one, every-in, every-append, every-map, every-both, every-mapped, mapped-every}
@@ -21,7 +21,8 @@ use Rattle.completion.specs.Turn.{Origin, overlapping, scanned-input, Ca
 use Rattle.completion.proofs.Limits.{HeldTo, HeldPair, OriginFits, CandidateFits, RuleFits, EntryFits, Ascending, numbers, Limits, Accepted, later-origin, later-candidate, later-entry, pair-wide, renamed-held, few-variables, candidates-fit, initial-limits}
 use Rattle.completion.proofs.Ends.{inputs, Small, Source, of-waiting, of-overlap, of-input, Takes, Rights, none-yet, one-more, with-right, older-rules, Next, settles, makes, Neither}
 use Rattle.completion.proofs.Closed.{Closed, Has, taken-has, next-has, kept-every, removed-every}
-use Rattle.completion.proofs.Reachable.{Reachable, from-start, by-turn, turn-next, run-stops}
+use Rattle.completion.proofs.Reachable.{Reachable, from-start, by-turn, turn-next}
+use Rattle.completion.proofs.Stopped.{run-stops}
 
 -- Places.
 pub record PlaceFits (n made : ℕ) (at : Place) : Type 0 where

@@ -1,3 +1,4 @@
+pub mod Sentences
 pub mod Lawful
 pub mod Units
 pub mod Stops
@@ -6,6 +7,7 @@ pub mod Words
 pub mod Ends
 pub mod Traced
 pub mod Reachable
+pub mod Stopped
 pub mod Closed
 pub mod Invariant
 pub mod AtEnd

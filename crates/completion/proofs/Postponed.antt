@@ -22,7 +22,7 @@ use Rattle.rewriting.proofs.Stepping.{StepBy, step-sound}
 use Rattle.problem.specs.Problem.{Equation, Problem}
 use Rattle.completion.specs.Turn.{waiting-input, removed-rule, Candidate, State, candidates, initial, rewrites, kept, removed, settled}
 use Rattle.completion.proofs.Words.{ItemOf, item-of, of-item, rule-sides}
-use Rattle.completion.proofs.Turning.{new-rule}
+use Rattle.completion.proofs.Sentences.{new-rule}
 use Rattle.completion.proofs.Ends.{Source, of-waiting, of-overlap, of-input, Rights, none-yet, one-more, with-right, Next, settles, makes}
 use Rattle.completion.proofs.Reachable.{Reachable, from-start, by-turn, turn-next}
 

@@ -21,7 +21,8 @@ use Rattle.completion.specs.Turn.{Entry, run}
 use Rattle.completion.specs.Calls.{rule-field, entry-field, forms-field, result-fields, result-bytes, complete-call}
 use Rattle.completion.specs.Promise.{fields-of, one-byte, end-in, rules-in, Promise, Delivers}
 use Rattle.completion.proofs.Limits.{RuleFits, Accepted, Limits}
-use Rattle.completion.proofs.OverRun.{OverRule, run-over}
+use Rattle.completion.proofs.OverRun.{OverRule, reachable-over}
+use Rattle.completion.proofs.Stopped.{run-stops}
 use Rattle.completion.proofs.Kept.{run-limits}
 use Rattle.completion.proofs.Accepts.{accepts}
 use Rattle.completion.proofs.Result.{fields-fit}
@@ -89,7 +90,7 @@ module _ (bytes : List ℕ) (P : Problem) (read : parse bytes ≡ ok P) where
   rules-read =
       rw (append-assoc (map rule-field (run P .state .rules)) (map entry-field (run P .state .log)) (forms-field (run P .end)))
       (rules-back (P .symbols) (accepted .symbols-few) (run P .state .rules) (map entry-field (run P .state .log) ++ forms-field (run P .end))
-      (every-map rule-fits (every-both (run-over (P .symbols) P (accepted .equations-over)) (limits .rules-fit)))
+      (every-map rule-fits (every-both (reachable-over (P .symbols) P (accepted .equations-over) (run-stops P .reachable)) (limits .rules-fit)))
       (no-rules (P .symbols) (accepted .symbols-few) _ (every-append (entries-other (run P .state .log)) (forms-other (run P .end)))))
 
   pub run-promise : Promise P (result-bytes (run P))

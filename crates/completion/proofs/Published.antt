@@ -24,12 +24,13 @@ use Rattle.problem.specs.Problem.{rank-of, Equation, Problem}
 use Rattle.completion.specs.Turn.{Origin, waiting-input, removed-rule, scanned-input, overlapping, Candidate, State, Taken, candidates, initial, kept, removed, settled, turn, run}
 use Rattle.completion.specs.Transitions.{Properly, System, _⨾_, pair, Reordered, unmoved, behind, moved, delete, orient, reorder, turn-round, rename-rule, Derivation, written}
 use Rattle.completion.specs.Systems.{if-removed, waiting-equations, waiting-rules, system-of, given}
-use Rattle.completion.proofs.Turning.{new-rule, next-state}
+use Rattle.completion.proofs.Sentences.{new-rule, next-state}
 use Rattle.completion.proofs.Words.{equation-sides}
 use Rattle.completion.proofs.Ends.{OverlapsSame, inputs, Source, of-waiting, of-overlap, of-input, Takes, Oriented, as-taken, other-way, Rights, Next, settles, makes}
-use Rattle.completion.proofs.Reachable.{Reachable, from-start, by-turn, turn-next, run-stops, run-complete}
-use Rattle.completion.proofs.Closed.{candidates-every, reachable-has}
-use Rattle.completion.proofs.Invariant.{Good, GoodRules, Equal, good-closed}
+use Rattle.completion.proofs.Reachable.{Reachable, from-start, by-turn, turn-next}
+use Rattle.completion.proofs.Stopped.{run-stops, run-complete}
+use Rattle.completion.proofs.Closed.{candidates-every}
+use Rattle.completion.proofs.Invariant.{Good, GoodRules, Equal, good-closed, reachable-good}
 use Rattle.completion.proofs.AtEnd.{overlaps-same-join}
 use Rattle.completion.proofs.Reorders.{with-behind, with-before, put-back, exchanged, reordered-eq}
 use Rattle.completion.proofs.Soundness.{Both, same-conversion, Falls, derivation-falls}
@@ -182,19 +183,16 @@ module _ (P : Problem) where
     next-derives p proper s′ (settles t h room q e) = rw e (settled-derives t q (taken-entered p proper t h))
     next-derives p proper s′ (makes t h room n few sides o live composed r e) = rw e (rule-derives t n (taken-entered p proper t h) sides o composed r)
 
-  rules-good : {s : State} {left : ℕ} → Reachable P s left → GoodRules P (s .rules)
-  rules-good r = reachable-has P (Good P) (Equal P) (Equal P) (good-closed P) r .rules
-
   -- Every state of a run is derived from the input equations,
   pub reachable-derived : {s : State} {left : ℕ} → Reachable P s left → Derivation rank Properly (given P) (system-of s)
   reachable-derived (from-start e b) = rw e initial-derived
   reachable-derived (by-turn {s} {s′} {left} {left′} r e) =
       let d : Derivation rank Properly (given P) (system-of s) = reachable-derived r in
-      derives rank d (next-derives s d (rules-good r) (reachable-postponed P r) (reachable-proper P r) s′ (turn-next P s s′ left left′ e))
+      derives rank d (next-derives s d (reachable-good P r) (reachable-postponed P r) (reachable-proper P r) s′ (turn-next P s s′ left left′ e))
 
   -- each turn that goes on by transitions from the state before it,
   pub turn-derives : {s : State} {left : ℕ} → Reachable P s left → (s′ : State) (left′ : ℕ) → turn P s left ≡ done s′ left′ → Derivation rank Properly (system-of s) (system-of s′)
-  turn-derives {s} {left} r s′ left′ e = next-derives s (reachable-derived r) (rules-good r) (reachable-postponed P r) (reachable-proper P r) s′ (turn-next P s s′ left left′ e)
+  turn-derives {s} {left} r s′ left′ e = next-derives s (reachable-derived r) (reachable-good P r) (reachable-postponed P r) (reachable-proper P r) s′ (turn-next P s s′ left left′ e)
 
   -- and so is what the run leaves; with end 0, as rules without an equation.
   pub run-derived : Derivation rank Properly (given P) (system-of (run P .state))
@@ -206,4 +204,4 @@ module _ (P : Problem) where
   -- The test of input equations at the scan finds nothing: each has one normal form once all overlaps have.
   pub inputs-same-forms : {s : State} {left : ℕ} → Reachable P s left → s .waiting ≡ [] → OverlapsSame (s .rules) → (c : Candidate) → List·Memᴰ c (inputs P) →
       (f : Pair) → Forms (s .rules) (c .sides) f → f .left ≡ f .right
-  inputs-same-forms {s} r = never-found s (reachable-derived r) (rules-good r)
+  inputs-same-forms {s} r = never-found s (reachable-derived r) (reachable-good P r)

@@ -12,7 +12,7 @@ use Rattle.completion.specs.Turn.{Candidate, State, Finished, initial, t
 use Rattle.completion.proofs.Lawful.{Unless, Other}
 use Rattle.completion.proofs.Steady.{WithMore, turn-steady}
 use Rattle.completion.proofs.Reachable.{Reachable, from-start, by-turn, turn-less}
-use Rattle.completion.proofs.Units.{turns-enough}
+use Rattle.completion.proofs.Stopped.{turns-enough}
 
 -- with k units more
 pub turn-more : (P : Problem) (s s′ : State) (left left′ k : ℕ) → turn P s left ≡ done s′ left′ → turn P s (left + k) ≡ done s′ (left′ + k)

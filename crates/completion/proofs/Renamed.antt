@@ -19,7 +19,8 @@ use Rattle.rewriting.proofs.Holds.{Reached, reached-star}
 use Rattle.rewriting.proofs.Variables.{Brings, brings-subst, star-brings}
 use Rattle.problem.specs.Problem.{rank-of, Problem}
 use Rattle.completion.specs.Turn.{Candidate, scanned-input, State, candidates, run}
-use Rattle.completion.proofs.Reachable.{Reachable, run-stops}
+use Rattle.completion.proofs.Reachable.{Reachable}
+use Rattle.completion.proofs.Stopped.{run-stops}
 use Rattle.completion.proofs.Closed.{Closed, candidates-every, reachable-has}
 use Rattle.completion.proofs.OverRun.{above-brings}
 

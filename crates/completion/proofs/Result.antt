@@ -18,7 +18,7 @@ use Rattle.completion.specs.Turn.{Origin, waiting-input, removed-rule, s
 use Rattle.completion.specs.Calls.{pair-bytes, rule-field, origin-bytes, entry-field, forms-field, result-fields, result-bytes}
 use Rattle.completion.proofs.Limits.{HeldPair, RuleFits, Limits, Accepted, renamed-held}
 use Rattle.completion.proofs.Ends.{Neither}
-use Rattle.completion.proofs.Reachable.{run-neither}
+use Rattle.completion.proofs.Stopped.{run-neither}
 use Rattle.completion.proofs.Kept.{run-limits, neither-fits}
 
 -- a field of at most so many bytes of contents, all of them bytes

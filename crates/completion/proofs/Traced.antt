@@ -8,7 +8,7 @@ use mathlib.Core.Option.{Option, none, some}
 use Prim.Native.Nat.{ℕ, _≤_, _<_}
 use lib.ListN.{length}
 use borrow.Author.Tests.{ltb-true, ltb-false, leb-true, leb-false}
-use Rattle.completion.proofs.Turning.{new-rule, next-state}
+use Rattle.completion.proofs.Sentences.{new-rule, next-state}
 use Rattle.terms.specs.Term.{Pair, same, pair-variables, renamed}
 use Rattle.terms.proofs.Shape.{none≢some, some-inj, same-dec}
 use Rattle.terms.specs.Base.{Every, of-none, of-cons}
