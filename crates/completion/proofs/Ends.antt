@@ -66,6 +66,15 @@ pub data Oriented (P : Problem) (e : Pair) : Pair → Type 0 where
   as-taken : {f : Pair} → above (rank-of (P .symbols)) (e .left) (e .right) ≡ true → f ≡ renamed e → Oriented P e f
   other-way : {f : Pair} → above (rank-of (P .symbols)) (e .right) (e .left) ≡ true → f ≡ renamed (swapped e) → Oriented P e f
 
+-- Steps 2 to 5 passed: of the pair that was taken a rule with these sides is made.
+pub record Due (P : Problem) (s : State) (sides : Pair) : Type 0 where
+  pub taken : Taken
+  pub takes : Takes P s taken
+  pub room : length (s .log) < 512
+  pub differ : same (taken .pair .sides .left) (taken .pair .sides .right) ≡ false
+  pub few : length (pair-variables (taken .pair .sides)) ≤ 16
+  pub oriented : Oriented P (taken .pair .sides) sides
+
 -- Step 7: of the older rules these were done, and these are to come.
 abbrev pub with-right : Rule → Term → Rule
 with-right old r = record { number = old .number; sides = record { left = old .sides .left; right = r } }
@@ -112,20 +121,28 @@ SideOf e t = (t ≡ e .left) ⊎ (t ≡ e .right)
 pub data Large (P : Problem) (s : State) : Type 0 where
   in-taking : (c : Candidate) (cs : List Candidate) → Source P s c cs → (t : Term) → SideOf (c .sides) t → Outgrown (s .rules) t → Large P s
   in-overlap : (at : Place) (o : Overlap) → Scanned s at o → (t : Term) → (t ≡ o .peak) ⊎ SideOf (o .sides) t → 120 < size t → Large P s
-  in-right : (new : Rule) (done later : List Rule) (old : Rule) → Rights new (kept new (s .rules)) done (old ∷ later) →
-      Outgrown (done ++ (old ∷ later) ++ (new ∷ [])) (old .sides .right) → Large P s
+  in-right : (sides : Pair) → Due P s sides → suc (length (older-rules s sides)) ≤ 32 → (done later : List Rule) (old : Rule) →
+      Rights (new-rule s sides) (older-rules s sides) done (old ∷ later) →
+      Outgrown (done ++ (old ∷ later) ++ (new-rule s sides ∷ [])) (old .sides .right) → Large P s
   variables : (t : Taken) → Takes P s t → 16 < length (pair-variables (t .pair .sides)) → Large P s
 
--- 23: "a 33rd live rule"
-pub record RulesFull (s : State) : Type 0 where
+-- 23: "a 33rd live rule", which the pair that was taken makes
+pub record RulesFull (P : Problem) (s : State) : Type 0 where
   pub sides : Pair
+  pub due : Due P s sides
   pub over : 32 < suc (length (older-rules s sides))
 
--- With so many units left, a turn that began with s ended so. 21 comes with none, and "a 513th log entry" is 23 too.
+-- 23: "a 513th log entry", of the pair that was taken
+pub record LogFull (P : Problem) (s : State) : Type 0 where
+  pub taken : Taken
+  pub takes : Takes P s taken
+  pub over : 512 ≤ length (s .log)
+
+-- With so many units left, a turn that began with s ended so. 21 comes with none.
 unfoldable pub Because : Problem → State → End → ℕ → Type 0
 Because P s complete left = Certified P s
 Because P s (neither-above e) left = Neither P s e
 Because P s spent left = left ≡ 0
 Because P s too-large left = Large P s
-Because P s rules-full left = RulesFull s
-Because P s log-full left = 512 ≤ length (s .log)
+Because P s rules-full left = RulesFull P s
+Because P s log-full left = LogFull P s

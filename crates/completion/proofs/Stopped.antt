@@ -9,7 +9,7 @@ use Rattle.rewriting.specs.Rewrite.{End, complete, neither-above, spent, too-la
 use Rattle.problem.specs.Problem.{Problem}
 use Rattle.completion.specs.Turn.{State, Finished, initial, turn, turns, run}
 use Rattle.completion.proofs.Units.{left-of, rest-of-turn}
-use Rattle.completion.proofs.Ends.{Certified, RulesFull, Because, Neither, Large}
+use Rattle.completion.proofs.Ends.{Certified, RulesFull, LogFull, Because, Neither, Large}
 use Rattle.completion.proofs.Reachable.{Reachable, from-start, by-turn, after, turn-less, stop-left, reachable-units}
 
 -- How a run ended: the state that it leaves, in which a turn stopped.
@@ -66,11 +66,11 @@ pub run-too-large : (P : Problem) → run P .end ≡ too-large → Large P (run 
 unfolding Because
 run-too-large P e = let h = run-because P in rw e at h
 
-pub run-rules-full : (P : Problem) → run P .end ≡ rules-full → RulesFull (run P .state)
+pub run-rules-full : (P : Problem) → run P .end ≡ rules-full → RulesFull P (run P .state)
 unfolding Because
 run-rules-full P e = let h = run-because P in rw e at h
 
-pub run-log-full : (P : Problem) → run P .end ≡ log-full → 512 ≤ length (run P .state .log)
+pub run-log-full : (P : Problem) → run P .end ≡ log-full → LogFull P (run P .state)
 unfolding Because
 run-log-full P e = let h = run-because P in rw e at h
 

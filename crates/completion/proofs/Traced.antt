@@ -5,7 +5,7 @@ use mathlib.Core.Bool.{false}
 use mathlib.Core.Logic.{inl, inr}
 use mathlib.Core.List.{List, [], _∷_, _++_, List·Memᴰ}
 use mathlib.Core.Option.{Option, none, some}
-use Prim.Native.Nat.{ℕ, _≤_, _<_}
+use Prim.Native.Nat.{ℕ, suc, _≤_, _<_}
 use lib.ListN.{length}
 use borrow.Author.Tests.{ltb-true, ltb-false, leb-true, leb-false}
 use Rattle.completion.proofs.Sentences.{new-rule, next-state}
@@ -19,7 +19,7 @@ use Rattle.rewriting.proofs.Covers.{HoldsAt}
 use Rattle.rewriting.proofs.Holds.{Form, Forms, Pays, bind-holds, return-holds, end-with-holds, end-if-holds, if-holds, pay-holds, hold-holds, normalise-holds, normalise-pair-holds}
 use Rattle.problem.specs.Problem.{Problem}
 use Rattle.completion.specs.Turn.{overlapping, Candidate, State, Taken, kept, scan-overlap, if-different, if-different-overlap, scan-inputs, scan, take-pair, orient, normalise-rights, make-rule, turn}
-use Rattle.completion.proofs.Ends.{inputs, Scanned, Source, of-waiting, of-overlap, of-input, Takes, Oriented, as-taken, other-way, Rights, none-yet, one-more, older-rules, Next, settles, makes, SameForm, SameAt, OverlapsSame, SameCandidate, Certified, Large, in-taking, in-overlap, in-right, variables, Because}
+use Rattle.completion.proofs.Ends.{inputs, Scanned, Source, of-waiting, of-overlap, of-input, Takes, Oriented, as-taken, other-way, Due, Rights, none-yet, one-more, older-rules, Next, settles, makes, SameForm, SameAt, OverlapsSame, SameCandidate, Certified, Large, in-taking, in-overlap, in-right, variables, Because}
 
 module _ (P : Problem) (s : State) where
   abbrev pub E : End → ℕ → Type 0
@@ -116,21 +116,27 @@ module _ (P : Problem) (s : State) where
       if-holds _ _ _ (λ b. return-holds _ (other-way b refl)) (λ b.
       end-with-holds (neither-above (t .pair .sides)) (λ _. record { taken = t; takes = h; is-taken = refl; differ = d; not-left = a; not-right = b; few = few; room = room })))
 
-  rights-traced : (new : Rule) (done later : List Rule) → Rights new (kept new (s .rules)) done later →
-      Pays (λ rules. (all : List Rule) × Rights new (kept new (s .rules)) all [] × (rules ≡ all ++ (new ∷ []))) E (normalise-rights done later new)
-  unfolding normalise-rights
-  rights-traced new done [] h = return-holds _ (done, h, refl)
-  rights-traced new done (old ∷ later) h =
-      bind-holds _ _ (normalise-holds E (done ++ (old ∷ later) ++ (new ∷ [])) out-of-units (old .sides .right) (λ o. large (in-right new done later old h o))) λ r f.
-      rights-traced new _ later (one-more h f refl)
+  module _ (sides : Pair) (due : Due P s sides) (live : suc (length (older-rules s sides)) ≤ 32) where
+    abbrev new : Rule
+    new = new-rule s sides
+
+    rights-traced : (done later : List Rule) → Rights new (older-rules s sides) done later →
+        Pays (λ rules. (all : List Rule) × Rights new (older-rules s sides) all [] × (rules ≡ all ++ (new ∷ []))) E (normalise-rights done later new)
+    unfolding normalise-rights
+    rights-traced done [] h = return-holds _ (done, h, refl)
+    rights-traced done (old ∷ later) h =
+        bind-holds _ _
+        (normalise-holds E (done ++ (old ∷ later) ++ (new ∷ [])) out-of-units (old .sides .right) (λ o. large (in-right sides due live done later old h o)))
+        λ r f. rights-traced _ later (one-more h f refl)
 
   make-traced : (t : Taken) → Takes P s t → length (s .log) < 512 → same (t .pair .sides .left) (t .pair .sides .right) ≡ false → Pays (Next P s) E (make-rule P s t)
   unfolding make-rule Because
   make-traced t h room d =
       bind-holds _ _ (end-if-holds _ too-large (λ q left. variables t h (ltb-true 16 _ q))) λ _ few.
       bind-holds _ _ (orient-traced t h room d (ltb-false 16 _ few)) λ sides o.
-      bind-holds _ _ (end-if-holds _ rules-full (λ q left. record { sides = sides; over = ltb-true 32 _ q })) λ _ live.
-      bind-holds _ _ (rights-traced (new-rule s sides) [] (older-rules s sides) (none-yet refl refl)) λ rules g.
+      let due : Due P s sides = record { taken = t; takes = h; room = room; differ = d; few = ltb-false 16 _ few; oriented = o } in
+      bind-holds _ _ (end-if-holds _ rules-full (λ q left. record { sides = sides; due = due; over = ltb-true 32 _ q })) λ _ live.
+      bind-holds _ _ (rights-traced sides due (ltb-false 32 _ live) [] (older-rules s sides) (none-yet refl refl)) λ rules g.
       return-holds _
       (makes t h room d (ltb-false 16 _ few) sides o (ltb-false 32 _ live) (g .0) (g .1) (ap (next-state s t sides) (g .2)))
 
@@ -139,7 +145,7 @@ module _ (P : Problem) (s : State) where
   turn-traced =
       bind-holds _ _ (pay-holds out-of-units) λ _ _.
       bind-holds _ _ takes λ t h.
-      bind-holds _ _ (end-if-holds _ log-full (λ q left. leb-true 512 _ q)) λ _ room.
+      bind-holds _ _ (end-if-holds _ log-full (λ q left. record { taken = t; takes = h; over = leb-true 512 _ q })) λ _ room.
       if-holds _ _ _
       (λ b. return-holds _ (settles t h (leb-false 512 _ room) (same-dec (t .pair .sides .left) (t .pair .sides .right) .0 b) refl))
       (λ b. make-traced t h (leb-false 512 _ room) b)
