@@ -26,9 +26,9 @@ use Rattle.completion.proofs.Words.{equation-sides, of-item, rule-sides
 use Rattle.completion.proofs.Ends.{Rights, none-yet, one-more, with-right}
 use Rattle.completion.proofs.Reorders.{reordered-in, reordered-back, reordered-eq, with-behind, put-back}
 use Rattle.completion.proofs.Soundness.{step-rewrites, Falls, derivation-falls}
-use Rattle.completion.proofs.Deriving.{step-more, rewrites-more, rewrites-by, derives, same-as, by-one, none-more, simplify-both, compose-right}
+use Rattle.completion.proofs.Deriving.{step-more, rewrites-more, rewrites-by, rewrites-encompasses, derives, same-as, by-one, none-more, simplify-both, compose-right}
 use Rattle.completion.proofs.Postponed.{Reduces, ReducesRemoved}
-use Rattle.completion.proofs.Encompassed.{ProperRemoved}
+use Rattle.completion.proofs.Encompassed.{Free, FreeRemoved}
 
 -- A renamed pair is a variant.
 pub renamed-variants : (e : Pair) → Variants e (renamed e)
@@ -82,14 +82,15 @@ module _ (rank : ℕ → ℕ) where
     some-live l r i = Memᴰ·append-left (waiting-rules cs) i
 
     -- by a live rule, of which no left side has an instance of s in it
-    collapsed : {s t u v : Term} → Reduces rules s → ((l r : Term) → Of (sides-of rules) l r → Properly s l) → Normal (StepBy rules) u → Star (StepBy rules) s u → Star (StepBy rules) t v →
+    collapsed : {s t u v : Term} → Reduces rules s → ((l r : Term) → Of (sides-of rules) l r → Free s l) → Normal (StepBy rules) u → Star (StepBy rules) s u → Star (StepBy rules) t v →
         Derivation rank Properly (waiting-equations cs ⨾ pair s t ∷ live) (pair u v ∷ waiting-equations cs ⨾ live)
     collapsed h f n stop k = absurd (n (h .0) (h .1))
     collapsed h f n (move w m) k =
-        by-one rank (collapse (rewrites-more (sides-of rules) live some-live w) (f _ _ (rewrites-by (sides-of rules) live some-live w)))
+        let c = rewrites-more (sides-of rules) live some-live w in
+        by-one rank (collapse c (rewrites-encompasses c, f _ _ (rewrites-by (sides-of rules) live some-live w)))
         (simplify-both rank (waiting-equations cs) (sides-of rules) live some-live m k)
 
-    pub waiting-derives : (c : Candidate) (f : Pair) → ReducesRemoved rules c → ProperRemoved rules c → Forms rules (c .sides) f →
+    pub waiting-derives : (c : Candidate) (f : Pair) → ReducesRemoved rules c → FreeRemoved rules c → Forms rules (c .sides) f →
         Derivation rank Properly (waiting-equations (c ∷ cs) ⨾ sides-of rules ++ waiting-rules (c ∷ cs)) (f ∷ waiting-equations cs ⨾ live)
     unfolding waiting-equations waiting-rules if-removed
     waiting-derives c f h proper k = go (c .origin) refl

@@ -21,7 +21,7 @@ use Rattle.rewriting.proofs.Relations.{Rules, Of, Step, Star, stop, move, Below
 use Rattle.rewriting.proofs.Abstract.{one}
 use Rattle.rewriting.proofs.Order.{StepAt, step-at, at-step}
 use Rattle.rewriting.proofs.Lower.{above-lower}
-use Rattle.completion.specs.Transitions.{System, _⨾_, pair, Rewrites, Same, turn-round, unchanged, also, Transition, compose, simplify, Derivation, written, by}
+use Rattle.completion.specs.Transitions.{System, _⨾_, pair, Rewrites, Encompasses, Same, turn-round, unchanged, also, Transition, compose, simplify, Derivation, written, by}
 use Rattle.completion.proofs.Words.{plug-node}
 use Rattle.completion.proofs.Soundness.{Falls}
 
@@ -46,6 +46,10 @@ pub rewrites-by : (Q R : List Pair) (sub : (l r : Term) → Of Q l r → Of R l 
     Of Q (rewrites-more Q R sub w .rule .left) (rewrites-more Q R sub w .rule .right)
 unfolding rewrites-more
 rewrites-by Q R sub w = step-at w .rule
+
+-- the first half of `Properly`
+pub rewrites-encompasses : {R : List Pair} {s t : Term} (w : Rewrites R s t) → Encompasses s (w .rule .left)
+rewrites-encompasses w = (w .at-node .position, w .substitution, w .at-node .there)
 
 module _ (rank : ℕ → ℕ) where
   -- A filled context is what fills it, or is above it.

@@ -1,6 +1,6 @@
 -- The condition of Collapse as published, s ▷ l: in no state of a run has a live rule's left side an instance of a removed rule's left side in it.
 -- Left sides of live rules do not rewrite one another, and a new left side is normal. Assumes nothing.
--- Read first: specs/Transitions (`Properly`), proofs/Postponed.
+-- Read first: specs/Transitions (`Properly`, of which `Free` is the second half), proofs/Postponed.
 use mathlib.Core.Path.{_≡_, refl, sym, ap, subst, _∙_}
 use mathlib.Core.Bool.{Bool, true, false}
 use mathlib.Core.List.{List, [], _∷_, _++_, append-assoc, append-nil, map, map-append, List·Memᴰ·head}
@@ -19,7 +19,7 @@ use Rattle.rewriting.proofs.Relations.{Of, Normal}
 use Rattle.rewriting.proofs.Steps.{step-subst, step-plug}
 use Rattle.rewriting.proofs.Stepping.{StepBy, step-none}
 use Rattle.problem.specs.Problem.{Problem}
-use Rattle.completion.specs.Transitions.{Properly}
+use Rattle.completion.specs.Transitions.{Encompasses}
 use Rattle.completion.specs.Turn.{removed-rule, Candidate, State, initial, rewrites, kept, removed, settled}
 use Rattle.completion.proofs.Words.{ItemOf, item-of, rule-sides}
 use Rattle.completion.proofs.Sentences.{new-rule}
@@ -27,9 +27,13 @@ use Rattle.completion.proofs.Ends.{Oriented, as-taken, other-way, Right
 use Rattle.completion.proofs.Reachable.{Reachable, from-start, by-turn, turn-next}
 use Rattle.completion.proofs.Postponed.{Reduces, ReducesRemoved, Postponed, reachable-postponed, own-left, source-rest, inputs-not-removed}
 
+-- Free s l: no subterm of l is an instance of s.
+abbrev pub Free : Term → Term → Type 0
+Free s l = Encompasses l s → ⊥
+
 -- What is normal has no instance in it of what is reduced.
-normal-proper : (rules : List Rule) (s t : Term) → Reduces rules s → Normal (StepBy rules) t → Properly s t
-normal-proper rules s t (u, w) n p σ e =
+normal-free : (rules : List Rule) (s t : Term) → Reduces rules s → Normal (StepBy rules) t → Free s t
+normal-free rules s t (u, w) n (p, σ, e) =
     let f : Found t p (subst-term σ s) = found t p (subst-term σ s) e in
     n (plug (f .c) (subst-term σ u)) (subst (λ z. StepBy rules z (plug (f .c) (subst-term σ u))) (sym (f .whole)) (step-plug (f .c) (step-subst σ w)))
 
@@ -51,10 +55,10 @@ lefts rules = map left-of rules
 -- Left sides of which none has an instance of another in it.
 data Apart : List Term → Type 0 where
   none-apart : Apart []
-  one-apart : {l : Term} {ls : List Term} → Every (Properly l) ls → Every (λ m. Properly m l) ls → Apart ls → Apart (l ∷ ls)
+  one-apart : {l : Term} {ls : List Term} → Every (Free l) ls → Every (λ m. Free m l) ls → Apart ls → Apart (l ∷ ls)
 
 -- one more
-apart-more : (l : Term) {ls : List Term} → Apart ls → Every (Properly l) ls → Every (λ m. Properly m l) ls → Apart (ls ++ (l ∷ []))
+apart-more : (l : Term) {ls : List Term} → Apart ls → Every (Free l) ls → Every (λ m. Free m l) ls → Apart (ls ++ (l ∷ []))
 apart-more l none-apart of-none of-none = one-apart of-none of-none none-apart
 apart-more l (one-apart a b h) (of-cons p f) (of-cons q g) = one-apart (every-append a (every-one q)) (every-append b (every-one p)) (apart-more l h f g)
 
@@ -89,8 +93,8 @@ kept-normal new (old ∷ rules) = go (step (new ∷ []) (old .sides .left)) refl
     go (some u) e k = k
 
 -- and the removed ones are apart from them.
-ProperTo : List Term → Candidate → Type 0
-ProperTo ls c = Every (Properly (c .sides .left)) ls
+FreeTo : List Term → Candidate → Type 0
+FreeTo ls c = Every (Free (c .sides .left)) ls
 
 removed-lefts : {Q : Term → Type 0} (new : Rule) (rules : List Rule) → Every Q (lefts rules) → Every (λ (c : Candidate). Q (c .sides .left)) (removed new rules)
 unfolding removed if_then_else_
@@ -102,13 +106,13 @@ removed-lefts {Q} new (old ∷ rules) (of-cons q h) = go (rewrites new old) (rem
     go true k = of-cons q k
     go false k = k
 
-removed-proper : (new : Rule) (rules : List Rule) → Apart (lefts rules) → Every (ProperTo (lefts (kept new rules))) (removed new rules)
-unfolding kept removed if_then_else_ ProperTo
-removed-proper new [] none-apart = of-none
-removed-proper new (old ∷ rules) (one-apart a b h) = go (rewrites new old) (removed-proper new rules h)
+removed-free : (new : Rule) (rules : List Rule) → Apart (lefts rules) → Every (FreeTo (lefts (kept new rules))) (removed new rules)
+unfolding kept removed if_then_else_ FreeTo
+removed-free new [] none-apart = of-none
+removed-free new (old ∷ rules) (one-apart a b h) = go (rewrites new old) (removed-free new rules h)
   where
-    go : (r : Bool) → Every (ProperTo (lefts (kept new rules))) (removed new rules) →
-        Every (ProperTo (lefts (if r then kept new rules else (old ∷ kept new rules))))
+    go : (r : Bool) → Every (FreeTo (lefts (kept new rules))) (removed new rules) →
+        Every (FreeTo (lefts (if r then kept new rules else (old ∷ kept new rules))))
         (if r then (record { origin = removed-rule (old .number); sides = old .sides } ∷ removed new rules) else removed new rules)
     go true k = of-cons (kept-lefts new rules a) k
     go false k = every-map (λ c q. of-cons (q .0) (q .1)) (every-both (removed-lefts new rules b) k)
@@ -124,12 +128,12 @@ rights-lefts (one-more {before} {done} {later} {old} {r} g f e) =
     ∙ rights-lefts g
 
 -- The left sides of live rules are apart, and those of removed rules that wait are apart from them.
-abbrev ProperWaiting : List Term → Candidate → Type 0
-ProperWaiting ls c = (n : ℕ) → c .origin ≡ removed-rule n → Every (Properly (c .sides .left)) ls
+abbrev FreeWaiting : List Term → Candidate → Type 0
+FreeWaiting ls c = (n : ℕ) → c .origin ≡ removed-rule n → Every (Free (c .sides .left)) ls
 
 record Spread (s : State) : Type 0 where
   apart : Apart (lefts (s .rules))
-  waiting : Every (ProperWaiting (lefts (s .rules))) (s .waiting)
+  waiting : Every (FreeWaiting (lefts (s .rules))) (s .waiting)
 
 -- The rules of the next state.
 module _ (s : State) (new : Rule) (composed : List Rule) (r : Rights new (kept new (s .rules)) composed []) (normal : Normal (StepBy (s .rules)) (new .sides .left)) where
@@ -139,26 +143,26 @@ module _ (s : State) (new : Rule) (composed : List Rule) (r : Rights new (kept n
       ∙ ap (λ l. l ++ (new .sides .left ∷ [])) (ap lefts (sym (append-nil composed)) ∙ rights-lefts r)
 
   -- each left side before it is apart from the new one, and the new one from those kept
-  to-new : Every (λ m. Properly m (new .sides .left)) (lefts (s .rules))
-  to-new = every-mapped left-of (every-of (s .rules) (λ old i. normal-proper (s .rules) (old .sides .left) (new .sides .left) (own-left (s .rules) old i) normal))
+  to-new : Every (λ m. Free m (new .sides .left)) (lefts (s .rules))
+  to-new = every-mapped left-of (every-of (s .rules) (λ old i. normal-free (s .rules) (old .sides .left) (new .sides .left) (own-left (s .rules) old i) normal))
 
-  from-new : Every (Properly (new .sides .left)) (lefts (kept new (s .rules)))
-  from-new = every-map (λ m n. normal-proper (new ∷ []) (new .sides .left) m (own-left (new ∷ []) new (List·Memᴰ·head refl)) n) (kept-normal new (s .rules))
+  from-new : Every (Free (new .sides .left)) (lefts (kept new (s .rules)))
+  from-new = every-map (λ m n. normal-free (new ∷ []) (new .sides .left) m (own-left (new ∷ []) new (List·Memᴰ·head refl)) n) (kept-normal new (s .rules))
 
   next-apart : Apart (lefts (s .rules)) → Apart (lefts (composed ++ (new ∷ [])))
   next-apart h = subst Apart (sym next-lefts) (apart-more (new .sides .left) (kept-apart new (s .rules) h) from-new (kept-lefts new (s .rules) to-new))
 
   -- of a removed rule: apart from those kept, and from the new one
-  with-new : (l : Term) → Every (Properly l) (lefts (kept new (s .rules))) → Properly l (new .sides .left) → Every (Properly l) (lefts (composed ++ (new ∷ [])))
-  with-new l h p = subst (Every (Properly l)) (sym next-lefts) (every-append h (every-one p))
+  with-new : (l : Term) → Every (Free l) (lefts (kept new (s .rules))) → Free l (new .sides .left) → Every (Free l) (lefts (composed ++ (new ∷ [])))
+  with-new l h p = subst (Every (Free l)) (sym next-lefts) (every-append h (every-one p))
 
-  still-proper : (c : Candidate) → ReducesRemoved (s .rules) c × ProperWaiting (lefts (s .rules)) c → ProperWaiting (lefts (composed ++ (new ∷ []))) c
-  still-proper c (h, q) n e =
-      with-new (c .sides .left) (kept-lefts new (s .rules) (q n e)) (normal-proper (s .rules) (c .sides .left) (new .sides .left) (h n e) normal)
+  still-free : (c : Candidate) → ReducesRemoved (s .rules) c × FreeWaiting (lefts (s .rules)) c → FreeWaiting (lefts (composed ++ (new ∷ []))) c
+  still-free c (h, q) n e =
+      with-new (c .sides .left) (kept-lefts new (s .rules) (q n e)) (normal-free (s .rules) (c .sides .left) (new .sides .left) (h n e) normal)
 
-  removed-waiting : Apart (lefts (s .rules)) → Every (ProperWaiting (lefts (composed ++ (new ∷ [])))) (removed new (s .rules))
-  unfolding ProperTo
-  removed-waiting h = every-map (λ c q n e. with-new (c .sides .left) (q .0) (q .1)) (every-both (removed-proper new (s .rules) h) (removed-lefts new (s .rules) to-new))
+  removed-waiting : Apart (lefts (s .rules)) → Every (FreeWaiting (lefts (composed ++ (new ∷ [])))) (removed new (s .rules))
+  unfolding FreeTo
+  removed-waiting h = every-map (λ c q n e. with-new (c .sides .left) (q .0) (q .1)) (every-both (removed-free new (s .rules) h) (removed-lefts new (s .rules) to-new))
 
 next-spread : (P : Problem) (s s′ : State) → Next P s s′ → Postponed s → Spread s → Spread s′
 unfolding settled
@@ -172,23 +176,23 @@ next-spread P s s′ (makes t g room d few sides o live composed r e) p h =
       apart = next-apart s new composed r normal (h .apart);
       waiting =
           every-append
-          (every-map (still-proper s new composed r normal) (source-rest P s (g .of) (t .waiting) (g .source) (every-both p (h .waiting))))
+          (every-map (still-free s new composed r normal) (source-rest P s (g .of) (t .waiting) (g .source) (every-both p (h .waiting))))
           (removed-waiting s new composed r normal (h .apart));
     })
 
 reachable-spread : (P : Problem) {s : State} {left : ℕ} → Reachable P s left → Spread s
 unfolding initial
-reachable-spread P (from-start e b) = rw e (record { apart = none-apart; waiting = inputs-not-removed (λ c. Every (Properly (c .sides .left)) []) 1 (P .equations) })
+reachable-spread P (from-start e b) = rw e (record { apart = none-apart; waiting = inputs-not-removed (λ c. Every (Free (c .sides .left)) []) 1 (P .equations) })
 reachable-spread P (by-turn {s} {s′} {left} {left′} r e) = next-spread P s s′ (turn-next P s s′ left left′ e) (reachable-postponed P r) (reachable-spread P r)
 
 -- So in every state the published condition of Collapse holds of a removed rule, whichever live rule rewrites it.
-abbrev pub ProperRemoved : List Rule → Candidate → Type 0
-ProperRemoved rules c = (n : ℕ) → c .origin ≡ removed-rule n → (l r : Term) → Of (sides-of rules) l r → Properly (c .sides .left) l
+abbrev pub FreeRemoved : List Rule → Candidate → Type 0
+FreeRemoved rules c = (n : ℕ) → c .origin ≡ removed-rule n → (l r : Term) → Of (sides-of rules) l r → Free (c .sides .left) l
 
 of-lefts : (Q : Term → Type 0) (rules : List Rule) → Every Q (lefts rules) → (l r : Term) → Of (sides-of rules) l r → Q l
 of-lefts Q rules h l r i =
     let a : ItemOf rule-sides rules l r = item-of rule-sides rules l r i in
     subst Q (a .is-left) (every-in (mapped-every left-of rules h) (a .is-item))
 
-pub reachable-proper : (P : Problem) {s : State} {left : ℕ} → Reachable P s left → Every (ProperRemoved (s .rules)) (s .waiting)
-reachable-proper P {s} r = every-map (λ c q n e l m i. of-lefts (Properly (c .sides .left)) (s .rules) (q n e) l m i) (reachable-spread P r .waiting)
+pub reachable-free : (P : Problem) {s : State} {left : ℕ} → Reachable P s left → Every (FreeRemoved (s .rules)) (s .waiting)
+reachable-free P {s} r = every-map (λ c q n e l m i. of-lefts (Free (c .sides .left)) (s .rules) (q n e) l m i) (reachable-spread P r .waiting)

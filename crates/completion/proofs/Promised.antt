@@ -1,6 +1,6 @@
 -- Demand 3, the delivery theorem, as a promise about bytes: what complete writes, read back, holds the end and the live rules of the run, and where
--- the end is 0 these rules settle the buyer's equations. Assumes nothing.
--- Read first: specs/Promise, proofs/Delivered, proofs/ReadBack.
+-- the end is 0 these rules settle the buyer's equations. And demand 2: these rules are derived from the equations. Assumes nothing.
+-- Read first: specs/Promise, proofs/Delivered, proofs/Published, proofs/ReadBack.
 use mathlib.Core.Path.{_≡_, refl, sym, ap, subst, _∙_}
 use mathlib.Core.Bool.{false}
 use mathlib.Core.List.{List, [], _∷_, _++_, map, append-assoc}
@@ -28,6 +28,7 @@ use Rattle.completion.proofs.Accepts.{accepts}
 use Rattle.completion.proofs.Result.{fields-fit}
 use Rattle.completion.proofs.ReadBack.{fields-are, Fits, no-rules, rules-back}
 use Rattle.completion.proofs.Delivered.{delivered}
+use Rattle.completion.proofs.Published.{run-derived, complete-derived}
 
 -- "0, complete"; the other ends are 20 to 23.
 end-zero : (e : End) → (some (end-number e % 256) ≡ some 0) ↔ (e ≡ complete)
@@ -103,6 +104,8 @@ module _ (bytes : List ℕ) (P : Problem) (read : parse bytes ≡ ok P) where
         are-rules = rules-read;
         are-live = refl;
         decide = λ h. delivered bytes P read (end-read .0 h);
+        derived = run-derived P;
+        derived-alone = λ h. complete-derived P (end-read .0 h);
       }
 
 -- The theorem.

@@ -23,7 +23,7 @@ use Rattle.rewriting.proofs.Holds.{Forms, reached-star}
 use Rattle.problem.specs.Problem.{rank-of, Equation, Problem}
 use Rattle.completion.specs.Turn.{Origin, waiting-input, removed-rule, scanned-input, overlapping, Candidate, State, Taken, candidates, initial, kept, removed, settled, turn, run}
 use Rattle.completion.specs.Transitions.{Properly, System, _⨾_, pair, Reordered, unmoved, behind, moved, delete, orient, reorder, turn-round, rename-rule, Derivation, written}
-use Rattle.completion.specs.Systems.{if-removed, waiting-equations, waiting-rules, system-of, given}
+use Rattle.completion.specs.Systems.{if-removed, waiting-equations, waiting-rules, together, system-of, given}
 use Rattle.completion.proofs.Sentences.{new-rule, next-state}
 use Rattle.completion.proofs.Words.{equation-sides}
 use Rattle.completion.proofs.Ends.{OverlapsSame, inputs, Source, of-waiting, of-overlap, of-input, Takes, Oriented, as-taken, other-way, Rights, Next, settles, makes}
@@ -37,7 +37,7 @@ use Rattle.completion.proofs.Soundness.{Both, same-conversion, Falls, d
 use Rattle.completion.proofs.Deriving.{derives, same-as, by-one, none-more}
 use Rattle.completion.proofs.Confluent.{conv-same-last}
 use Rattle.completion.proofs.Postponed.{ReducesRemoved, Postponed, reachable-postponed}
-use Rattle.completion.proofs.Encompassed.{ProperRemoved, reachable-proper}
+use Rattle.completion.proofs.Encompassed.{FreeRemoved, reachable-free}
 use Rattle.completion.proofs.Derived.{renamed-variants, sides-append, inputs-derive, waiting-derives, overlap-derives, kept-removed, removed-no-equation, rights-derive}
 
 -- Of inputs, none is a removed rule.
@@ -99,7 +99,7 @@ module _ (P : Problem) where
   rank = rank-of (P .symbols)
 
   pub initial-derived : Derivation rank Properly (given P) (system-of (initial P))
-  unfolding initial system-of
+  unfolding initial together
   initial-derived =
       subst₂ (Derivation rank Properly)
       (ap (λ E. E ⨾ []) (append-nil (equation-sides (P .equations))))
@@ -108,7 +108,7 @@ module _ (P : Problem) where
 
   -- Where nothing waits, the live rules are all.
   idle-system : (s : State) → s .waiting ≡ [] → system-of s ≡ ([] ⨾ sides-of (s .rules))
-  unfolding system-of waiting-equations waiting-rules
+  unfolding together waiting-equations waiting-rules
   idle-system s w = rw w (ap (λ R. [] ⨾ R) (append-nil (sides-of (s .rules))))
 
   module _ (s : State) (derived : Derivation rank Properly (given P) (system-of s)) (good : GoodRules P (s .rules)) where
@@ -135,8 +135,8 @@ module _ (P : Problem) where
       entered : Derivation rank Properly (system-of s) (taking t) → Entered t
       nothing-new : t .pair .sides .left ≡ t .pair .sides .right → s .waiting ≡ [] → t .waiting ≡ [] → Entered t
 
-    taken-entered : Postponed s → Every (ProperRemoved (s .rules)) (s .waiting) → (t : Taken) → Takes P s t → Entered t
-    unfolding system-of
+    taken-entered : Postponed s → Every (FreeRemoved (s .rules)) (s .waiting) → (t : Taken) → Takes P s t → Entered t
+    unfolding together
     taken-entered p proper t h = go (h .source)
       where
         go : Source P s (h .of) (t .waiting) → Entered t
@@ -144,7 +144,7 @@ module _ (P : Problem) where
             entered
             (subst (λ l. Derivation rank Properly (waiting-equations l ⨾ sides-of (s .rules) ++ waiting-rules l) (taking t)) (sym e)
             (waiting-derives rank (s .rules) (t .waiting) (h .of) (t .pair .sides) (every-head (subst (Every (ReducesRemoved (s .rules))) e p))
-            (every-head (subst (Every (ProperRemoved (s .rules))) e proper)) (h .forms)))
+            (every-head (subst (Every (FreeRemoved (s .rules))) e proper)) (h .forms)))
         go (of-overlap at o z small e q) =
             entered
             (subst (λ l. Derivation rank Properly (waiting-equations l ⨾ sides-of (s .rules) ++ waiting-rules l) (taking t)) (q ∙ sym (z .idle))
@@ -154,7 +154,7 @@ module _ (P : Problem) where
 
     -- step 3
     settled-derives : (t : Taken) → t .pair .sides .left ≡ t .pair .sides .right → Entered t → Derivation rank Properly (system-of s) (system-of (settled s t))
-    unfolding system-of settled
+    unfolding together settled
     settled-derives t q (entered d) =
         let E : List Pair = waiting-equations (t .waiting) in
         let R : List Pair = sides-of (s .rules) ++ waiting-rules (t .waiting) in
@@ -166,7 +166,7 @@ module _ (P : Problem) where
     rule-derives : (t : Taken) → same (t .pair .sides .left) (t .pair .sides .right) ≡ false → Entered t → (sides : Pair) → Oriented P (t .pair .sides) sides →
         (composed : List Rule) → Rights (new-rule s sides) (kept (new-rule s sides) (s .rules)) composed [] →
         Derivation rank Properly (system-of s) (system-of (next-state s t sides (composed ++ (new-rule s sides ∷ []))))
-    unfolding system-of
+    unfolding together
     rule-derives t n (entered d) sides o composed r =
         let new : Rule = new-rule s sides in
         let E : List Pair = waiting-equations (t .waiting) in
@@ -179,7 +179,7 @@ module _ (P : Problem) where
         subst₂ (λ a b. Derivation rank Properly (system-of s) (a ⨾ sides-of (composed ++ (new ∷ [])) ++ b)) E-is W-is (derives rank c (made-derives P E W (s .rules) new composed falls r))
     rule-derives t n (nothing-new e w v) sides o composed r = absurd (false≢true (sym n ∙ same-dec (t .pair .sides .left) (t .pair .sides .right) .1 e))
 
-    next-derives : Postponed s → Every (ProperRemoved (s .rules)) (s .waiting) → (s′ : State) → Next P s s′ → Derivation rank Properly (system-of s) (system-of s′)
+    next-derives : Postponed s → Every (FreeRemoved (s .rules)) (s .waiting) → (s′ : State) → Next P s s′ → Derivation rank Properly (system-of s) (system-of s′)
     next-derives p proper s′ (settles t h room q e) = rw e (settled-derives t q (taken-entered p proper t h))
     next-derives p proper s′ (makes t h room n few sides o live composed r e) = rw e (rule-derives t n (taken-entered p proper t h) sides o composed r)
 
@@ -188,11 +188,11 @@ module _ (P : Problem) where
   reachable-derived (from-start e b) = rw e initial-derived
   reachable-derived (by-turn {s} {s′} {left} {left′} r e) =
       let d : Derivation rank Properly (given P) (system-of s) = reachable-derived r in
-      derives rank d (next-derives s d (reachable-good P r) (reachable-postponed P r) (reachable-proper P r) s′ (turn-next P s s′ left left′ e))
+      derives rank d (next-derives s d (reachable-good P r) (reachable-postponed P r) (reachable-free P r) s′ (turn-next P s s′ left left′ e))
 
   -- each turn that goes on by transitions from the state before it,
   pub turn-derives : {s : State} {left : ℕ} → Reachable P s left → (s′ : State) (left′ : ℕ) → turn P s left ≡ done s′ left′ → Derivation rank Properly (system-of s) (system-of s′)
-  turn-derives {s} {left} r s′ left′ e = next-derives s (reachable-derived r) (reachable-good P r) (reachable-postponed P r) (reachable-proper P r) s′ (turn-next P s s′ left left′ e)
+  turn-derives {s} {left} r s′ left′ e = next-derives s (reachable-derived r) (reachable-good P r) (reachable-postponed P r) (reachable-free P r) s′ (turn-next P s s′ left left′ e)
 
   -- and so is what the run leaves; with end 0, as rules without an equation.
   pub run-derived : Derivation rank Properly (given P) (system-of (run P .state))

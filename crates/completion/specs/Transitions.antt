@@ -1,5 +1,7 @@
--- The transition rules of completion, after Bachmair and Dershowitz, as source document 004 prints them (appendix A; 001 goes by the same names): what it
--- is that equations and rules are derived from others. Assumes nothing.
+-- The six transition rules of completion, after Bachmair and Dershowitz, as source document 004 prints them in its appendix A; document 01 takes their
+-- names from there and from 001. What it is that equations and rules are derived from others. Assumes nothing.
+-- The source has sets, here are lists: whatever is derived so is derived by the source's rules of the sets of the lists' members, since "E ∪ {s = t}"
+-- does not say that s = t is not in E.
 use mathlib.Core.Path.{_≡_}
 use mathlib.Core.Bool.{true}
 use mathlib.Core.List.{List, _∷_, List·Memᴰ}
@@ -24,7 +26,7 @@ pub record Rewrites (R : List Pair) (s t : Term) : Type 0 where
   pub substitution : ℕ → Term
   pub at-node : AtNode (subst-term substitution (rule .left)) (subst-term substitution (rule .right)) s t
 
--- the same but for the variables' names: each pair is an instance of the other
+-- the same but for the names of variables: each pair is an instance of the other
 pub record Variants (d e : Pair) : Type 0 where
   pub there : ℕ → Term
   pub left-there : e .left ≡ subst-term there (d .left)
@@ -49,15 +51,16 @@ pub data Same : System → System → Type 0 where
   unchanged : {S : System} → Same S S
   also : {S T U : System} → Same S T → Same T U → Same S U
 
--- s ▷ l, for terms of which s has an instance of l in it: l has none of s in it
+-- some subterm of s is an instance of l
+abbrev pub Encompasses : Term → Term → Type 0
+Encompasses s l = (p : ℕ) × (σ : ℕ → Term) × (subterm-at s p ≡ some (subst-term σ l))
+
+-- s ▷ l, a sign that 004 does not explain; with Bachmair and Dershowitz it is the strict part of encompassment
 abbrev pub Properly : Term → Term → Type 0
-Properly s l = (p : ℕ) (σ : ℕ → Term) → subterm-at l p ≡ some (subst-term σ s) → ⊥
+Properly s l = Encompasses s l × (Encompasses l s → ⊥)
 
--- no such condition: for Thirteen "Collapse asks only that another rule rewrites the left side"
-abbrev pub Always : Term → Term → Type 0
-Always s l = Unit {0}
-
--- One transition, over the path order of these ranks. `Beyond` is the condition of Collapse: `Properly`, as published, or `Always`.
+-- One transition, over the path order of these ranks. `Beyond` is the condition of Collapse: `Properly`, as published. (That transitions are sound does
+-- not depend on it.)
 module _ (rank : ℕ → ℕ) (Beyond : Term → Term → Type 0) where
   pub data Transition : System → System → Type 0 where
     -- Delete: E ∪ {s = s}; R ⊢ E; R
