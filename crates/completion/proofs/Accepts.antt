@@ -12,7 +12,8 @@ use borrow.Author.Tests.{ltb-false}
 use Rattle.terms.specs.Base.{number-from, Every, of-none, of-cons}
 use Rattle.terms.specs.Term.{Term, size}
 use Rattle.terms.proofs.Every.{every-head}
-use Rattle.problem.specs.Problem.{ok, ReadField, Symbol, read-symbols, symbol-field, budget-field, ReadPart, read-side, Equation, equation-field, equation-fields, Problem, parse, only-equation}
+use Rattle.problem.specs.Problem.{ok, ReadField, Symbol, read-symbols, symbol-field, budget-field, ReadPart, read-side, Equation, equation-field}
+use Rattle.problem.specs.Problem.{equation-fields, Problem, parse, only-equation}
 use Rattle.completion.specs.Calls.{Single, parse-single}
 use Rattle.problem.specs.Over.{Over}
 use Rattle.completion.proofs.Over.{OverPair, OverEquations}

@@ -40,7 +40,8 @@ same-join h = record { at = h .to; left = reached-star (h .left .reached); right
 
 -- One normal form for both sides of each overlap joins all that `overlap` finds.
 pub overlaps-same-join : (rules : List Rule) → OverlapsSame rules → OverlapsJoin (sides-of rules)
-overlaps-same-join rules h i j n hi hj lt q o v = renamed-joins (Of (sides-of rules)) (o .sides) (same-join (all-places-cover (SameAt rules) rules h i j n hi hj lt q o v))
+overlaps-same-join rules h i j n hi hj lt q o v =
+    renamed-joins (Of (sides-of rules)) (o .sides) (same-join (all-places-cover (SameAt rules) rules h i j n hi hj lt q o v))
 
 inputs-join : (rules : List Rule) (origin : ℕ → Origin) (k : ℕ) (es : List Equation) → Every (SameCandidate rules) (candidates origin k es) →
     (i : ℕ) → i < length (equation-sides es) → Join (StepBy rules) (lhs (equation-sides es) i) (rhs (equation-sides es) i)
@@ -50,7 +51,8 @@ inputs-join rules origin k (e ∷ es) (of-cons j h) zero lt = renamed-joins (Of 
 inputs-join rules origin k (e ∷ es) (of-cons j h) (suc i) lt = inputs-join rules origin (suc k) es h i (omega arith)
 
 -- Where nothing waits, and each overlap and each input equation has one form, the rules of a state have a certificate.
-pub certified-certificate : (bytes : List ℕ) (P : Problem) → parse bytes ≡ ok P → {s : State} {left : ℕ} → Reachable P s left → Certified P s → Certificate (P .symbols) (P .equations) (s .rules)
+pub certified-certificate : (bytes : List ℕ) (P : Problem) → parse bytes ≡ ok P → {s : State} {left : ℕ} → Reachable P s left → Certified P s →
+    Certificate (P .symbols) (P .equations) (s .rules)
 certified-certificate bytes P read {s} r c =
     let given : OverEquations (P .symbols) (P .equations) = accepts bytes P read .equations-over in
     let rules : List Rule = s .rules in
@@ -70,7 +72,8 @@ unfolding Because
 stopped-complete P s left left′ e q d = let h : Because P s e left′ = after P s left (stop e left′) q in rw d at h
 
 -- The delivery theorem of the turns, from any state of a run: where they end with 0, the rules that they leave decide the buyer's equations.
-pub turns-delivered : (bytes : List ℕ) (P : Problem) → parse bytes ≡ ok P → (n : ℕ) (s : State) (left : ℕ) → Reachable P s left → turns n P s left .end ≡ complete →
+pub turns-delivered : (bytes : List ℕ) (P : Problem) → parse bytes ≡ ok P → (n : ℕ) (s : State) (left : ℕ) → Reachable P s left →
+    turns n P s left .end ≡ complete →
     Decides (P .symbols) (P .equations) (turns n P s left .state .rules)
 unfolding turns
 turns-delivered bytes P read zero s left r e = absurd (zero≢one (cc))

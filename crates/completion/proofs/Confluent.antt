@@ -35,7 +35,8 @@ module _ (rank : ℕ → ℕ) (rs : List Pair) (down : Falls rank rs) (low : (l 
       let h = rules-solve in
       record { at = h .final t; left = subst (λ z. Star (Step (Of rs)) s z) (h .same-final s t .1 c) (h .reached s); right = h .reached t }
 
-  pub conv-same-last : (s t u v : Term) → Conv (Step (Of rs)) s t → Star (Step (Of rs)) s u → Normal (Step (Of rs)) u → Star (Step (Of rs)) t v → Normal (Step (Of rs)) v → u ≡ v
+  pub conv-same-last : (s t u v : Term) → Conv (Step (Of rs)) s t → Star (Step (Of rs)) s u → Normal (Step (Of rs)) u → Star (Step (Of rs)) t v →
+      Normal (Step (Of rs)) v → u ≡ v
   conv-same-last s t u v c m n p q =
       let h = rules-solve in
       h .only s u m n ∙ h .same-final s t .1 c ∙ sym (h .only t v p q)

@@ -20,13 +20,15 @@ use Rattle.rewriting.proofs.Covers.{BothHold, all-places-hold}
 use Rattle.rewriting.proofs.Holds.{Forms, reached-star}
 use Rattle.problem.specs.Problem.{Equation}
 use Rattle.completion.specs.Turn.{Origin, waiting-input, removed-rule, scanned-input, overlapping, Candidate, candidates, rewrites, kept, removed}
-use Rattle.completion.specs.Transitions.{Properly, _⨾_, pair, Variants, Reordered, unmoved, behind, moved, collapse, deduce, reorder, rename-equation, Derivation, written}
+use Rattle.completion.specs.Transitions.{Properly, _⨾_, pair, Variants, Reordered, unmoved, behind, moved, collapse, deduce, reorder}
+use Rattle.completion.specs.Transitions.{rename-equation, Derivation, written}
 use Rattle.completion.specs.Systems.{if-removed, waiting-equations, waiting-rules}
 use Rattle.completion.proofs.Words.{equation-sides, of-item, rule-sides}
 use Rattle.completion.proofs.Ends.{Rights, none-yet, one-more, with-right}
 use Rattle.completion.proofs.Reorders.{reordered-in, reordered-back, reordered-eq, with-behind, put-back}
 use Rattle.completion.proofs.Soundness.{step-rewrites, Falls, derivation-falls}
-use Rattle.completion.proofs.Deriving.{step-more, rewrites-more, rewrites-by, rewrites-encompasses, derives, same-as, by-one, none-more, simplify-both, compose-right}
+use Rattle.completion.proofs.Deriving.{step-more, rewrites-more, rewrites-by, rewrites-encompasses, derives, same-as, by-one, none-more}
+use Rattle.completion.proofs.Deriving.{simplify-both, compose-right}
 use Rattle.completion.proofs.Postponed.{Reduces, ReducesRemoved}
 use Rattle.completion.proofs.Encompassed.{Free, FreeRemoved}
 
@@ -64,7 +66,8 @@ removed-no-equation new (old ∷ rules) = go (rewrites new old) (removed-no-equa
 
 module _ (rank : ℕ → ℕ) where
   -- The input equations, renamed.
-  pub inputs-derive : (n : ℕ) (es : List Equation) (F R : List Pair) → Derivation rank Properly (equation-sides es ++ F ⨾ R) (waiting-equations (candidates waiting-input n es) ++ F ⨾ R)
+  pub inputs-derive : (n : ℕ) (es : List Equation) (F R : List Pair) →
+      Derivation rank Properly (equation-sides es ++ F ⨾ R) (waiting-equations (candidates waiting-input n es) ++ F ⨾ R)
   unfolding candidates waiting-equations if-removed
   inputs-derive n [] F R = none-more rank
   inputs-derive n (e ∷ es) F R =
@@ -82,7 +85,8 @@ module _ (rank : ℕ → ℕ) where
     some-live l r i = Memᴰ·append-left (waiting-rules cs) i
 
     -- by a live rule, of which no left side has an instance of s in it
-    collapsed : {s t u v : Term} → Reduces rules s → ((l r : Term) → Of (sides-of rules) l r → Free s l) → Normal (StepBy rules) u → Star (StepBy rules) s u → Star (StepBy rules) t v →
+    collapsed : {s t u v : Term} → Reduces rules s → ((l r : Term) → Of (sides-of rules) l r → Free s l) → Normal (StepBy rules) u →
+        Star (StepBy rules) s u → Star (StepBy rules) t v →
         Derivation rank Properly (waiting-equations cs ⨾ pair s t ∷ live) (pair u v ∷ waiting-equations cs ⨾ live)
     collapsed h f n stop k = absurd (n (h .0) (h .1))
     collapsed h f n (move w m) k =
@@ -96,7 +100,8 @@ module _ (rank : ℕ → ℕ) where
     waiting-derives c f h proper k = go (c .origin) refl
       where
         as-equation : Derivation rank Properly (c .sides ∷ waiting-equations cs ⨾ live) (f ∷ waiting-equations cs ⨾ live)
-        as-equation = simplify-both rank (waiting-equations cs) (sides-of rules) live some-live (reached-star (k .left .reached)) (reached-star (k .right .reached))
+        as-equation =
+            simplify-both rank (waiting-equations cs) (sides-of rules) live some-live (reached-star (k .left .reached)) (reached-star (k .right .reached))
 
         go : (o : Origin) → c .origin ≡ o →
             Derivation rank Properly (if-removed o (waiting-equations cs) (c .sides ∷ waiting-equations cs) ⨾ sides-of rules ++ if-removed o (c .sides ∷ waiting-rules cs) (waiting-rules cs))
@@ -146,11 +151,13 @@ module _ (rank : ℕ → ℕ) where
         (compose-right rank E (others ++ (n ∷ [])) (others ++ (n ∷ X)) more (λ l r i. falls l r (List·Memᴰ·tail (more l r i))) (old .sides .left) (old .sides .right) (falls _ _ (List·Memᴰ·head refl)) m′)
         (written (reorder unmoved (reordered-back (to-front (with-right old r .sides) X)))))
 
-  pub rights-derive : (E X : List Pair) (new : Rule) {older done later : List Rule} → Rights new older done later → Falls rank (sides-of older ++ (new .sides ∷ X)) →
+  pub rights-derive : (E X : List Pair) (new : Rule) {older done later : List Rule} → Rights new older done later →
+      Falls rank (sides-of older ++ (new .sides ∷ X)) →
       Derivation rank Properly (E ⨾ sides-of older ++ (new .sides ∷ X)) (E ⨾ sides-of (done ++ later) ++ (new .sides ∷ X))
   rights-derive E X new (none-yet e d) f = rw (e, d) (none-more rank)
   rights-derive E X new {older} (one-more {before} {done} {later} {old} {r} g h e) f =
-      let c : Derivation rank Properly (E ⨾ sides-of older ++ (new .sides ∷ X)) (E ⨾ sides-of (before ++ (old ∷ later)) ++ (new .sides ∷ X)) = rights-derive E X new g f in
+      let c : Derivation rank Properly (E ⨾ sides-of older ++ (new .sides ∷ X)) (E ⨾ sides-of (before ++ (old ∷ later)) ++ (new .sides ∷ X)) =
+      rights-derive E X new g f in
       let q : sides-of (before ++ (old ∷ later)) ≡ sides-of before ++ (old .sides ∷ sides-of later) = sides-append before (old ∷ later) in
       let q′ : sides-of (before ++ (old ∷ later) ++ (new ∷ [])) ≡ sides-of before ++ (old .sides ∷ sides-of later) ++ (new .sides ∷ []) =
       sides-append (before ++ (old ∷ later)) (new ∷ []) ∙ ap (λ l. l ++ (new .sides ∷ [])) q in

@@ -21,7 +21,8 @@ use Rattle.rewriting.proofs.Relations.{Rules, Of, Step, Star, stop, move, Below
 use Rattle.rewriting.proofs.Abstract.{one}
 use Rattle.rewriting.proofs.Order.{StepAt, step-at, at-step}
 use Rattle.rewriting.proofs.Lower.{above-lower}
-use Rattle.completion.specs.Transitions.{System, _⨾_, pair, Rewrites, Encompasses, Same, turn-round, unchanged, also, Transition, compose, simplify, Derivation, written, by}
+use Rattle.completion.specs.Transitions.{System, _⨾_, pair, Rewrites, Encompasses, Same, turn-round, unchanged, also, Transition, compose}
+use Rattle.completion.specs.Transitions.{simplify, Derivation, written, by}
 use Rattle.completion.proofs.Words.{plug-node}
 use Rattle.completion.proofs.Soundness.{Falls}
 
@@ -92,7 +93,8 @@ module _ (rank : ℕ → ℕ) {Beyond : Term → Term → Type 0} where
   -- Derivations one after the other, and their parts.
   pub same-as : {S T U : System} → Same S T → Derivation rank Beyond T U → Derivation rank Beyond S U
   same-as p (written q) = written (also p q)
-  same-as p (by x d) = by (record { before = x .before; after = x .after; is-before = also p (x .is-before); transition = x .transition; is-after = x .is-after }) d
+  same-as p (by x d) =
+      by (record { before = x .before; after = x .after; is-before = also p (x .is-before); transition = x .transition; is-after = x .is-after }) d
 
   pub derives : {S T U : System} → Derivation rank Beyond S T → Derivation rank Beyond T U → Derivation rank Beyond S U
   derives (written p) d = same-as p d
@@ -117,7 +119,8 @@ module _ (rank : ℕ → ℕ) {Beyond : Term → Term → Type 0} where
     simplify-both m n = derives (simplify-left _ m) (simplify-right _ n)
 
     -- Compose: a right side, by the rules and by the rule itself, which never applies.
-    pub compose-right : Falls rank Q → (s r : Term) {t u : Term} → above rank s t ≡ true → Star (Step (Of (pair s r ∷ Q))) t u → Derivation rank Beyond (E ⨾ pair s t ∷ R) (E ⨾ pair s u ∷ R)
+    pub compose-right : Falls rank Q → (s r : Term) {t u : Term} → above rank s t ≡ true → Star (Step (Of (pair s r ∷ Q))) t u →
+        Derivation rank Beyond (E ⨾ pair s t ∷ R) (E ⨾ pair s u ∷ R)
     compose-right f s r a stop = none-more
     compose-right f s r {t} a (move {b = t′} w m) =
         let w′ : Step (Of Q) t t′ = by-others rank s r Q t t′ a w in

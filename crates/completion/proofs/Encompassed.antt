@@ -42,7 +42,8 @@ normal-back : (rules : List Rule) (σ : ℕ → Term) (t u : Term) → subst-ter
 normal-back rules σ t u e n v w = n (subst-term σ v) (subst (λ z. StepBy rules z (subst-term σ v)) e (step-subst σ w))
 
 -- The new rule's left side is normal for the rules before it.
-new-normal : (P : Problem) (rules : List Rule) (e f : Pair) → Normal (StepBy rules) (e .left) → Normal (StepBy rules) (e .right) → Oriented P e f → Normal (StepBy rules) (f .left)
+new-normal : (P : Problem) (rules : List Rule) (e f : Pair) → Normal (StepBy rules) (e .left) → Normal (StepBy rules) (e .right) → Oriented P e f →
+    Normal (StepBy rules) (f .left)
 new-normal P rules e f l r (as-taken a q) = rw q (normal-back rules _ _ (e .left) (renamed-back e .0) l)
 new-normal P rules e f l r (other-way a q) = rw q (normal-back rules _ _ (e .right) (renamed-back (swapped e) .0) r)
 
@@ -162,7 +163,8 @@ module _ (s : State) (new : Rule) (composed : List Rule) (r : Rights new (kept n
 
   removed-waiting : Apart (lefts (s .rules)) → Every (FreeWaiting (lefts (composed ++ (new ∷ [])))) (removed new (s .rules))
   unfolding FreeTo
-  removed-waiting h = every-map (λ c q n e. with-new (c .sides .left) (q .0) (q .1)) (every-both (removed-free new (s .rules) h) (removed-lefts new (s .rules) to-new))
+  removed-waiting h =
+      every-map (λ c q n e. with-new (c .sides .left) (q .0) (q .1)) (every-both (removed-free new (s .rules) h) (removed-lefts new (s .rules) to-new))
 
 next-spread : (P : Problem) (s s′ : State) → Next P s s′ → Postponed s → Spread s → Spread s′
 unfolding settled
@@ -182,7 +184,8 @@ next-spread P s s′ (makes t g room d few sides o live composed r e) p h =
 
 reachable-spread : (P : Problem) {s : State} {left : ℕ} → Reachable P s left → Spread s
 unfolding initial
-reachable-spread P (from-start e b) = rw e (record { apart = none-apart; waiting = inputs-not-removed (λ c. Every (Free (c .sides .left)) []) 1 (P .equations) })
+reachable-spread P (from-start e b) =
+    rw e (record { apart = none-apart; waiting = inputs-not-removed (λ c. Every (Free (c .sides .left)) []) 1 (P .equations) })
 reachable-spread P (by-turn {s} {s′} {left} {left′} r e) = next-spread P s s′ (turn-next P s s′ left left′ e) (reachable-postponed P r) (reachable-spread P r)
 
 -- So in every state the published condition of Collapse holds of a removed rule, whichever live rule rewrites it.

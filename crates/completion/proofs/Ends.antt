@@ -81,7 +81,8 @@ with-right old r = record { number = old .number; sides = record { left = old .s
 
 pub data Rights (new : Rule) (older : List Rule) : List Rule → List Rule → Type 0 where
   none-yet : {done later : List Rule} → done ≡ [] → later ≡ older → Rights new older done later
-  one-more : {before done later : List Rule} {old : Rule} {r : Term} → Rights new older before (old ∷ later) → Form (before ++ (old ∷ later) ++ (new ∷ [])) (old .sides .right) r →
+  one-more : {before done later : List Rule} {old : Rule} {r : Term} → Rights new older before (old ∷ later) →
+      Form (before ++ (old ∷ later) ++ (new ∷ [])) (old .sides .right) r →
       done ≡ before ++ (with-right old r ∷ []) → Rights new older done later
 
 abbrev pub older-rules : State → Pair → List Rule

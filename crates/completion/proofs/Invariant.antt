@@ -67,7 +67,8 @@ module _ (P : Problem) where
   overlap-equal inner outer p o e a b = conv-conv {E = Conv (Step Input)} (λ l r c. c) (overlap-conv inner outer p o (Conv (Step Input)) a b e)
 
   -- a right side rewritten by live rules
-  composed-good : (rules : List Rule) → GoodRules rules → (e : Pair) (r : Term) → Reached rules (e .right) r → Good e → Good (record { left = e .left; right = r })
+  composed-good : (rules : List Rule) → GoodRules rules → (e : Pair) (r : Term) → Reached rules (e .right) r → Good e →
+      Good (record { left = e .left; right = r })
   composed-good rules good e r s q =
       record {
         down = above-lower (rank-of (P .symbols)) (Of (sides-of rules)) (λ a b i. of-every Good good a b i .down) (e .left) (e .right) r (reached-star s) (q .down);

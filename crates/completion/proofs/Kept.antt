@@ -18,8 +18,11 @@ use Rattle.rewriting.proofs.Covers.{all-places-hold}
 use Rattle.rewriting.proofs.Holds.{Reached, reached-keeps}
 use Rattle.problem.specs.Problem.{Problem}
 use Rattle.completion.specs.Turn.{Origin, overlapping, scanned-input, Candidate, State, Taken, rewrites, kept, removed, settled, run}
-use Rattle.completion.proofs.Limits.{HeldTo, HeldPair, OriginFits, CandidateFits, RuleFits, EntryFits, Ascending, numbers, Limits, Accepted, later-origin, later-candidate, later-entry, pair-wide, renamed-held, few-variables, candidates-fit, initial-limits}
-use Rattle.completion.proofs.Ends.{inputs, Small, Source, of-waiting, of-overlap, of-input, Takes, Rights, none-yet, one-more, with-right, older-rules, Next, settles, makes, Neither}
+use Rattle.completion.proofs.Limits.{HeldTo, HeldPair, OriginFits, CandidateFits, RuleFits, EntryFits, Ascending, numbers, Limits, Accepted}
+use Rattle.completion.proofs.Limits.{later-origin, later-candidate, later-entry, pair-wide, renamed-held, few-variables, candidates-fit}
+use Rattle.completion.proofs.Limits.{initial-limits}
+use Rattle.completion.proofs.Ends.{inputs, Small, Source, of-waiting, of-overlap, of-input, Takes, Rights, none-yet, one-more, with-right}
+use Rattle.completion.proofs.Ends.{older-rules, Next, settles, makes, Neither}
 use Rattle.completion.proofs.Closed.{Closed, Has, taken-has, next-has, kept-every, removed-every}
 use Rattle.completion.proofs.Reachable.{Reachable, from-start, by-turn, turn-next}
 use Rattle.completion.proofs.Stopped.{run-stops}
@@ -58,7 +61,8 @@ unfolding Ascending
 ascending-from a b l [] h = tt
 ascending-from a b l (k ∷ ks) h = (omega arith, h .1)
 
-ascending-keep : (b : Bool) (lo : ℕ) (old : Rule) (rules : List Rule) → lo < old .number → Ascending (old .number) (numbers rules) → Ascending lo (numbers (if b then rules else (old ∷ rules)))
+ascending-keep : (b : Bool) (lo : ℕ) (old : Rule) (rules : List Rule) → lo < old .number → Ascending (old .number) (numbers rules) →
+    Ascending lo (numbers (if b then rules else (old ∷ rules)))
 unfolding if_then_else_ Ascending
 ascending-keep true lo old rules l h = ascending-from lo (old .number) (omega arith) (numbers rules) h
 ascending-keep false lo old rules l h = (l, h)
@@ -68,7 +72,8 @@ unfolding kept Ascending
 ascending-kept new lo [] h = tt
 ascending-kept new lo (old ∷ rules) h = ascending-keep (rewrites new old) lo old (kept new rules) (h .0) (ascending-kept new (old .number) rules (h .1))
 
-pub ascending-last : (n made lo : ℕ) (rules : List Rule) (new : Rule) → lo ≤ made → made < new .number → Every (RuleFits n made) rules → Ascending lo (numbers rules) →
+pub ascending-last : (n made lo : ℕ) (rules : List Rule) (new : Rule) → lo ≤ made → made < new .number → Every (RuleFits n made) rules →
+    Ascending lo (numbers rules) →
     Ascending lo (numbers (rules ++ (new ∷ [])))
 unfolding Ascending
 ascending-last n made lo [] new l m of-none h = (omega arith, tt)
@@ -106,11 +111,14 @@ module _ (P : Problem) (ok : Accepted P) where
   abbrev pub symbols : ℕ
   symbols = length (P .symbols)
 
-  overlap-held : (inner outer : Pair) (p : ℕ) (o : Overlap) → overlap inner outer p ≡ some o → Small o → HeldPair symbols 16 inner → HeldPair symbols 16 outer → HeldPair symbols 32 (renamed (o .sides))
+  overlap-held : (inner outer : Pair) (p : ℕ) (o : Overlap) → overlap inner outer p ≡ some o → Small o → HeldPair symbols 16 inner →
+      HeldPair symbols 16 outer → HeldPair symbols 32 (renamed (o .sides))
   overlap-held inner outer p o e small a b =
-      let k : MaybeOverlap (λ f. f < symbols) (overlap inner outer p) = overlap-made (λ f. f < symbols) inner outer p (a .left .made, a .right .made) (b .left .made, b .right .made) in
+      let k : MaybeOverlap (λ f. f < symbols) (overlap inner outer p) =
+      overlap-made (λ f. f < symbols) inner outer p (a .left .made, a .right .made) (b .left .made, b .right .made) in
       let h : MaybeOverlap (λ f. f < symbols) (some o) = subst (MaybeOverlap (λ f. f < symbols)) e k in
-      let q : HeldPair symbols 32 (o .sides) = record { left = record { small = small .left; made = h .left-made }; right = record { small = small .right; made = h .right-made } } in
+      let q : HeldPair symbols 32 (o .sides) =
+      record { left = record { small = small .left; made = h .left-made }; right = record { small = small .right; made = h .right-made } } in
       renamed-held symbols 32 32 (o .sides) (few-variables symbols 32 (o .sides) q) q
 
   pub held-closed : Closed P (HeldPair symbols 16) (HeldPair symbols 16) (HeldPair symbols 32)
@@ -172,14 +180,16 @@ module _ (P : Problem) (ok : Accepted P) where
           room = a .2;
         }
 
-    entry-fits : (t : Taken) (m k : ℕ) → TakenFits t → s .made ≤ m → k ≤ m → Every (EntryFits m) (s .log ++ (record { origin = t .pair .origin; made = k } ∷ []))
+    entry-fits : (t : Taken) (m k : ℕ) → TakenFits t → s .made ≤ m → k ≤ m →
+        Every (EntryFits m) (s .log ++ (record { origin = t .pair .origin; made = k } ∷ []))
     entry-fits t m k f l h =
         every-append (every-map (later-entry (s .made) m l) (lim .log-fits)) (every-one (record { from = later-origin (s .made) m l (t .pair .origin) (f .from); last = h }))
 
     settled-limits : (t : Taken) → TakenFits t → length (s .log) < 512 → Limits symbols (settled s t)
     unfolding settled
     settled-limits t f room =
-        let logs : length (s .log ++ (record { origin = t .pair .origin; made = 0 } ∷ [])) ≡ length (s .log) + 1 = length-append (s .log) (record { origin = t .pair .origin; made = 0 } ∷ []) in
+        let logs : length (s .log ++ (record { origin = t .pair .origin; made = 0 } ∷ [])) ≡ length (s .log) + 1 =
+        length-append (s .log) (record { origin = t .pair .origin; made = 0 } ∷ []) in
         let place : length (s .rules) + suc (length (t .waiting)) ≤ 33 = f .room in
         let made : s .made ≤ length (s .log) = lim .made-few in
         record {
@@ -204,8 +214,10 @@ module _ (P : Problem) (ok : Accepted P) where
         let older-fit : Every (RuleFits symbols (s .made)) older = kept-every new (lim .rules-fit) in
         let count : length rules ≡ length older + 1 = sym (length-map rules (λ (r : Rule). r .number)) ∙ ap length same ∙ length-map (older ++ (new ∷ [])) (λ (r : Rule). r .number) ∙ length-append older (new ∷ []) in
         let all : length older + length (removed new (s .rules)) ≡ length (s .rules) = kept-removed new (s .rules) in
-        let waits : length (t .waiting ++ removed new (s .rules)) ≡ length (t .waiting) + length (removed new (s .rules)) = length-append (t .waiting) (removed new (s .rules)) in
-        let logs : length (s .log ++ (record { origin = t .pair .origin; made = m } ∷ [])) ≡ length (s .log) + 1 = length-append (s .log) (record { origin = t .pair .origin; made = m } ∷ []) in
+        let waits : length (t .waiting ++ removed new (s .rules)) ≡ length (t .waiting) + length (removed new (s .rules)) =
+        length-append (t .waiting) (removed new (s .rules)) in
+        let logs : length (s .log ++ (record { origin = t .pair .origin; made = m } ∷ [])) ≡ length (s .log) + 1 =
+        length-append (s .log) (record { origin = t .pair .origin; made = m } ∷ []) in
         let place : length (s .rules) + suc (length (t .waiting)) ≤ 33 = f .room in
         let made : s .made ≤ length (s .log) = lim .made-few in
         let numbered : Every (λ k. (1 ≤ k) × (k ≤ m)) (numbers rules) =
@@ -214,7 +226,8 @@ module _ (P : Problem) (ok : Accepted P) where
         record {
           live = omega arith;
           rules-fit = every-map (λ r h. record { first = h .0 .0; last = h .0 .1; fits = h .1 }) (every-both (mapped-every (λ (r : Rule). r .number) rules numbered) held);
-          ascending = rw same (ascending-last symbols (s .made) 0 older new (omega arith) (omega arith) older-fit (ascending-kept new 0 (s .rules) (lim .ascending)));
+          ascending =
+              rw same (ascending-last symbols (s .made) 0 older new (omega arith) (omega arith) older-fit (ascending-kept new 0 (s .rules) (lim .ascending)));
           made-few = omega arith;
           log-few = omega arith;
           log-fits = entry-fits t m m f (omega arith) (omega arith);
@@ -226,7 +239,8 @@ module _ (P : Problem) (ok : Accepted P) where
     pub next-limits : (s′ : State) → Next P s s′ → Limits symbols s′
     next-limits s′ (settles t g room q e) = rw e (settled-limits t (taken-fits t g) room)
     next-limits s′ (makes t g room d few sides o live done r e) =
-        let h : HasHeld s′ = next-has P (HeldPair symbols 16) (HeldPair symbols 16) (HeldPair symbols 32) held-closed s s′ has (makes t g room d few sides o live done r e) in
+        let h : HasHeld s′ =
+        next-has P (HeldPair symbols 16) (HeldPair symbols 16) (HeldPair symbols 32) held-closed s s′ has (makes t g room d few sides o live done r e) in
         rw e (made-limits t sides (done ++ (new-rule s sides ∷ [])) (taken-fits t g) room live (rights-numbers r) (subst (λ (z : State). Every (λ (r : Rule). HeldPair symbols 16 (r .sides)) (z .rules)) e (h .rules)))
 
   -- Every state of a run keeps the limits.

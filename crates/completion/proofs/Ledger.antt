@@ -14,9 +14,12 @@ use Rattle.terms.specs.Term.{Term, Pair, same, size, pair-variables, renamed}
 use Rattle.terms.proofs.Every.{every-append}
 use Rattle.order.specs.Order.{above}
 use Rattle.rewriting.specs.Overlap.{Rule, Overlap, overlap, Place, all-places}
-use Rattle.rewriting.specs.Rewrite.{step, End, complete, neither-above, too-large, rules-full, log-full, Paid, done, stop, Paying, return, end-with, and-then, _>>=_, end-if, pay, hold, normalise, normalise-pair}
+use Rattle.rewriting.specs.Rewrite.{step, End, complete, neither-above, too-large, rules-full, log-full, Paid, done, stop, Paying, return, end-with}
+use Rattle.rewriting.specs.Rewrite.{and-then, _>>=_, end-if, pay, hold, normalise, normalise-pair}
 use Rattle.problem.specs.Problem.{Problem, rank-of}
-use Rattle.completion.specs.Turn.{Origin, scanned-input, Candidate, candidates, kept, State, Taken, Finished, initial, scan-overlap, if-different, if-different-overlap, scan-inputs, scan, take-pair, orient, normalise-rights, make-rule, settled, turn, turns, run}
+use Rattle.completion.specs.Turn.{Origin, scanned-input, Candidate, candidates, kept, State, Taken, Finished, initial, scan-overlap}
+use Rattle.completion.specs.Turn.{if-different, if-different-overlap, scan-inputs, scan, take-pair, orient, normalise-rights, make-rule}
+use Rattle.completion.specs.Turn.{settled, turn, turns, run}
 use Rattle.completion.proofs.Units.{left-of}
 use Rattle.completion.proofs.Reachable.{Reachable, from-start, by-turn, next-entry, turn-next, turn-less}
 
@@ -125,7 +128,8 @@ pub record Booked (left : ℕ) (rest : ℕ) (events : List Event) : Type 0 where
 abbrev pub Books : {A : Type 0} → Paying A → Ledger → Type 0
 Books m f = (left : ℕ) → Booked left (left-of (m left)) (f left)
 
-then-books : {A B : Type 0} (p : Paid A) (next : A → Paying B) (left : ℕ) (events : List Event) (more : A → Ledger) → Booked left (left-of p) events → ((a : A) → Books (next a) (more a)) →
+then-books : {A B : Type 0} (p : Paid A) (next : A → Paying B) (left : ℕ) (events : List Event) (more : A → Ledger) → Booked left (left-of p) events →
+    ((a : A) → Books (next a) (more a)) →
     Booked left (left-of (and-then p next)) (events ++ events-then p more)
 unfolding and-then events-then left-of
 then-books (done a l) next left events more h k =
@@ -139,7 +143,8 @@ then-books (stop e l) next left events more h k =
     let x : length events + l ≡ left = h .counted in
     record { counted = omega arith; valid = every-append (h .valid) (of-none) }
 
-bind-books : {A B : Type 0} (m : Paying A) (next : A → Paying B) (f : Ledger) (more : A → Ledger) → Books m f → ((a : A) → Books (next a) (more a)) → Books (m >>= next) (also f m more)
+bind-books : {A B : Type 0} (m : Paying A) (next : A → Paying B) (f : Ledger) (more : A → Ledger) → Books m f → ((a : A) → Books (next a) (more a)) →
+    Books (m >>= next) (also f m more)
 unfolding _>>=_ also
 bind-books m next f more h k left = then-books (m left) next left (f left) more (h left) k
 
@@ -174,7 +179,8 @@ unfolding if_then_else_
 if-books true m n f g h k = h
 if-books false m n f g h k = k
 
-step-books : (rules : List Rule) (t u : Term) (left : ℕ) (b : Bool) (p : Paid Term) (events : List Event) → step rules t ≡ some u → Booked left (left-of p) events →
+step-books : (rules : List Rule) (t u : Term) (left : ℕ) (b : Bool) (p : Paid Term) (events : List Event) → step rules t ≡ some u →
+    Booked left (left-of p) events →
     Booked (suc left) (left-of (if b then stop too-large left else p)) (rewrote rules t u ∷ (if b then [] else events))
 unfolding if_then_else_ left-of Valid
 step-books rules t u left true p events e h = record { counted = omega arith; valid = of-cons e (of-none) }
@@ -194,7 +200,8 @@ normalise-books rules t (suc left) = go (step rules t) refl (λ u. normalise-boo
     go : (o : Option Term) → step rules t ≡ o → ((u : Term) → Booked left (left-of (normalise rules u left)) (normalise-events rules u left)) →
         Booked (suc left) (left-of (normalise rules t (suc left))) (normalise-events rules t (suc left))
     go none e ih = rw (e, normalise, normalise-events) (record { counted = omega arith; valid = of-none })
-    go (some u) e ih = rw (e, normalise, normalise-events) (step-books rules t u left (ltb 120 (size u)) (normalise rules u left) (normalise-events rules u left) e (ih u))
+    go (some u) e ih =
+        rw (e, normalise, normalise-events) (step-books rules t u left (ltb 120 (size u)) (normalise rules u left) (normalise-events rules u left) e (ih u))
 
 pair-books : (rules : List Rule) (e : Pair) → Books (normalise-pair rules e) (pair-events rules e)
 unfolding normalise-pair pair-events
@@ -211,11 +218,13 @@ overlap-books rules (some o) =
     bind-books (hold (o .sides .right)) _ nothing _ (hold-books (o .sides .right)) λ _.
     last-books (normalise-pair rules (renamed (o .sides))) _ (pair-events rules (renamed (o .sides))) (pair-books rules (renamed (o .sides)))
 
-different-books : (origin : Origin) (forms : Pair) (next : Paying Candidate) (f : Ledger) → Books next f → Books (if-different origin forms next) (different-events forms f)
+different-books : (origin : Origin) (forms : Pair) (next : Paying Candidate) (f : Ledger) → Books next f →
+    Books (if-different origin forms next) (different-events forms f)
 unfolding if-different different-events
 different-books origin forms next f h = if-books (same (forms .left) (forms .right)) next _ f nothing h (return-books _)
 
-different-overlap-books : (at : Place) (o : Option Pair) (next : Paying Candidate) (f : Ledger) → Books next f → Books (if-different-overlap at o next) (different-overlap-events o f)
+different-overlap-books : (at : Place) (o : Option Pair) (next : Paying Candidate) (f : Ledger) → Books next f →
+    Books (if-different-overlap at o next) (different-overlap-events o f)
 unfolding if-different-overlap different-overlap-events
 different-overlap-books at none next f h = h
 different-overlap-books at (some forms) next f h = different-books _ forms next f h
@@ -363,7 +372,8 @@ pub record TurnsBegun (before after : ℕ) (events : List Event) : Type 0 where
   pub begun-are : begun events + before ≡ after + last
 
 module _ (P : Problem) where
-  turns-begun : (n : ℕ) (s : State) (left : ℕ) → left < n → Reachable P s left → TurnsBegun (length (s .log)) (length (turns n P s left .state .log)) (turns-events n P s left)
+  turns-begun : (n : ℕ) (s : State) (left : ℕ) → left < n → Reachable P s left →
+      TurnsBegun (length (s .log)) (length (turns n P s left .state .log)) (turns-events n P s left)
   unfolding turns turns-events
   turns-begun zero s left h r = absurd (omega arith)
   turns-begun (suc n) s left h r = go (turn P s left) refl (turn-books P s left .once) (λ s′ left′ h r. turns-begun n s′ left′ h r)
@@ -374,7 +384,8 @@ module _ (P : Problem) where
       go (done s′ left′) e b ih =
           let less : left′ < left = turn-less P s s′ left left′ e in
           let g : length (s′ .log) ≡ suc (length (s .log)) = next-entry P _ _ (turn-next P _ _ _ _ e) in
-          let k : TurnsBegun (length (s′ .log)) (length (turns n P s′ left′ .state .log)) (turns-events n P s′ left′) = ih s′ left′ (omega arith) (by-turn r e) in
+          let k : TurnsBegun (length (s′ .log)) (length (turns n P s′ left′ .state .log)) (turns-events n P s′ left′) =
+          ih s′ left′ (omega arith) (by-turn r e) in
           let c : begun (turns-events n P s′ left′) + length (s′ .log) ≡ length (turns n P s′ left′ .state .log) + k .last = k .begun-are in
           let d = begun-append (turn-events P s left) (turns-events n P s′ left′) in
           rw (e, turns, turns-events) (record { last = k .last; at-most-one = k .at-most-one; begun-are = omega arith })

@@ -116,7 +116,8 @@ candidates-sides origin k [] = refl
 candidates-sides origin k (e ∷ es) = ap (λ z. renamed (e .sides) ∷ z) (candidates-sides origin (suc k) es)
 
 pub candidates-fit : (n made : ℕ) (origin : ℕ → Origin) → ((k : ℕ) → 1 ≤ k → k ≤ 16 → OriginFits made (origin k)) →
-    (k : ℕ) (es : List Equation) → 1 ≤ k → k + length es ≤ 17 → Every (λ e. HeldPair n 16 (e .sides)) es → Every (CandidateFits n 16 made) (candidates origin k es)
+    (k : ℕ) (es : List Equation) → 1 ≤ k → k + length es ≤ 17 → Every (λ e. HeldPair n 16 (e .sides)) es →
+    Every (CandidateFits n 16 made) (candidates origin k es)
 unfolding candidates
 candidates-fit n made origin f k [] l m of-none = of-none
 candidates-fit n made origin f k (e ∷ es) l m (of-cons q h) =

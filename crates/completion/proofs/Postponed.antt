@@ -4,7 +4,8 @@
 use mathlib.Core.Path.{_≡_, refl, sym, ap, subst, _∙_}
 use mathlib.Core.Bool.{Bool, true, false}
 use mathlib.Core.Logic.{_⊎_, inl, inr, ⊎-elim}
-use mathlib.Core.List.{List, [], _∷_, _++_, List·Memᴰ, List·Memᴰ·head, List·Memᴰ·tail, List·Memᴰ·not-nil, List·Memᴰ·cases-cons, Memᴰ·append-left, Memᴰ·append-right, List·Memᴰ·append-cases}
+use mathlib.Core.List.{List, [], _∷_, _++_, List·Memᴰ, List·Memᴰ·head, List·Memᴰ·tail, List·Memᴰ·not-nil, List·Memᴰ·cases-cons, Memᴰ·append-left}
+use mathlib.Core.List.{Memᴰ·append-right, List·Memᴰ·append-cases}
 use mathlib.Core.Option.{Option, none, some}
 use Prim.Native.Nat.{ℕ, suc}
 use Rattle.terms.specs.Base.{if_then_else_, is-some, Every, of-none, of-cons}
@@ -66,7 +67,8 @@ kept-or new (r ∷ rules) old i = go (rewrites new r) refl (λ j. kept-or new ru
 LeftIn : List Rule → Term → Type 0
 LeftIn rules l = (r : Rule) × List·Memᴰ r rules × (r .sides .left ≡ l)
 
-lefts-stay : {new : Rule} {older done later : List Rule} → Rights new older done later → (old : Rule) → List·Memᴰ old older → LeftIn (done ++ later) (old .sides .left)
+lefts-stay : {new : Rule} {older done later : List Rule} → Rights new older done later → (old : Rule) → List·Memᴰ old older →
+    LeftIn (done ++ later) (old .sides .left)
 unfolding LeftIn
 lefts-stay {older = older} (none-yet {done} {later} e d) old i = (old, subst (λ l. List·Memᴰ old (l ++ later)) (sym e) (subst (List·Memᴰ old) (sym d) i), refl)
 lefts-stay (one-more {before} {done} {later} {old = x} {r} g f e) old i = go (lefts-stay g old i)
@@ -126,7 +128,8 @@ not-removed : (n k : ℕ) → waiting-input n ≡ removed-rule k → ⊥
 not-removed n k p = zero≢one (cc)
 
 -- An input is no removed rule.
-pub inputs-not-removed : (Q : Candidate → Type 0) (n : ℕ) (es : List Equation) → Every (λ (c : Candidate). (k : ℕ) → c .origin ≡ removed-rule k → Q c) (candidates waiting-input n es)
+pub inputs-not-removed : (Q : Candidate → Type 0) (n : ℕ) (es : List Equation) →
+    Every (λ (c : Candidate). (k : ℕ) → c .origin ≡ removed-rule k → Q c) (candidates waiting-input n es)
 unfolding candidates
 inputs-not-removed Q n [] = of-none
 inputs-not-removed Q n (e ∷ es) = of-cons (λ k p. absurd (not-removed n k p)) (inputs-not-removed Q (suc n) es)

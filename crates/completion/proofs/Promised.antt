@@ -62,7 +62,8 @@ module _ (bytes : List ℕ) (P : Problem) (read : parse bytes ≡ ok P) where
   limits : Limits (length (P .symbols)) (run P .state)
   limits = run-limits P accepted
 
-  rule-fits : (r : Rule) → OverRule (P .symbols) (r .sides) × RuleFits (length (P .symbols)) (run P .state .made) r → Fits (P .symbols) (accepted .symbols-few) r
+  rule-fits : (r : Rule) → OverRule (P .symbols) (r .sides) × RuleFits (length (P .symbols)) (run P .state .made) r →
+      Fits (P .symbols) (accepted .symbols-few) r
   rule-fits r h =
       let a : r .number ≤ run P .state .made = h .1 .last in
       let b : run P .state .made ≤ length (run P .state .log) = limits .made-few in
@@ -78,7 +79,8 @@ module _ (bytes : List ℕ) (P : Problem) (read : parse bytes ≡ ok P) where
   -- The fields of the result are those that its bytes hold.
   pub fields-read : fields-of (result-bytes (run P)) ≡ ok (result-fields (run P))
   unfolding result-bytes
-  fields-read = fields-are (result-fields (run P)) (every-map (λ f h. let l : length (f .contents) ≤ 242 = h .length-fits in omega arith) (fields-fit P accepted))
+  fields-read =
+      fields-are (result-fields (run P)) (every-map (λ f h. let l : length (f .contents) ≤ 242 = h .length-fits in omega arith) (fields-fit P accepted))
 
   -- "which is so exactly when the turns defined above end with 0 for that problem"
   pub end-read : (end-in (result-fields (run P)) ≡ some 0) ↔ (run P .end ≡ complete)

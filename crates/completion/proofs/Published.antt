@@ -21,24 +21,28 @@ use Rattle.rewriting.proofs.Stepping.{step-none}
 use Rattle.rewriting.proofs.Covers.{of-every}
 use Rattle.rewriting.proofs.Holds.{Forms, reached-star}
 use Rattle.problem.specs.Problem.{rank-of, Equation, Problem}
-use Rattle.completion.specs.Turn.{Origin, waiting-input, removed-rule, scanned-input, overlapping, Candidate, State, Taken, candidates, initial, kept, removed, settled, turn, run}
-use Rattle.completion.specs.Transitions.{Properly, System, _⨾_, pair, Reordered, unmoved, behind, moved, delete, orient, reorder, turn-round, rename-rule, Derivation, written}
+use Rattle.completion.specs.Turn.{Origin, waiting-input, removed-rule, scanned-input, overlapping, Candidate, State, Taken, candidates, initial}
+use Rattle.completion.specs.Turn.{kept, removed, settled, turn, run}
+use Rattle.completion.specs.Transitions.{Properly, System, _⨾_, pair, Reordered, unmoved, behind, moved, delete, orient, reorder, turn-round}
+use Rattle.completion.specs.Transitions.{rename-rule, Derivation, written}
 use Rattle.completion.specs.Systems.{if-removed, waiting-equations, waiting-rules, together, system-of, given}
 use Rattle.completion.proofs.Sentences.{new-rule, next-state}
 use Rattle.completion.proofs.Words.{equation-sides}
-use Rattle.completion.proofs.Ends.{OverlapsSame, inputs, Source, of-waiting, of-overlap, of-input, Takes, Oriented, as-taken, other-way, Rights, Next, settles, makes}
+use Rattle.completion.proofs.Ends.{OverlapsSame, inputs, Source, of-waiting, of-overlap, of-input, Takes, Oriented, as-taken, other-way}
+use Rattle.completion.proofs.Ends.{Rights, Next, settles, makes}
 use Rattle.completion.proofs.Reachable.{Reachable, from-start, by-turn, turn-next}
 use Rattle.completion.proofs.Stopped.{run-stops, run-complete}
 use Rattle.completion.proofs.Closed.{candidates-every}
 use Rattle.completion.proofs.Invariant.{Good, GoodRules, Equal, good-closed, reachable-good}
 use Rattle.completion.proofs.AtEnd.{overlaps-same-join}
 use Rattle.completion.proofs.Reorders.{with-behind, with-before, put-back, exchanged, reordered-eq}
-use Rattle.completion.proofs.Soundness.{Both, same-conversion, Falls, derivation-falls}
+use Rattle.completion.proofs.Soundness.{Both, Falls, derivation-falls, derived-sound, derived-falls}
 use Rattle.completion.proofs.Deriving.{derives, same-as, by-one, none-more}
 use Rattle.completion.proofs.Confluent.{conv-same-last}
 use Rattle.completion.proofs.Postponed.{ReducesRemoved, Postponed, reachable-postponed}
 use Rattle.completion.proofs.Encompassed.{FreeRemoved, reachable-free}
-use Rattle.completion.proofs.Derived.{renamed-variants, sides-append, inputs-derive, waiting-derives, overlap-derives, kept-removed, removed-no-equation, rights-derive}
+use Rattle.completion.proofs.Derived.{renamed-variants, sides-append, inputs-derive, waiting-derives, overlap-derives, kept-removed}
+use Rattle.completion.proofs.Derived.{removed-no-equation, rights-derive}
 
 -- Of inputs, none is a removed rule.
 inputs-no-rule : (n : ℕ) (es : List Equation) → waiting-rules (candidates waiting-input n es) ≡ []
@@ -76,7 +80,8 @@ module _ (P : Problem) (E W : List Pair) (rules : List Rule) where
   oriented-derives R e f (other-way a q) = rw q (same-as ranked turn-round (by-one ranked (orient a) (written (rename-rule (renamed-variants (swapped e))))))
 
   -- the new rule behind the kept ones, and the removed ones at the end
-  made-reordered : (new : Rule) → Reordered (new .sides ∷ (sides-of rules ++ W)) (sides-of (kept new rules) ++ (new .sides ∷ (W ++ waiting-rules (removed new rules))))
+  made-reordered : (new : Rule) →
+      Reordered (new .sides ∷ (sides-of rules ++ W)) (sides-of (kept new rules) ++ (new .sides ∷ (W ++ waiting-rules (removed new rules))))
   made-reordered new =
       let K : List Pair = sides-of (kept new rules) in
       let X : List Pair = waiting-rules (removed new rules) in
@@ -87,7 +92,8 @@ module _ (P : Problem) (E W : List Pair) (rules : List Rule) where
       Derivation ranked Properly (E ⨾ new .sides ∷ (sides-of rules ++ W)) (E ⨾ sides-of (composed ++ (new ∷ [])) ++ (W ++ waiting-rules (removed new rules)))
   made-derives new composed f r =
       let X : List Pair = W ++ waiting-rules (removed new rules) in
-      let start : Derivation ranked Properly (E ⨾ new .sides ∷ (sides-of rules ++ W)) (E ⨾ sides-of (kept new rules) ++ (new .sides ∷ X)) = written (reorder unmoved (made-reordered new)) in
+      let start : Derivation ranked Properly (E ⨾ new .sides ∷ (sides-of rules ++ W)) (E ⨾ sides-of (kept new rules) ++ (new .sides ∷ X)) =
+      written (reorder unmoved (made-reordered new)) in
       let q : sides-of (composed ++ []) ++ (new .sides ∷ X) ≡ sides-of (composed ++ (new ∷ [])) ++ X =
       ap (λ l. sides-of l ++ (new .sides ∷ X)) (append-nil composed) ∙ sym (append-assoc (sides-of composed) (new .sides ∷ []) X) ∙ ap (λ l. l ++ X) (sym (sides-append composed (new ∷ []))) in
       derives ranked start
@@ -113,13 +119,13 @@ module _ (P : Problem) where
 
   module _ (s : State) (derived : Derivation rank Properly (given P) (system-of s)) (good : GoodRules P (s .rules)) where
     -- When all overlaps have one form, so has each input equation.
-    never-found : s .waiting ≡ [] → OverlapsSame (s .rules) → (c : Candidate) → List·Memᴰ c (inputs P) → (f : Pair) → Forms (s .rules) (c .sides) f → f .left ≡ f .right
+    never-found : s .waiting ≡ [] → OverlapsSame (s .rules) → (c : Candidate) → List·Memᴰ c (inputs P) → (f : Pair) → Forms (s .rules) (c .sides) f →
+        f .left ≡ f .right
     never-found w same-forms c i f h =
         let rules : List Pair = sides-of (s .rules) in
         let equal : Equal P (c .sides) = every-in (candidates-every (Equal P) scanned-input 1 (P .equations) (good-closed P .given)) i in
-        let before : Conv (Step (Both (given P))) (c .sides .left) (c .sides .right) = conv-conv (λ l r j. sound-itself (Both (given P)) l r (inl j)) equal in
         let now : Conv (Step (Both ([] ⨾ rules))) (c .sides .left) (c .sides .right) =
-        same-conversion rank (subst (Derivation rank Properly (given P)) (idle-system s w) derived) _ _ .0 before in
+        derived-sound rank (subst (Derivation rank Properly (given P)) (idle-system s w) derived) _ _ .0 equal in
         let by-rules : Conv (Step (Of rules)) (c .sides .left) (c .sides .right) =
         conv-conv (λ l r j. sound-itself (Of rules) l r (⊎-elim (λ k. absurd (List·Memᴰ·not-nil k)) (λ k. k) j)) now in
         conv-same-last rank rules (λ l r j. of-every (Good P) good l r j .down) (λ l r j. of-every (Good P) good l r j .low) (overlaps-same-join (s .rules) same-forms)
@@ -171,15 +177,18 @@ module _ (P : Problem) where
         let new : Rule = new-rule s sides in
         let E : List Pair = waiting-equations (t .waiting) in
         let W : List Pair = waiting-rules (t .waiting) in
-        let c : Derivation rank Properly (system-of s) (E ⨾ sides ∷ (sides-of (s .rules) ++ W)) = derives rank d (oriented-derives P E W (s .rules) (sides-of (s .rules) ++ W) (t .pair .sides) sides o) in
-        let falls : Falls rank (sides ∷ (sides-of (s .rules) ++ W)) = derivation-falls rank (derives rank derived c) (λ l r i. absurd (List·Memᴰ·not-nil i)) in
+        let c : Derivation rank Properly (system-of s) (E ⨾ sides ∷ (sides-of (s .rules) ++ W)) =
+        derives rank d (oriented-derives P E W (s .rules) (sides-of (s .rules) ++ W) (t .pair .sides) sides o) in
+        let falls : Falls rank (sides ∷ (sides-of (s .rules) ++ W)) = derived-falls rank (derives rank derived c) in
         let E-is : E ≡ waiting-equations (t .waiting ++ removed new (s .rules)) =
         sym (equations-append (t .waiting) (removed new (s .rules)) ∙ ap (λ l. E ++ l) (removed-no-equation new (s .rules)) ∙ append-nil E) in
-        let W-is : W ++ waiting-rules (removed new (s .rules)) ≡ waiting-rules (t .waiting ++ removed new (s .rules)) = sym (rules-append (t .waiting) (removed new (s .rules))) in
+        let W-is : W ++ waiting-rules (removed new (s .rules)) ≡ waiting-rules (t .waiting ++ removed new (s .rules)) =
+        sym (rules-append (t .waiting) (removed new (s .rules))) in
         subst₂ (λ a b. Derivation rank Properly (system-of s) (a ⨾ sides-of (composed ++ (new ∷ [])) ++ b)) E-is W-is (derives rank c (made-derives P E W (s .rules) new composed falls r))
     rule-derives t n (nothing-new e w v) sides o composed r = absurd (false≢true (sym n ∙ same-dec (t .pair .sides .left) (t .pair .sides .right) .1 e))
 
-    next-derives : Postponed s → Every (FreeRemoved (s .rules)) (s .waiting) → (s′ : State) → Next P s s′ → Derivation rank Properly (system-of s) (system-of s′)
+    next-derives : Postponed s → Every (FreeRemoved (s .rules)) (s .waiting) → (s′ : State) → Next P s s′ →
+        Derivation rank Properly (system-of s) (system-of s′)
     next-derives p proper s′ (settles t h room q e) = rw e (settled-derives t q (taken-entered p proper t h))
     next-derives p proper s′ (makes t h room n few sides o live composed r e) = rw e (rule-derives t n (taken-entered p proper t h) sides o composed r)
 
@@ -191,8 +200,10 @@ module _ (P : Problem) where
       derives rank d (next-derives s d (reachable-good P r) (reachable-postponed P r) (reachable-free P r) s′ (turn-next P s s′ left left′ e))
 
   -- each turn that goes on by transitions from the state before it,
-  pub turn-derives : {s : State} {left : ℕ} → Reachable P s left → (s′ : State) (left′ : ℕ) → turn P s left ≡ done s′ left′ → Derivation rank Properly (system-of s) (system-of s′)
-  turn-derives {s} {left} r s′ left′ e = next-derives s (reachable-derived r) (reachable-good P r) (reachable-postponed P r) (reachable-free P r) s′ (turn-next P s s′ left left′ e)
+  pub turn-derives : {s : State} {left : ℕ} → Reachable P s left → (s′ : State) (left′ : ℕ) → turn P s left ≡ done s′ left′ →
+      Derivation rank Properly (system-of s) (system-of s′)
+  turn-derives {s} {left} r s′ left′ e =
+      next-derives s (reachable-derived r) (reachable-good P r) (reachable-postponed P r) (reachable-free P r) s′ (turn-next P s s′ left left′ e)
 
   -- and so is what the run leaves; with end 0, as rules without an equation.
   pub run-derived : Derivation rank Properly (given P) (system-of (run P .state))

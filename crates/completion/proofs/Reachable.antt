@@ -31,7 +31,8 @@ turn-next P s s′ left left′ e = after P s left (done s′ left′) e
 pub next-entry : (P : Problem) (s s′ : State) → Next P s s′ → length (s′ .log) ≡ suc (length (s .log))
 unfolding settled
 next-entry P s s′ (settles t h room q e) = rw e (omega (arith, length-append (s .log) (record { origin = t .pair .origin; made = 0 } ∷ [])))
-next-entry P s s′ (makes t h room d few sides o live all r e) = rw e (omega (arith, length-append (s .log) (record { origin = t .pair .origin; made = suc (s .made) } ∷ [])))
+next-entry P s s′ (makes t h room d few sides o live all r e) =
+    rw e (omega (arith, length-append (s .log) (record { origin = t .pair .origin; made = suc (s .made) } ∷ [])))
 
 -- the turns before it
 unfoldable pub turns-done : {P : Problem} {s : State} {left : ℕ} → Reachable P s left → ℕ
@@ -53,7 +54,8 @@ turn-left P s (suc left) = omega (arith, rest-of-turn P s left)
 pub turn-less : (P : Problem) (s s′ : State) (left left′ : ℕ) → turn P s left ≡ done s′ left′ → left′ < left
 unfolding left-of
 turn-less P s s′ zero left′ e = absurd (stop≢done (sym (turn-unpaid P s) ∙ e))
-turn-less P s s′ (suc left) left′ e = let h : left-of (turn P s (suc left)) ≤ suc left - 1 = turn-left P s (suc left) in let k : left′ ≤ suc left - 1 = rw e at h in omega arith
+turn-less P s s′ (suc left) left′ e =
+    let h : left-of (turn P s (suc left)) ≤ suc left - 1 = turn-left P s (suc left) in let k : left′ ≤ suc left - 1 = rw e at h in omega arith
 
 pub stop-left : (P : Problem) (s : State) (left left′ : ℕ) (e : End) → turn P s left ≡ stop e left′ → left′ ≤ left
 unfolding left-of

@@ -44,7 +44,8 @@ module _ (Σ : List Symbol) (es : List Equation) where
         subst (Over Σ) (sym (w .at-node .replaced ∙ f .replaced (w .other))) (over-refill Σ (f .c) (w .one) (w .other) (subst (Over Σ) (f .whole) o) other)
 
     -- A raw step, patched, is a replacement or no move, there and back.
-    patch-step : (s t : Term) → Relations.Step (Of (equation-sides es)) s t → Many (Replacement Σ es) (patch Σ s) (patch Σ t) × Many (Replacement Σ es) (patch Σ t) (patch Σ s)
+    patch-step : (s t : Term) → Relations.Step (Of (equation-sides es)) s t →
+        Many (Replacement Σ es) (patch Σ s) (patch Σ t) × Many (Replacement Σ es) (patch Σ t) (patch Σ s)
     patch-step s t w = here (patched-at Σ (p .c))
       where
         p : StepAt (Of (equation-sides es)) s t

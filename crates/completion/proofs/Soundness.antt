@@ -4,7 +4,7 @@
 use mathlib.Core.Path.{_≡_, refl, sym, _∙_, subst, subst₂}
 use mathlib.Core.Bool.{true}
 use mathlib.Core.Logic.{_⊎_, inl, inr, ⊎-elim, _↔_}
-use mathlib.Core.List.{List, _∷_, List·Memᴰ·head, List·Memᴰ·tail, List·Memᴰ·cases-cons}
+use mathlib.Core.List.{List, [], _∷_, List·Memᴰ·head, List·Memᴰ·tail, List·Memᴰ·not-nil, List·Memᴰ·cases-cons}
 use Prim.Native.Nat.{ℕ}
 use Rattle.terms.specs.Term.{Term, Pair, subst-term}
 use Rattle.terms.proofs.Positions.{Found, found}
@@ -18,7 +18,9 @@ use Rattle.rewriting.proofs.Converge.{conv-conv}
 use Rattle.rewriting.proofs.Order.{StepAt, step-at, at-step}
 use Rattle.rewriting.proofs.Sound.{Sound, sound-itself}
 use Rattle.rewriting.proofs.Lower.{above-lower}
-use Rattle.completion.specs.Transitions.{System, _⨾_, pair, Rewrites, Variants, Same, reorder, turn-round, rename-equation, rename-rule, unchanged, also, Transition, delete, compose, simplify, orient, collapse, deduce, Derives, Derivation, written, by}
+use Rattle.completion.specs.Transitions.{System, _⨾_, pair, Rewrites, Variants, Same, reorder, turn-round, rename-equation, rename-rule}
+use Rattle.completion.specs.Transitions.{unchanged, also, Transition, delete, compose, simplify, orient, collapse, deduce, Derives, Derivation}
+use Rattle.completion.specs.Transitions.{written, by}
 use Rattle.completion.proofs.Words.{plug-node}
 use Rattle.completion.proofs.Reorders.{reordered-in, reordered-back}
 
@@ -208,3 +210,15 @@ module _ (rank : ℕ → ℕ) {Beyond : Term → Term → Type 0} where
   pub derivation-falls : {S T : System} → Derivation rank Beyond S T → RulesFall rank S → RulesFall rank T
   derivation-falls (written p) h = same-falls rank p h
   derivation-falls (by x d) h = derivation-falls d (same-falls rank (x .is-after) (transition-falls (x .transition) (same-falls rank (x .is-before) h)))
+
+  -- What is derived from equations alone: equations and rules together convert what those equations convert, and every rule goes down.
+  module _ {E : List Pair} {T : System} (d : Derivation rank Beyond (E ⨾ []) T) where
+    pub derived-sound : (s t : Term) → Conv (Step (Of E)) s t ↔ Conv (Step (Both T)) s t
+    derived-sound s t =
+        let h = same-conversion d s t in (
+          λ c. h .0 (conv-conv (λ l r i. sound-itself (Both (E ⨾ [])) l r (inl i)) c),
+          λ c. conv-conv (λ l r i. sound-itself (Of E) l r (⊎-elim (λ j. j) (λ j. absurd (List·Memᴰ·not-nil j)) i)) (h .1 c),
+        )
+
+    pub derived-falls : RulesFall rank T
+    derived-falls = derivation-falls d (λ l r i. absurd (List·Memᴰ·not-nil i))

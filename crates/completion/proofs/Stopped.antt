@@ -25,7 +25,8 @@ unfolding turns
 turns-stop zero P s left h r = absurd (omega arith)
 turns-stop (suc n) P s left h r = go (turn P s left) refl (λ s′ left′ h r. turns-stop n P s′ left′ h r)
   where
-    go : (p : Paid State) → turn P s left ≡ p → ((s′ : State) (left′ : ℕ) → left′ < n → Reachable P s′ left′ → Stopped P (turns n P s′ left′)) → Stopped P (turns (suc n) P s left)
+    go : (p : Paid State) → turn P s left ≡ p → ((s′ : State) (left′ : ℕ) → left′ < n → Reachable P s′ left′ → Stopped P (turns n P s′ left′)) →
+        Stopped P (turns (suc n) P s left)
     go (done s′ left′) e ih = let l = turn-less P s s′ left left′ e in rw (e, turns) (ih s′ left′ (omega arith) (by-turn r e))
     go (stop end left′) e ih =
         let l = stop-left P s left left′ end e in

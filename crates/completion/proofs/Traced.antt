@@ -16,10 +16,14 @@ use Rattle.terms.proofs.Every.{every-of}
 use Rattle.rewriting.specs.Overlap.{Rule, Overlap, overlap, Place, all-places}
 use Rattle.rewriting.specs.Rewrite.{End, complete, neither-above, spent, too-large, rules-full, log-full, Paying, normalise-pair}
 use Rattle.rewriting.proofs.Covers.{HoldsAt}
-use Rattle.rewriting.proofs.Holds.{Form, Forms, Pays, bind-holds, return-holds, end-with-holds, end-if-holds, if-holds, pay-holds, hold-holds, normalise-holds, normalise-pair-holds}
+use Rattle.rewriting.proofs.Holds.{Form, Forms, Pays, bind-holds, return-holds, end-with-holds, end-if-holds, if-holds, pay-holds, hold-holds}
+use Rattle.rewriting.proofs.Holds.{normalise-holds, normalise-pair-holds}
 use Rattle.problem.specs.Problem.{Problem}
-use Rattle.completion.specs.Turn.{overlapping, Candidate, State, Taken, kept, scan-overlap, if-different, if-different-overlap, scan-inputs, scan, take-pair, orient, normalise-rights, make-rule, turn}
-use Rattle.completion.proofs.Ends.{inputs, Scanned, Source, of-waiting, of-overlap, of-input, Takes, Oriented, as-taken, other-way, Due, Rights, none-yet, one-more, older-rules, Next, settles, makes, SameForm, SameAt, OverlapsSame, SameCandidate, Certified, Large, in-taking, in-overlap, in-right, variables, Because}
+use Rattle.completion.specs.Turn.{overlapping, Candidate, State, Taken, kept, scan-overlap, if-different, if-different-overlap, scan-inputs}
+use Rattle.completion.specs.Turn.{scan, take-pair, orient, normalise-rights, make-rule, turn}
+use Rattle.completion.proofs.Ends.{inputs, Scanned, Source, of-waiting, of-overlap, of-input, Takes, Oriented, as-taken, other-way, Due}
+use Rattle.completion.proofs.Ends.{Rights, none-yet, one-more, older-rules, Next, settles, makes, SameForm, SameAt, OverlapsSame}
+use Rattle.completion.proofs.Ends.{SameCandidate, Certified, Large, in-taking, in-overlap, in-right, variables, Because}
 
 module _ (P : Problem) (s : State) where
   abbrev pub E : End → ℕ → Type 0
@@ -35,7 +39,8 @@ module _ (P : Problem) (s : State) where
 
   -- a pair that is normalised
   forms : (c : Candidate) (cs : List Candidate) → Source P s c cs → Pays (Forms (s .rules) (c .sides)) E (normalise-pair (s .rules) (c .sides))
-  forms c cs h = normalise-pair-holds E (s .rules) out-of-units (c .sides) (λ o. large (in-taking c cs h _ (inl refl) o)) (λ o. large (in-taking c cs h _ (inr refl) o))
+  forms c cs h =
+      normalise-pair-holds E (s .rules) out-of-units (c .sides) (λ o. large (in-taking c cs h _ (inl refl) o)) (λ o. large (in-taking c cs h _ (inr refl) o))
 
   -- what the scan finds
   pub record Found (c : Candidate) : Type 0 where
@@ -47,13 +52,15 @@ module _ (P : Problem) (s : State) where
   same-form : (e f : Pair) → f .left ≡ f .right → Forms (s .rules) e f → SameForm (s .rules) e
   same-form e f q h = record { to = f .right; left = subst (Form (s .rules) (e .left)) q (h .left); right = h .right }
 
-  different : (c : Candidate) (f : Pair) (next : Paying Candidate) → Source P s c [] → Forms (s .rules) (c .sides) f → (SameForm (s .rules) (c .sides) → Pays Found E next) →
+  different : (c : Candidate) (f : Pair) (next : Paying Candidate) → Source P s c [] → Forms (s .rules) (c .sides) f →
+      (SameForm (s .rules) (c .sides) → Pays Found E next) →
       Pays Found E (if-different (c .origin) f next)
   unfolding if-different
   different c f next h k go =
       if-holds _ _ _ (λ b. go (same-form (c .sides) f (same-dec (f .left) (f .right) .0 b) k)) (λ _. return-holds _ (record { of = c; source = h; origin = refl; forms = k }))
 
-  scan-inputs-traced : s .waiting ≡ [] → OverlapsSame (s .rules) → (cs : List Candidate) → Every (λ c. List·Memᴰ c (inputs P)) cs → (Every (SameCandidate (s .rules)) cs → Certified P s) → Pays Found E (scan-inputs (s .rules) cs)
+  scan-inputs-traced : s .waiting ≡ [] → OverlapsSame (s .rules) → (cs : List Candidate) → Every (λ c. List·Memᴰ c (inputs P)) cs →
+      (Every (SameCandidate (s .rules)) cs → Certified P s) → Pays Found E (scan-inputs (s .rules) cs)
   unfolding scan-inputs Because
   scan-inputs-traced w a [] of-none k = end-with-holds complete (λ _. k of-none)
   scan-inputs-traced w a (c ∷ cs) (of-cons i h) k =
@@ -108,7 +115,8 @@ module _ (P : Problem) (s : State) where
   pub takes : Pays (Takes P s) E (take-pair P (s .rules) (s .waiting))
   takes = take-traced (s .waiting) refl
 
-  orient-traced : (t : Taken) → Takes P s t → length (s .log) < 512 → same (t .pair .sides .left) (t .pair .sides .right) ≡ false → length (pair-variables (t .pair .sides)) ≤ 16 →
+  orient-traced : (t : Taken) → Takes P s t → length (s .log) < 512 → same (t .pair .sides .left) (t .pair .sides .right) ≡ false →
+      length (pair-variables (t .pair .sides)) ≤ 16 →
       Pays (Oriented P (t .pair .sides)) E (orient P (t .pair .sides))
   unfolding orient Because
   orient-traced t h room d few =
@@ -129,7 +137,8 @@ module _ (P : Problem) (s : State) where
         (normalise-holds E (done ++ (old ∷ later) ++ (new ∷ [])) out-of-units (old .sides .right) (λ o. large (in-right sides due live done later old h o)))
         λ r f. rights-traced _ later (one-more h f refl)
 
-  make-traced : (t : Taken) → Takes P s t → length (s .log) < 512 → same (t .pair .sides .left) (t .pair .sides .right) ≡ false → Pays (Next P s) E (make-rule P s t)
+  make-traced : (t : Taken) → Takes P s t → length (s .log) < 512 → same (t .pair .sides .left) (t .pair .sides .right) ≡ false →
+      Pays (Next P s) E (make-rule P s t)
   unfolding make-rule Because
   make-traced t h room d =
       bind-holds _ _ (end-if-holds _ too-large (λ q left. variables t h (ltb-true 16 _ q))) λ _ few.

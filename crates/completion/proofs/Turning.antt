@@ -13,9 +13,11 @@ use Rattle.terms.specs.Base.{if_then_else_}
 use Rattle.terms.specs.Term.{Pair, same, pair-variables}
 use Rattle.rewriting.proofs.Holds.{and-then-assoc, stop≢done}
 use Rattle.rewriting.specs.Overlap.{Rule, all-places}
-use Rattle.rewriting.specs.Rewrite.{End, spent, too-large, rules-full, log-full, done, stop, Paying, return, end-with, and-then, _>>=_, end-if, pay, normalise-pair}
+use Rattle.rewriting.specs.Rewrite.{End, spent, too-large, rules-full, log-full, done, stop, Paying, return, end-with, and-then, _>>=_, end-if, pay}
+use Rattle.rewriting.specs.Rewrite.{normalise-pair}
 use Rattle.problem.specs.Problem.{Problem}
-use Rattle.completion.specs.Turn.{scanned-input, Candidate, State, Taken, candidates, scan, take-pair, orient, kept, removed, normalise-rights, make-rule, settled, turn, Finished, initial, turns, run}
+use Rattle.completion.specs.Turn.{scanned-input, Candidate, State, Taken, candidates, scan, take-pair, orient, kept, removed, normalise-rights}
+use Rattle.completion.specs.Turn.{make-rule, settled, turn, Finished, initial, turns, run}
 pub use Rattle.completion.proofs.Sentences.{turn-unpaid, turn-log-full, new-rule, next-state}
 use Rattle.completion.proofs.Sentences.{make-many-rules}
 
@@ -37,7 +39,8 @@ module _ (P : Problem) (s : State) (units : ℕ) where
     unfolding turn _>>=_ and-then pay
     rest = ap (λ p. and-then p behind-take) h
 
-    past-log : length (s .log) < 512 → turn P s (suc units) ≡ (if same (t .pair .sides .left) (t .pair .sides .right) then return (settled s t) else make-rule P s t) left
+    past-log : length (s .log) < 512 →
+        turn P s (suc units) ≡ (if same (t .pair .sides .left) (t .pair .sides .right) then return (settled s t) else make-rule P s t) left
     unfolding end-if return and-then
     past-log few = rest ∙ ap (λ b. and-then (end-if b log-full left) later) (lt-leb 512 (length (s .log)) few)
 
@@ -54,7 +57,8 @@ abbrev pub oriented : Problem → Pair → Paying Pair
 oriented P e = end-if (ltb 16 (length (pair-variables e))) too-large >>= λ _. orient P e
 
 -- the pair was oriented, so it had no more than 16 variables
-oriented-done : (P : Problem) (e sides : Pair) (units left : ℕ) → oriented P e units ≡ done sides left → (length (pair-variables e) ≤ 16) × (orient P e units ≡ done sides left)
+oriented-done : (P : Problem) (e sides : Pair) (units left : ℕ) → oriented P e units ≡ done sides left →
+    (length (pair-variables e) ≤ 16) × (orient P e units ≡ done sides left)
 unfolding _>>=_ and-then end-if end-with return
 oriented-done P e sides units left h = go (ltb 16 (length (pair-variables e))) refl h
   where

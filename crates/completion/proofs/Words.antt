@@ -118,7 +118,8 @@ module _ (Σ : List Symbol) where
   abbrev only : Subst → Term → Subst
   only σ l x = if member x (variables l) then σ x else var x
 
-  only-over : (σ : Subst) (l : Term) (x : ℕ) → (In x (variables l) → Over Σ (σ x)) → (b : Bool) → Says (In x (variables l)) b → Over Σ (if b then σ x else var x)
+  only-over : (σ : Subst) (l : Term) (x : ℕ) → (In x (variables l) → Over Σ (σ x)) → (b : Bool) → Says (In x (variables l)) b →
+      Over Σ (if b then σ x else var x)
   unfolding Over if_then_else_
   only-over σ l x h true i = h i
   only-over σ l x h false n = tt

@@ -11,7 +11,8 @@ use Rattle.terms.specs.Term.{Pair, same, pair-variables, renamed}
 use Rattle.problem.specs.Problem.{rank-of, Equation, Problem}
 use Rattle.order.specs.Order.{above}
 use Rattle.rewriting.specs.Overlap.{Rule, Overlap, overlap, Place, all-places}
-use Rattle.rewriting.specs.Rewrite.{step, End, complete, neither-above, spent, too-large, rules-full, log-full, done, stop, Paying, return, end-with, _>>=_, end-if, pay, hold, normalise, normalise-pair}
+use Rattle.rewriting.specs.Rewrite.{step, End, complete, neither-above, spent, too-large, rules-full, log-full, done, stop, Paying, return, end-with}
+use Rattle.rewriting.specs.Rewrite.{_>>=_, end-if, pay, hold, normalise, normalise-pair}
 
 -- Where a pair came from: "1 waiting input, 2 waiting from a removed rule, 3 input at the scan, 4 overlap", with the numbers and the position that
 -- an entry has of it.
