@@ -80,9 +80,11 @@ turns-delivered bytes P read zero s left r e = absurd (zero≢one (cc))
 turns-delivered bytes P read (suc n) s left r e = go (turn P s left) refl e (λ s′ left′ r′ e′. turns-delivered bytes P read n s′ left′ r′ e′)
   where
     go : (p : Paid State) → turn P s left ≡ p → turns (suc n) P s left .end ≡ complete →
-        ((s′ : State) (left′ : ℕ) → Reachable P s′ left′ → turns n P s′ left′ .end ≡ complete → Decides (P .symbols) (P .equations) (turns n P s′ left′ .state .rules)) →
+        ((s′ : State) (left′ : ℕ) → Reachable P s′ left′ → turns n P s′ left′ .end ≡ complete → Decides (P .symbols) (P .equations)
+        (turns n P s′ left′ .state .rules)) →
         Decides (P .symbols) (P .equations) (turns (suc n) P s left .state .rules)
     go (done s′ left′) q e ih = let e′ : turns n P s′ left′ .end ≡ complete = rw (q, turns) at e in rw (q, turns) (ih s′ left′ (by-turn r q) e′)
     go (stop end left′) q e ih =
         let e′ : end ≡ complete = rw (q, turns) at e in
-        rw (q, turns) (certificate-decides (P .symbols) (P .equations) (s .rules) (certified-certificate bytes P read r (stopped-complete P s left left′ end q e′)))
+        rw (q, turns) (certificate-decides (P .symbols) (P .equations) (s .rules)
+        (certified-certificate bytes P read r (stopped-complete P s left left′ end q e′)))

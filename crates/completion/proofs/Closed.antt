@@ -77,7 +77,8 @@ module _ (P : Problem) (R W T : Pair → Type 0) (k : Closed P R W T) where
       first (of-cons q h) = (k .taken (c .sides) q, h)
   source-has s h c cs (of-overlap at o z small e q) =
       let both : BothHold RuleHas at = every-in (all-places-hold RuleHas [] (s .rules) of-none (h .rules)) (z .listed) in (
-        subst (λ (d : Candidate). T (d .sides)) (sym e) (k .overlapped (at .inner .sides) (at .outer .sides) (at .position) o (z .is) small (both .inner-holds) (both .outer-holds)),
+        subst (λ (d : Candidate). T (d .sides)) (sym e)
+            (k .overlapped (at .inner .sides) (at .outer .sides) (at .position) o (z .is) small (both .inner-holds) (both .outer-holds)),
         subst (Every WaitingHas) (sym q) of-none,
       )
   source-has s h c cs (of-input w a i q) =
@@ -99,7 +100,8 @@ module _ (P : Problem) (R W T : Pair → Type 0) (k : Closed P R W T) where
     where
       go : Every RuleHas before × Every RuleHas (old ∷ later) → Every RuleHas done × Every RuleHas later
       go (b, of-cons q l) = (
-        subst (Every RuleHas) (sym e) (every-append b (every-one (k .composed _ (every-append (every-append b (of-cons q l)) (every-one n)) (old .sides) r (f .reached) q))),
+        subst (Every RuleHas) (sym e)
+            (every-append b (every-one (k .composed _ (every-append (every-append b (of-cons q l)) (every-one n)) (old .sides) r (f .reached) q))),
         l,
       )
 

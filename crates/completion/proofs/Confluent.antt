@@ -20,7 +20,8 @@ of-number [] i h = absurd (omega arith)
 of-number (e ∷ rs) zero h = List·Memᴰ·head refl
 of-number (e ∷ rs) (suc i) h = List·Memᴰ·tail (of-number rs i (omega arith))
 
-module _ (rank : ℕ → ℕ) (rs : List Pair) (down : Falls rank rs) (low : (l r : Term) → Of rs l r → VarsIn (λ (x : ℕ). x < 16) l) (overlaps : OverlapsJoin rs) where
+module _ (rank : ℕ → ℕ) (rs : List Pair) (down : Falls rank rs) (low : (l r : Term) → Of rs l r → VarsIn (λ (x : ℕ). x < 16) l)
+    (overlaps : OverlapsJoin rs) where
   rules-solve : Solves (Of rs) (Of rs)
   rules-solve =
       path-solves rank rs rs

@@ -104,7 +104,9 @@ module _ (rank : ℕ → ℕ) where
             simplify-both rank (waiting-equations cs) (sides-of rules) live some-live (reached-star (k .left .reached)) (reached-star (k .right .reached))
 
         go : (o : Origin) → c .origin ≡ o →
-            Derivation rank Properly (if-removed o (waiting-equations cs) (c .sides ∷ waiting-equations cs) ⨾ sides-of rules ++ if-removed o (c .sides ∷ waiting-rules cs) (waiting-rules cs))
+            Derivation rank Properly
+            (if-removed o (waiting-equations cs) (c .sides ∷ waiting-equations cs) ⨾ sides-of rules ++ if-removed o (c .sides ∷ waiting-rules cs)
+            (waiting-rules cs))
             (f ∷ waiting-equations cs ⨾ live)
         go (waiting-input n) e = as-equation
         go (removed-rule n) e = same-as rank (reorder unmoved (reordered-back (put-back (c .sides) (sides-of rules) (waiting-rules cs))))
@@ -114,7 +116,8 @@ module _ (rank : ℕ → ℕ) where
 
   -- Step 1, an overlap: Deduce, then Simplify.
   pub overlap-derives : (rules : List Rule) (R : List Pair) → ((l r : Term) → Of (sides-of rules) l r → Of R l r) → (at : Place) (o : Overlap) →
-      List·Memᴰ at (all-places [] rules) → overlap (at .inner .sides) (at .outer .sides) (at .position) ≡ some o → (E : List Pair) (f : Pair) → Forms rules (renamed (o .sides)) f →
+      List·Memᴰ at (all-places [] rules) → overlap (at .inner .sides) (at .outer .sides) (at .position) ≡ some o → (E : List Pair)
+      (f : Pair) → Forms rules (renamed (o .sides)) f →
       Derivation rank Properly (E ⨾ R) (f ∷ E ⨾ R)
   overlap-derives rules R sub at o i q E f h =
       let both : BothHold (λ r. List·Memᴰ r rules) at = every-in (all-places-hold (λ r. List·Memᴰ r rules) [] rules of-none (every-of rules (λ r j. j))) i in
@@ -148,7 +151,8 @@ module _ (rank : ℕ → ℕ) where
         star-map (λ t. t) (λ a b w. step-more (Of (with-old (old .sides) [])) _ (λ l r i. reordered-in (to-front (old .sides) []) i) w) m in
         same-as rank (reorder unmoved (to-front (old .sides) X))
         (derives rank
-        (compose-right rank E (others ++ (n ∷ [])) (others ++ (n ∷ X)) more (λ l r i. falls l r (List·Memᴰ·tail (more l r i))) (old .sides .left) (old .sides .right) (falls _ _ (List·Memᴰ·head refl)) m′)
+        (compose-right rank E (others ++ (n ∷ [])) (others ++ (n ∷ X)) more (λ l r i. falls l r (List·Memᴰ·tail (more l r i))) (old .sides .left)
+        (old .sides .right) (falls _ _ (List·Memᴰ·head refl)) m′)
         (written (reorder unmoved (reordered-back (to-front (with-right old r .sides) X)))))
 
   pub rights-derive : (E X : List Pair) (new : Rule) {older done later : List Rule} → Rights new older done later →
@@ -162,8 +166,10 @@ module _ (rank : ℕ → ℕ) where
       let q′ : sides-of (before ++ (old ∷ later) ++ (new ∷ [])) ≡ sides-of before ++ (old .sides ∷ sides-of later) ++ (new .sides ∷ []) =
       sides-append (before ++ (old ∷ later)) (new ∷ []) ∙ ap (λ l. l ++ (new .sides ∷ [])) q in
       let p : sides-of before ++ (with-right old r .sides ∷ sides-of later) ≡ sides-of (done ++ later) =
-      sym (ap (λ l. sides-of (l ++ later)) e ∙ ap sides-of (append-assoc before (with-right old r ∷ []) later) ∙ sides-append before (with-right old r ∷ later)) in
+      sym (ap (λ l. sides-of (l ++ later)) e ∙ ap sides-of (append-assoc before (with-right old r ∷ []) later) ∙ sides-append before
+      (with-right old r ∷ later)) in
       let c′ = subst (λ l. Derivation rank Properly (E ⨾ sides-of older ++ (new .sides ∷ X)) (E ⨾ l ++ (new .sides ∷ X))) q c in
       let m = subst (λ l. Star (Step (Of l)) (old .sides .right) r) q′ (reached-star (h .reached)) in
       derives rank c′
-      (subst (λ l. Derivation rank Properly (E ⨾ sides-of before ++ (old .sides ∷ sides-of later) ++ (new .sides ∷ X)) (E ⨾ l ++ (new .sides ∷ X))) p (one-right E X (new .sides) before later old r (derivation-falls rank c′ f) m))
+      (subst (λ l. Derivation rank Properly (E ⨾ sides-of before ++ (old .sides ∷ sides-of later) ++ (new .sides ∷ X)) (E ⨾ l ++ (new .sides ∷ X))) p
+      (one-right E X (new .sides) before later old r (derivation-falls rank c′ f) m))

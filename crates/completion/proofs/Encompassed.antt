@@ -103,7 +103,8 @@ removed-lefts new [] of-none = of-none
 removed-lefts {Q} new (old ∷ rules) (of-cons q h) = go (rewrites new old) (removed-lefts new rules h)
   where
     go : (b : Bool) → Every (λ (c : Candidate). Q (c .sides .left)) (removed new rules) →
-        Every (λ (c : Candidate). Q (c .sides .left)) (if b then (record { origin = removed-rule (old .number); sides = old .sides } ∷ removed new rules) else removed new rules)
+        Every (λ (c : Candidate). Q (c .sides .left))
+        (if b then (record { origin = removed-rule (old .number); sides = old .sides } ∷ removed new rules) else removed new rules)
     go true k = of-cons q k
     go false k = k
 
@@ -137,7 +138,8 @@ record Spread (s : State) : Type 0 where
   waiting : Every (FreeWaiting (lefts (s .rules))) (s .waiting)
 
 -- The rules of the next state.
-module _ (s : State) (new : Rule) (composed : List Rule) (r : Rights new (kept new (s .rules)) composed []) (normal : Normal (StepBy (s .rules)) (new .sides .left)) where
+module _ (s : State) (new : Rule) (composed : List Rule) (r : Rights new (kept new (s .rules)) composed [])
+    (normal : Normal (StepBy (s .rules)) (new .sides .left)) where
   next-lefts : lefts (composed ++ (new ∷ [])) ≡ lefts (kept new (s .rules)) ++ (new .sides .left ∷ [])
   next-lefts =
       map-append left-of composed (new ∷ [])

@@ -71,7 +71,8 @@ module _ (P : Problem) where
       Good (record { left = e .left; right = r })
   composed-good rules good e r s q =
       record {
-        down = above-lower (rank-of (P .symbols)) (Of (sides-of rules)) (λ a b i. of-every Good good a b i .down) (e .left) (e .right) r (reached-star s) (q .down);
+        down = above-lower (rank-of (P .symbols)) (Of (sides-of rules)) (λ a b i. of-every Good good a b i .down) (e .left) (e .right) r
+            (reached-star s) (q .down);
         low = q .low;
         equal = chain (q .equal) (conv-conv (rules-sound good) (star-conv (reached-star s)));
       }

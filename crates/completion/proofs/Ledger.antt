@@ -92,7 +92,8 @@ take-events P rules (c ∷ waiting) = pair-events rules (c .sides)
 unfoldable pub rights-events : List Rule → List Rule → Rule → Ledger
 rights-events before [] new = nothing
 rights-events before (old ∷ rules) new =
-    also (normalise-events (before ++ (old ∷ rules) ++ (new ∷ [])) (old .sides .right)) (normalise (before ++ (old ∷ rules) ++ (new ∷ [])) (old .sides .right)) λ r.
+    also (normalise-events (before ++ (old ∷ rules) ++ (new ∷ [])) (old .sides .right))
+    (normalise (before ++ (old ∷ rules) ++ (new ∷ [])) (old .sides .right)) λ r.
     rights-events (before ++ (record { number = old .number; sides = record { left = old .sides .left; right = r } } ∷ [])) rules new
 
 unfoldable pub make-events : Problem → State → Taken → Ledger
@@ -247,14 +248,16 @@ scan-books rules inputs (at ∷ ps) =
 take-books : (P : Problem) (rules : List Rule) (cs : List Candidate) → Books (take-pair P rules cs) (take-events P rules cs)
 unfolding take-pair take-events
 take-books P rules [] =
-    last-books (scan rules (candidates scanned-input 1 (P .equations)) (all-places [] rules)) _ _ (scan-books rules (candidates scanned-input 1 (P .equations)) (all-places [] rules))
+    last-books (scan rules (candidates scanned-input 1 (P .equations)) (all-places [] rules)) _ _
+    (scan-books rules (candidates scanned-input 1 (P .equations)) (all-places [] rules))
 take-books P rules (c ∷ cs) = last-books (normalise-pair rules (c .sides)) _ (pair-events rules (c .sides)) (pair-books rules (c .sides))
 
 orient-free : (P : Problem) (e : Pair) (left : ℕ) → Booked left (left-of (orient P e left)) (nothing left)
 unfolding orient
 orient-free P e = go (above (rank-of (P .symbols)) (e .left) (e .right)) (above (rank-of (P .symbols)) (e .right) (e .left))
   where
-    go : (b c : Bool) → Books {A = Pair} (if b then return (renamed e) else if c then return (renamed (record { left = e .right; right = e .left })) else end-with (neither-above e)) nothing
+    go : (b c : Bool) → Books {A = Pair}
+        (if b then return (renamed e) else if c then return (renamed (record { left = e .right; right = e .left })) else end-with (neither-above e)) nothing
     go true c = unfold if_then_else_ in return-books _
     go false true = unfold if_then_else_ in return-books _
     go false false = unfold if_then_else_ in end-books Pair (neither-above e)
@@ -282,7 +285,8 @@ unfolding turn rest-events _>>=_ and-then pay
 rest-books P s left =
     bind-books (take-pair P (s .rules) (s .waiting)) _ (take-events P (s .rules) (s .waiting)) _ (take-books P (s .rules) (s .waiting)) (λ t.
     bind-books (end-if (leb 512 (length (s .log))) log-full) _ nothing _ (end-if-books _ log-full) λ _.
-    if-books (same (t .pair .sides .left) (t .pair .sides .right)) (return (settled s t)) (make-rule P s t) nothing (make-events P s t) (return-books (settled s t)) (make-books P s t)) left
+    if-books (same (t .pair .sides .left) (t .pair .sides .right)) (return (settled s t)) (make-rule P s t) nothing (make-events P s t)
+    (return-books (settled s t)) (make-books P s t)) left
 
 -- how many turns were begun
 unfoldable pub begun : List Event → ℕ
@@ -379,7 +383,8 @@ module _ (P : Problem) where
   turns-begun (suc n) s left h r = go (turn P s left) refl (turn-books P s left .once) (λ s′ left′ h r. turns-begun n s′ left′ h r)
     where
       go : (p : Paid State) → turn P s left ≡ p → begun (turn-events P s left) ≡ min 1 left →
-          ((s′ : State) (left′ : ℕ) → left′ < n → Reachable P s′ left′ → TurnsBegun (length (s′ .log)) (length (turns n P s′ left′ .state .log)) (turns-events n P s′ left′)) →
+          ((s′ : State) (left′ : ℕ) → left′ < n → Reachable P s′ left′ → TurnsBegun (length (s′ .log)) (length (turns n P s′ left′ .state .log))
+          (turns-events n P s′ left′)) →
           TurnsBegun (length (s .log)) (length (turns (suc n) P s left .state .log)) (turns-events (suc n) P s left)
       go (done s′ left′) e b ih =
           let less : left′ < left = turn-less P s s′ left left′ e in

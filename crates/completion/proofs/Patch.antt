@@ -101,7 +101,8 @@ module _ (Σ : List Symbol) where
   at-beneath f cs b e (lost-in h) = lost (λ x y. ap₂ (shape f) (count-plugs cs x y) (h x y))
   at-beneath f cs true e (kept-in ds h) = kept (beneath f ds) (λ a. ap₂ (shape f) (count-plugs cs a (var 0)) (h a) ∙ rw e refl)
   at-beneath f cs false e (kept-in ds h) =
-      lost (λ x y. let z : (w : Term) → patch (node f (plugs cs w)) ≡ var 0 = λ w. ap₂ (shape f) (count-plugs cs w (var 0)) (h w) ∙ rw e refl in z x ∙ sym (z y))
+      lost (λ x y. let z : (w : Term) → patch (node f (plugs cs w)) ≡ var 0 = λ w. ap₂ (shape f) (count-plugs cs w (var 0))
+      (h w) ∙ rw e refl in z x ∙ sym (z y))
 
   at-first : (c : Ctx) (ts : Terms) → PatchedAt c → PatchedIn (first c ts)
   unfolding patch plug

@@ -83,7 +83,8 @@ lefts-stay (one-more {before} {done} {later} {old = x} {r} g f e) old i = go (le
     go (q, j, p) =
         ⊎-elim
         (λ k. (q, in-before q k, p))
-        (λ k. ⊎-elim (λ m. (with-right x r, in-done, sym (ap (λ (z : Rule). z .sides .left) m) ∙ p)) (λ m. (q, Memᴰ·append-right done m, p)) (List·Memᴰ·cases-cons k))
+        (λ k. ⊎-elim (λ m. (with-right x r, in-done, sym (ap (λ (z : Rule). z .sides .left) m) ∙ p)) (λ m. (q, Memᴰ·append-right done m, p))
+        (List·Memᴰ·cases-cons k))
         (List·Memᴰ·append-cases before j)
 
 -- So the rules of the next state reduce what the rules of this one reduce.
@@ -120,7 +121,8 @@ removed-reduce new [] = of-none
 removed-reduce new (old ∷ rules) = go (rewrites new old) refl (removed-reduce new rules)
   where
     go : (b : Bool) → rewrites new old ≡ b → Every (ReducesRemoved (new ∷ [])) (removed new rules) →
-        Every (ReducesRemoved (new ∷ [])) (if b then (record { origin = removed-rule (old .number); sides = old .sides } ∷ removed new rules) else removed new rules)
+        Every (ReducesRemoved (new ∷ []))
+        (if b then (record { origin = removed-rule (old .number); sides = old .sides } ∷ removed new rules) else removed new rules)
     go true e h = of-cons (λ n p. rewrites-reduces new old e) h
     go false e h = h
 

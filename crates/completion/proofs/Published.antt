@@ -62,13 +62,15 @@ equations-append : (a b : List Candidate) → waiting-equations (a ++ b) ≡ wai
 unfolding waiting-equations
 equations-append [] b = refl
 equations-append (c ∷ a) b =
-    ap (λ l. if-removed (c .origin) l (c .sides ∷ l)) (equations-append a b) ∙ if-removed-map (λ l. l ++ waiting-equations b) (c .origin) (waiting-equations a) (c .sides ∷ waiting-equations a)
+    ap (λ l. if-removed (c .origin) l (c .sides ∷ l)) (equations-append a b) ∙ if-removed-map (λ l. l ++ waiting-equations b) (c .origin)
+    (waiting-equations a) (c .sides ∷ waiting-equations a)
 
 rules-append : (a b : List Candidate) → waiting-rules (a ++ b) ≡ waiting-rules a ++ waiting-rules b
 unfolding waiting-rules
 rules-append [] b = refl
 rules-append (c ∷ a) b =
-    ap (λ l. if-removed (c .origin) (c .sides ∷ l) l) (rules-append a b) ∙ if-removed-map (λ l. l ++ waiting-rules b) (c .origin) (c .sides ∷ waiting-rules a) (waiting-rules a)
+    ap (λ l. if-removed (c .origin) (c .sides ∷ l) l) (rules-append a b) ∙ if-removed-map (λ l. l ++ waiting-rules b) (c .origin)
+    (c .sides ∷ waiting-rules a) (waiting-rules a)
 
 -- Steps 4 to 7, from the pair taken among the equations.
 module _ (P : Problem) (E W : List Pair) (rules : List Rule) where
@@ -95,7 +97,8 @@ module _ (P : Problem) (E W : List Pair) (rules : List Rule) where
       let start : Derivation ranked Properly (E ⨾ new .sides ∷ (sides-of rules ++ W)) (E ⨾ sides-of (kept new rules) ++ (new .sides ∷ X)) =
       written (reorder unmoved (made-reordered new)) in
       let q : sides-of (composed ++ []) ++ (new .sides ∷ X) ≡ sides-of (composed ++ (new ∷ [])) ++ X =
-      ap (λ l. sides-of l ++ (new .sides ∷ X)) (append-nil composed) ∙ sym (append-assoc (sides-of composed) (new .sides ∷ []) X) ∙ ap (λ l. l ++ X) (sym (sides-append composed (new ∷ []))) in
+      ap (λ l. sides-of l ++ (new .sides ∷ X)) (append-nil composed) ∙ sym (append-assoc (sides-of composed) (new .sides ∷ []) X) ∙ ap (λ l. l ++ X)
+      (sym (sides-append composed (new ∷ []))) in
       derives ranked start
       (subst (λ l. Derivation ranked Properly (E ⨾ sides-of (kept new rules) ++ (new .sides ∷ X)) (E ⨾ l)) q
       (rights-derive ranked E X new r (derivation-falls ranked start f)))
@@ -128,7 +131,8 @@ module _ (P : Problem) where
         derived-sound rank (subst (Derivation rank Properly (given P)) (idle-system s w) derived) _ _ .0 equal in
         let by-rules : Conv (Step (Of rules)) (c .sides .left) (c .sides .right) =
         conv-conv (λ l r j. sound-itself (Of rules) l r (⊎-elim (λ k. absurd (List·Memᴰ·not-nil k)) (λ k. k) j)) now in
-        conv-same-last rank rules (λ l r j. of-every (Good P) good l r j .down) (λ l r j. of-every (Good P) good l r j .low) (overlaps-same-join (s .rules) same-forms)
+        conv-same-last rank rules (λ l r j. of-every (Good P) good l r j .down) (λ l r j. of-every (Good P) good l r j .low)
+        (overlaps-same-join (s .rules) same-forms)
         _ _ (f .left) (f .right) by-rules
         (reached-star (h .left .reached)) (step-none (s .rules) (f .left) (h .left .normal))
         (reached-star (h .right .reached)) (step-none (s .rules) (f .right) (h .right .normal))
@@ -154,7 +158,8 @@ module _ (P : Problem) where
         go (of-overlap at o z small e q) =
             entered
             (subst (λ l. Derivation rank Properly (waiting-equations l ⨾ sides-of (s .rules) ++ waiting-rules l) (taking t)) (q ∙ sym (z .idle))
-            (overlap-derives rank (s .rules) (sides-of (s .rules) ++ waiting-rules (t .waiting)) (λ l r i. Memᴰ·append-left _ i) at o (z .listed) (z .is) (waiting-equations (t .waiting)) (t .pair .sides)
+            (overlap-derives rank (s .rules) (sides-of (s .rules) ++ waiting-rules (t .waiting)) (λ l r i. Memᴰ·append-left _ i) at o (z .listed)
+            (z .is) (waiting-equations (t .waiting)) (t .pair .sides)
             (subst (λ (c : Candidate). Forms (s .rules) (c .sides) (t .pair .sides)) e (h .forms))))
         go (of-input w a i q) = nothing-new (never-found w a (h .of) i (t .pair .sides) (h .forms)) w q
 
@@ -184,7 +189,8 @@ module _ (P : Problem) where
         sym (equations-append (t .waiting) (removed new (s .rules)) ∙ ap (λ l. E ++ l) (removed-no-equation new (s .rules)) ∙ append-nil E) in
         let W-is : W ++ waiting-rules (removed new (s .rules)) ≡ waiting-rules (t .waiting ++ removed new (s .rules)) =
         sym (rules-append (t .waiting) (removed new (s .rules))) in
-        subst₂ (λ a b. Derivation rank Properly (system-of s) (a ⨾ sides-of (composed ++ (new ∷ [])) ++ b)) E-is W-is (derives rank c (made-derives P E W (s .rules) new composed falls r))
+        subst₂ (λ a b. Derivation rank Properly (system-of s) (a ⨾ sides-of (composed ++ (new ∷ [])) ++ b)) E-is W-is
+        (derives rank c (made-derives P E W (s .rules) new composed falls r))
     rule-derives t n (nothing-new e w v) sides o composed r = absurd (false≢true (sym n ∙ same-dec (t .pair .sides .left) (t .pair .sides .right) .1 e))
 
     next-derives : Postponed s → Every (FreeRemoved (s .rules)) (s .waiting) → (s′ : State) → Next P s s′ →

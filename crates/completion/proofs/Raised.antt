@@ -36,7 +36,8 @@ unless log-full A B a b = b tt
 
 pub stop-more : (P : Problem) (s : State) (left left′ k : ℕ) (e : End) → Other e → turn P s left ≡ stop e left′ → turn P s (left + k) ≡ stop e (left′ + k)
 stop-more P s left left′ k e o q =
-    other e (left′ ≡ 0) (turn P s (left + k) ≡ stop e (left′ + k)) o (subst (λ p. WithMore p k (turn P s (left + k))) q (turn-steady P s left k (left + k) refl))
+    other e (left′ ≡ 0) (turn P s (left + k) ≡ stop e (left′ + k)) o
+    (subst (λ p. WithMore p k (turn P s (left + k))) q (turn-steady P s left k (left + k) refl))
 
 -- at 21 nothing is left
 pub spent-left : (P : Problem) (s : State) (left left′ : ℕ) → turn P s left ≡ stop spent left′ → left′ ≡ 0

@@ -9,7 +9,8 @@ module _ {A : Type 0} where
   pub reordered-in : {l m : List A} {x : A} → Reordered l m → List·Memᴰ x l → List·Memᴰ x m
   reordered-in unmoved i = i
   reordered-in swap i =
-      ⊎-elim (λ e. List·Memᴰ·tail (List·Memᴰ·head e)) (λ j. ⊎-elim (λ e. List·Memᴰ·head e) (λ k. List·Memᴰ·tail (List·Memᴰ·tail k)) (List·Memᴰ·cases-cons j)) (List·Memᴰ·cases-cons i)
+      ⊎-elim (λ e. List·Memᴰ·tail (List·Memᴰ·head e))
+      (λ j. ⊎-elim (λ e. List·Memᴰ·head e) (λ k. List·Memᴰ·tail (List·Memᴰ·tail k)) (List·Memᴰ·cases-cons j)) (List·Memᴰ·cases-cons i)
   reordered-in (behind r) i = ⊎-elim (λ e. List·Memᴰ·head e) (λ j. List·Memᴰ·tail (reordered-in r j)) (List·Memᴰ·cases-cons i)
   reordered-in (moved q r) i = reordered-in r (reordered-in q i)
 

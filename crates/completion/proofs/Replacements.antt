@@ -38,8 +38,10 @@ module _ (Σ : List Symbol) (es : List Equation) where
         let g : Over Σ (w .equation .sides .left) × Over Σ (w .equation .sides .right) = every-in given (w .is-equation) in
         let other : Over Σ (w .other) =
         ⊎-elim
-        (λ (i : Instance Σ (w .equation .sides) (w .one) (w .other)). subst (Over Σ) (sym (i .right-is)) (over-subst Σ (i .substitution) _ (λ x _. i .over x) (g .1)))
-        (λ (i : Instance Σ (w .equation .sides) (w .other) (w .one)). subst (Over Σ) (sym (i .left-is)) (over-subst Σ (i .substitution) _ (λ x _. i .over x) (g .0)))
+        (λ (i : Instance Σ (w .equation .sides) (w .one) (w .other)). subst (Over Σ) (sym (i .right-is))
+        (over-subst Σ (i .substitution) _ (λ x _. i .over x) (g .1)))
+        (λ (i : Instance Σ (w .equation .sides) (w .other) (w .one)). subst (Over Σ) (sym (i .left-is))
+        (over-subst Σ (i .substitution) _ (λ x _. i .over x) (g .0)))
         (w .instance) in
         subst (Over Σ) (sym (w .at-node .replaced ∙ f .replaced (w .other))) (over-refill Σ (f .c) (w .one) (w .other) (subst (Over Σ) (f .whole) o) other)
 

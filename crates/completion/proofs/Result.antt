@@ -145,7 +145,8 @@ module _ (P : Problem) (a : Accepted P) where
   forms-fit complete q = no-forms _ (run-limits P a .log-few)
   forms-fit (neither-above e) q =
       let h : Neither P (run P .state) e = run-neither P e q in
-      one-forms (length (P .symbols)) (length (run P .state .log)) e (a .symbols-few) (h .room) (renamed-held (length (P .symbols)) 32 16 e (h .few) (neither-fits P a e h))
+      one-forms (length (P .symbols)) (length (run P .state .log)) e (a .symbols-few) (h .room)
+      (renamed-held (length (P .symbols)) 32 16 e (h .few) (neither-fits P a e h))
   forms-fit spent q = no-forms _ (run-limits P a .log-few)
   forms-fit too-large q = no-forms _ (run-limits P a .log-few)
   forms-fit rules-full q = no-forms _ (run-limits P a .log-few)
@@ -155,7 +156,12 @@ module _ (P : Problem) (a : Accepted P) where
   unfolding result-fields
   fields-fit =
       of-cons {x = record { tag = 0x10; contents = number-bytes 1 (end-number (run P .end)) }}
-      (record { tag-fits = omega arith; contents-fit = number-bytes-bytes 1 (end-number (run P .end)); length-fits = omega (arith, length-number-bytes 1 (end-number (run P .end))) })
+      (record {
+        tag-fits = omega arith;
+        contents-fit = number-bytes-bytes 1 (end-number (run P .end));
+        length-fits = omega
+            (arith, length-number-bytes 1 (end-number (run P .end)));
+      })
       (of-cons {x = record { tag = 0x11; contents = number-bytes 4 (run P .units) }}
       (record { tag-fits = omega arith; contents-fit = number-bytes-bytes 4 (run P .units); length-fits = omega (arith, length-number-bytes 4 (run P .units)) })
       (every-append
@@ -177,7 +183,8 @@ module _ (P : Problem) (a : Accepted P) where
       let log : List Field = map entry-field (run P .state .log) in
       let forms : List Field = forms-field (run P .end) in
       let lim : Limits (length (P .symbols)) (run P .state) = run-limits P a in
-      let c1 = flat-cons (record { tag = 0x10; contents = number-bytes 1 (end-number (run P .end)) }) (record { tag = 0x11; contents = number-bytes 4 (run P .units) } ∷ (rules ++ log ++ forms)) in
+      let c1 = flat-cons (record { tag = 0x10; contents = number-bytes 1 (end-number (run P .end)) })
+      (record { tag = 0x11; contents = number-bytes 4 (run P .units) } ∷ (rules ++ log ++ forms)) in
       let c2 = flat-cons (record { tag = 0x11; contents = number-bytes 4 (run P .units) }) (rules ++ log ++ forms) in
       let c3 = ap length (flatMap-append field-bytes (rules ++ log) forms) ∙ length-append (flat (rules ++ log)) (flat forms) in
       let c4 = ap length (flatMap-append field-bytes rules log) ∙ length-append (flat rules) (flat log) in

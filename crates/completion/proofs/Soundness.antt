@@ -94,7 +94,8 @@ pub same-forwards : {S T : System} → Same S T → Sound (Both S) (Both T)
 same-forwards (reorder {E} {E′} {R} {R′} p q) =
     both-sound _ E′ R′ (λ l r i. equations-held E R l r (reordered-in (reordered-back p) i)) (λ l r i. rules-held E R l r (reordered-in (reordered-back q) i))
 same-forwards (turn-round {E} {R} {s} {t}) =
-    both-sound _ (pair t s ∷ E) R (cons-sound _ (pair t s) E (turn (equation-there (pair s t) E R)) (other-equations (pair s t) E R)) (rules-held (pair s t ∷ E) R)
+    both-sound _ (pair t s ∷ E) R (cons-sound _ (pair t s) E (turn (equation-there (pair s t) E R)) (other-equations (pair s t) E R))
+    (rules-held (pair s t ∷ E) R)
 same-forwards (rename-equation {E} {R} {d} {e} v) =
     both-sound _ (e ∷ E) R (cons-sound _ e E (renamed-there _ d e v (equation-there d E R)) (other-equations d E R)) (rules-held (d ∷ E) R)
 same-forwards (rename-rule {E} {R} {d} {e} v) =
@@ -106,7 +107,8 @@ pub same-backwards : {S T : System} → Same S T → Sound (Both T) (Both S)
 same-backwards (reorder {E} {E′} {R} {R′} p q) =
     both-sound _ E R (λ l r i. equations-held E′ R′ l r (reordered-in p i)) (λ l r i. rules-held E′ R′ l r (reordered-in q i))
 same-backwards (turn-round {E} {R} {s} {t}) =
-    both-sound _ (pair s t ∷ E) R (cons-sound _ (pair s t) E (turn (equation-there (pair t s) E R)) (other-equations (pair t s) E R)) (rules-held (pair t s ∷ E) R)
+    both-sound _ (pair s t ∷ E) R (cons-sound _ (pair s t) E (turn (equation-there (pair t s) E R)) (other-equations (pair t s) E R))
+    (rules-held (pair t s ∷ E) R)
 same-backwards (rename-equation {E} {R} {d} {e} v) =
     both-sound _ (d ∷ E) R (cons-sound _ d E (renamed-back _ d e v (equation-there e E R)) (other-equations e E R)) (rules-held (e ∷ E) R)
 same-backwards (rename-rule {E} {R} {d} {e} v) =
@@ -160,7 +162,8 @@ module _ (rank : ℕ → ℕ) {Beyond : Term → Term → Type 0} where
       both-sound _ E (pair s t ∷ R) (other-equations (pair s t) E R) (cons-sound _ (pair s t) R (equation-there (pair s t) E R) (rules-held (pair s t ∷ E) R))
   forwards (collapse {E} {R} {s} {t} {u} w c) =
       both-sound _ (pair u t ∷ E) R
-      (cons-sound _ (pair u t) E (chain (turn (rewritten _ R (other-rules (pair s t) E R) s u w)) (rule-there (pair s t) E R)) (equations-held E (pair s t ∷ R)))
+      (cons-sound _ (pair u t) E (chain (turn (rewritten _ R (other-rules (pair s t) E R) s u w)) (rule-there (pair s t) E R))
+      (equations-held E (pair s t ∷ R)))
       (other-rules (pair s t) E R)
   forwards (deduce {E} {R} {s} {t} {u} v w) =
       both-sound _ (pair s t ∷ E) R
@@ -175,7 +178,8 @@ module _ (rank : ℕ → ℕ) {Beyond : Term → Term → Type 0} where
       (cons-sound _ (pair s t) R (chain (rule-there (pair s u) E R) (turn (rewritten _ R (other-rules (pair s u) E R) t u w))) (other-rules (pair s u) E R))
   backwards (simplify {E} {R} {s} {t} {u} w) =
       both-sound _ (pair s t ∷ E) R
-      (cons-sound _ (pair s t) E (chain (equation-there (pair s u) E R) (turn (rewritten _ R (rules-held (pair s u ∷ E) R) t u w))) (other-equations (pair s u) E R))
+      (cons-sound _ (pair s t) E (chain (equation-there (pair s u) E R) (turn (rewritten _ R (rules-held (pair s u ∷ E) R) t u w)))
+      (other-equations (pair s u) E R))
       (rules-held (pair s u ∷ E) R)
   backwards (orient {E} {R} {s} {t} h) =
       both-sound _ (pair s t ∷ E) R (cons-sound _ (pair s t) E (rule-there (pair s t) E R) (equations-held E (pair s t ∷ R))) (other-rules (pair s t) E R)

@@ -90,7 +90,8 @@ normalise-steady rules t (suc left) k (suc more) e = go (step rules t) refl (λ 
     go none q ih = rw (q, normalise) (ap (done t) e)
     go (some u) q ih =
         let l : more ≡ left + k = omega arith in
-        rw (q, normalise) (if-grown (ltb 120 (size u)) (stop too-large left) (normalise rules u left) (stop too-large more) (normalise rules u more) k (ap (stop too-large) l) (ih u l))
+        rw (q, normalise) (if-grown (ltb 120 (size u)) (stop too-large left) (normalise rules u left) (stop too-large more) (normalise rules u more) k
+        (ap (stop too-large) l) (ih u l))
 
 pub steady : Lawful (λ A m. Steady m)
 steady =

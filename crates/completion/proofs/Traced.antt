@@ -57,7 +57,8 @@ module _ (P : Problem) (s : State) where
       Pays Found E (if-different (c .origin) f next)
   unfolding if-different
   different c f next h k go =
-      if-holds _ _ _ (λ b. go (same-form (c .sides) f (same-dec (f .left) (f .right) .0 b) k)) (λ _. return-holds _ (record { of = c; source = h; origin = refl; forms = k }))
+      if-holds _ _ _ (λ b. go (same-form (c .sides) f (same-dec (f .left) (f .right) .0 b) k))
+      (λ _. return-holds _ (record { of = c; source = h; origin = refl; forms = k }))
 
   scan-inputs-traced : s .waiting ≡ [] → OverlapsSame (s .rules) → (cs : List Candidate) → Every (λ c. List·Memᴰ c (inputs P)) cs →
       (Every (SameCandidate (s .rules)) cs → Certified P s) → Pays Found E (scan-inputs (s .rules) cs)
@@ -92,7 +93,8 @@ module _ (P : Problem) (s : State) where
   unfolding if-different-overlap
   different-overlap at o none next h go = go (λ v e. absurd (none≢some (sym h ∙ e)))
   different-overlap at o (some f) next h go =
-      different (place-candidate at (h .0)) f next (h .2) (h .3) λ q. go (λ v e. subst (λ (w : Overlap). SameForm (s .rules) (renamed (w .sides))) (some-inj (sym (h .1) ∙ e)) q)
+      different (place-candidate at (h .0)) f next (h .2) (h .3) λ q. go
+      (λ v e. subst (λ (w : Overlap). SameForm (s .rules) (renamed (w .sides))) (some-inj (sym (h .1) ∙ e)) q)
 
   scan-traced : s .waiting ≡ [] → (ps : List Place) → Every (λ at. List·Memᴰ at (all-places [] (s .rules))) ps →
       (Every (HoldsAt (SameAt (s .rules))) ps → OverlapsSame (s .rules)) → Pays Found E (scan (s .rules) (inputs P) ps)
@@ -100,7 +102,8 @@ module _ (P : Problem) (s : State) where
   scan-traced w [] of-none k =
       scan-inputs-traced w (k of-none) (inputs P) (every-of _ (λ c i. i)) (λ b. record { idle = w; overlaps = k of-none; inputs-same = b })
   scan-traced w (at ∷ ps) (of-cons i h) k =
-      bind-holds _ _ (scan-overlap-traced at (overlap (at .inner .sides) (at .outer .sides) (at .position)) (λ v e. record { idle = w; listed = i; is = e })) λ f g.
+      bind-holds _ _ (scan-overlap-traced at (overlap (at .inner .sides) (at .outer .sides) (at .position))
+      (λ v e. record { idle = w; listed = i; is = e })) λ f g.
       different-overlap at _ f (scan (s .rules) (inputs P) ps) g λ q. scan-traced w ps h (λ qs. k (of-cons q qs))
 
   take-traced : (waiting : List Candidate) → s .waiting ≡ waiting → Pays (Takes P s) E (take-pair P (s .rules) waiting)
@@ -122,7 +125,8 @@ module _ (P : Problem) (s : State) where
   orient-traced t h room d few =
       if-holds _ _ _ (λ a. return-holds _ (as-taken a refl)) (λ a.
       if-holds _ _ _ (λ b. return-holds _ (other-way b refl)) (λ b.
-      end-with-holds (neither-above (t .pair .sides)) (λ _. record { taken = t; takes = h; is-taken = refl; differ = d; not-left = a; not-right = b; few = few; room = room })))
+      end-with-holds (neither-above (t .pair .sides))
+      (λ _. record { taken = t; takes = h; is-taken = refl; differ = d; not-left = a; not-right = b; few = few; room = room })))
 
   module _ (sides : Pair) (due : Due P s sides) (live : suc (length (older-rules s sides)) ≤ 32) where
     abbrev new : Rule

@@ -105,7 +105,8 @@ module _ (P : Problem) (s : State) (t : Taken) (units : ℕ) where
     make-rights-stop few e now r = past-rules few ∙ ap (λ p. and-then p (λ rules. return (next-state s t sides rules))) r
 
     pub make-done : suc (length (kept (new-rule s sides) (s .rules))) ≤ 32 → (rules : List Rule) (now : ℕ) →
-        normalise-rights [] (kept (new-rule s sides) (s .rules)) (new-rule s sides) left ≡ done rules now → make-rule P s t units ≡ done (next-state s t sides rules) now
+        normalise-rights [] (kept (new-rule s sides) (s .rules)) (new-rule s sides) left ≡ done rules now → make-rule P s t units ≡ done
+        (next-state s t sides rules) now
     unfolding and-then return
     make-done few rules now r = past-rules few ∙ ap (λ p. and-then p (λ rules. return (next-state s t sides rules))) r
 
