@@ -112,7 +112,14 @@ accepts bytes P e =
     from-bind _ _ P e λ es d e.
     let q : record { symbols = Σ; budget = budget; equations = es } ≡ P = ok-injective e in
     let k : EquationsFit Σ 16 es = equations-fit Σ 16 (b .end) (b .rest) es d in
-    rw (← q) (record { symbols-few = symbols-few s Σ a; budget-few = budget-few b budget c; equations-few = k .few; equations-fit = k .fit; equations-over = k .over })
+    rw (← q)
+    (record {
+      symbols-few = symbols-few s Σ a;
+      budget-few = budget-few b budget c;
+      equations-few = k .few;
+      equations-fit = k .fit;
+      equations-over = k .over;
+    })
 
 -- So does the equation of a problem that has exactly one.
 pub only-fits : (Q : Equation → Type 0) (end : ℕ) (es : List Equation) (e : Equation) → Every Q es → only-equation end es ≡ ok e → Q e

@@ -81,8 +81,26 @@ module _ (Σ : List Symbol) (es : List Equation) where
         here (kept d h) =
             let s-is : patch Σ s ≡ plug d one = ap (patch Σ) (p .before) ∙ h _ ∙ ap (plug d) left-is in
             let t-is : patch Σ t ≡ plug d other = ap (patch Σ) (p .after) ∙ h _ ∙ ap (plug d) right-is in (
-              go (record { equation = a .item; is-equation = a .is-item; one = one; other = other; instance = inl instance; at-node = plug-node d one other _ _ s-is t-is }) stay,
-              go (record { equation = a .item; is-equation = a .is-item; one = other; other = one; instance = inr instance; at-node = plug-node d other one _ _ t-is s-is }) stay,
+              go
+                  (record {
+                    equation = a .item;
+                    is-equation = a .is-item;
+                    one = one;
+                    other = other;
+                    instance = inl instance;
+                    at-node = plug-node d one other _ _ s-is t-is;
+                  })
+                  stay,
+              go
+                  (record {
+                    equation = a .item;
+                    is-equation = a .is-item;
+                    one = other;
+                    other = one;
+                    instance = inr instance;
+                    at-node = plug-node d other one _ _ t-is s-is;
+                  })
+                  stay,
             )
         here (lost h) =
             let e : patch Σ s ≡ patch Σ t = ap (patch Σ) (p .before) ∙ h _ _ ∙ sym (ap (patch Σ) (p .after)) in

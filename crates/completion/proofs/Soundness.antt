@@ -29,7 +29,15 @@ pub rewrites-step : (R : List Pair) (s t : Term) → Rewrites R s t → Step (Of
 rewrites-step R s t w =
     let f : Found s (w .at-node .position) _ = found s (w .at-node .position) _ (w .at-node .there) in
     at-step
-    (record { l = w .rule .left; r = w .rule .right; rule = w .is-rule; σ = w .substitution; c = f .c; before = f .whole; after = w .at-node .replaced ∙ f .replaced _ })
+    (record {
+      l = w .rule .left;
+      r = w .rule .right;
+      rule = w .is-rule;
+      σ = w .substitution;
+      c = f .c;
+      before = f .whole;
+      after = w .at-node .replaced ∙ f .replaced _;
+    })
 
 pub step-rewrites : (R : List Pair) (s t : Term) → Step (Of R) s t → Rewrites R s t
 step-rewrites R s t w =

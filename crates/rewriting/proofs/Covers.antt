@@ -23,7 +23,8 @@ sides-at H of-none i h = absurd (omega arith)
 sides-at H (of-cons q k) zero h = q
 sides-at H (of-cons q k) (suc i) h = sides-at H k i (omega arith)
 
-pub of-every : (H : Pair → Type 0) {rules : List Rule} → Every (λ (r : Rule). H (r .sides)) rules → (l r : Term) → Of (sides-of rules) l r → H (record { left = l; right = r })
+pub of-every : (H : Pair → Type 0) {rules : List Rule} → Every (λ (r : Rule). H (r .sides)) rules → (l r : Term) → Of (sides-of rules) l r →
+    H (record { left = l; right = r })
 of-every H of-none l r i = absurd (List·Memᴰ·not-nil i)
 of-every H (of-cons q h) l r i = ⊎-elim (λ e. subst H (sym e) q) (of-every H h l r) (List·Memᴰ·cases-cons i)
 
@@ -80,7 +81,8 @@ module _ (Q : Pair → Pair → ℕ → Type 0) where
         a-rule (alone rule (every-right one two both)) (every-map (λ b m. every-head (every-right earlier (rule ∷ []) m)) (k .0)) (k .1),
       )
 
-  covered : {rules : List Rule} → Triangle rules → (i j n : ℕ) → i < length (sides-of rules) → j < length (sides-of rules) → n < size (pair-at rules j .left) → (n ≡ 0 → i < j) → Q (pair-at rules i) (pair-at rules j) n
+  covered : {rules : List Rule} → Triangle rules → (i j n : ℕ) → i < length (sides-of rules) → j < length (sides-of rules) →
+      n < size (pair-at rules j .left) → (n ≡ 0 → i < j) → Q (pair-at rules i) (pair-at rules j) n
   covered no-rule i j n hi hj lt o = absurd (omega arith)
   covered (a-rule s m t) zero zero n hi hj lt o = s n (at-least n o) lt
     where
@@ -93,7 +95,8 @@ module _ (Q : Pair → Pair → ℕ → Type 0) where
       sides-at (λ (b : Pair). (n : ℕ) → n < size (a .sides .left) → Q b (a .sides) n) (every-map (λ b k. k .1) m) i (omega arith) n lt
   covered (a-rule s m t) (suc i) (suc j) n hi hj lt o = covered t i j n (omega arith) (omega arith) lt (λ e. omega (arith, o e))
 
-  pub all-places-cover : (rules : List Rule) → Every HoldsAt (all-places [] rules) → (i j n : ℕ) → i < length (sides-of rules) → j < length (sides-of rules) → n < size (pair-at rules j .left) → (n ≡ 0 → i < j) → Q (pair-at rules i) (pair-at rules j) n
+  pub all-places-cover : (rules : List Rule) → Every HoldsAt (all-places [] rules) → (i j n : ℕ) → i < length (sides-of rules) →
+      j < length (sides-of rules) → n < size (pair-at rules j .left) → (n ≡ 0 → i < j) → Q (pair-at rules i) (pair-at rules j) n
   all-places-cover rules h = covered (triangle [] rules h .1)
 
 -- What holds of the rules holds of the two rules of every place; and its position is one of the outer rule's left side.
@@ -107,7 +110,8 @@ module _ (H : Rule → Type 0) where
   unfolding places count-from
   places-hold a b p q k zero l = of-none
   places-hold a b p q k (suc n) l =
-      of-cons {x = record { inner = a; outer = b; position = k }} (record { inner-holds = p; outer-holds = q; within = omega arith }) (places-hold a b p q (suc k) n (omega arith))
+      of-cons {x = record { inner = a; outer = b; position = k }} (record { inner-holds = p; outer-holds = q; within = omega arith })
+      (places-hold a b p q (suc k) n (omega arith))
 
   positions-hold : (a b : Rule) → H a → H b → Every BothHold (places a b (positions b))
   unfolding positions
