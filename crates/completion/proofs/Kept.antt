@@ -85,8 +85,8 @@ numbers-append = map-append (λ (r : Rule). r .number)
 -- Normalising right sides keeps the numbers.
 moved : (before later : List Rule) (old old′ : Rule) → old′ .number ≡ old .number → numbers (before ++ (old′ ∷ []) ++ later) ≡ numbers (before ++ (old ∷ later))
 moved before later old old′ e =
-    ap numbers (append-assoc before (old′ ∷ []) later) ∙ numbers-append before (old′ ∷ later) ∙ ap (λ k. numbers before ++ (k ∷ numbers later)) e ∙ sym
-    (numbers-append before (old ∷ later))
+    ap numbers (append-assoc before (old′ ∷ []) later) ∙ numbers-append before (old′ ∷ later) ∙ ap (λ k. numbers before ++ (k ∷ numbers later)) e
+    ∙ sym (numbers-append before (old ∷ later))
 
 rights-same : {new : Rule} {older done later : List Rule} → Rights new older done later → numbers (done ++ later) ≡ numbers older
 rights-same (none-yet e d) = rw (e, d) refl
@@ -94,8 +94,8 @@ rights-same (one-more {before} {done} {later} {old} {r} g f e) = rw e (moved bef
 
 rights-numbers : {new : Rule} {older done : List Rule} → Rights new older done [] → numbers (done ++ (new ∷ [])) ≡ numbers (older ++ (new ∷ []))
 rights-numbers {new} {older} {done} g =
-    numbers-append done (new ∷ []) ∙ ap (λ k. k ++ (new .number ∷ [])) (ap numbers (sym (append-nil done)) ∙ rights-same g) ∙ sym
-    (numbers-append older (new ∷ []))
+    numbers-append done (new ∷ []) ∙ ap (λ k. k ++ (new .number ∷ [])) (ap numbers (sym (append-nil done)) ∙ rights-same g)
+    ∙ sym (numbers-append older (new ∷ []))
 
 -- Steps keep sizes and variables.
 module _ (n v : ℕ) (wide : 16 ≤ v) (rules : List Rule) (fit : Every (λ (r : Rule). HeldPair n 16 (r .sides)) rules) where
@@ -133,8 +133,7 @@ module _ (P : Problem) (ok : Accepted P) where
         rewritten = λ rules fit e f l r h.
             record {
               left = reached-held symbols 32 (omega arith) rules fit (e .left) (f .left) l (h .left);
-              right = reached-held symbols 32
-                  (omega arith) rules fit (e .right) (f .right) r (h .right);
+              right = reached-held symbols 32 (omega arith) rules fit (e .right) (f .right) r (h .right);
             };
         turned = λ e h. record { left = h .right; right = h .left };
         oriented = λ e h few a. renamed-held symbols 32 16 e few h;
@@ -216,15 +215,15 @@ module _ (P : Problem) (ok : Accepted P) where
 
     -- Limits of the state with a new rule, whose rules are numbered like the older ones and it, and are held.
     made-limits : (t : Taken) (sides : Pair) (rules : List Rule) → TakenFits t → length (s .log) < 512 → suc (length (older-rules s sides)) ≤ 32 →
-        numbers rules ≡ numbers (older-rules s sides ++ (new-rule s sides ∷ [])) → Every
-        (λ (r : Rule). HeldPair symbols 16 (r .sides)) rules → Limits symbols (next-state s t sides rules)
+        numbers rules ≡ numbers (older-rules s sides ++ (new-rule s sides ∷ [])) →
+        Every (λ (r : Rule). HeldPair symbols 16 (r .sides)) rules → Limits symbols (next-state s t sides rules)
     made-limits t sides rules f room live same held =
         let new : Rule = new-rule s sides in
         let m : ℕ = suc (s .made) in
         let older : List Rule = older-rules s sides in
         let older-fit : Every (RuleFits symbols (s .made)) older = kept-every new (lim .rules-fit) in
-        let count : length rules ≡ length older + 1 = sym (length-map rules (λ (r : Rule). r .number)) ∙ ap length same ∙ length-map
-        (older ++ (new ∷ [])) (λ (r : Rule). r .number) ∙ length-append older (new ∷ []) in
+        let count : length rules ≡ length older + 1 = sym (length-map rules (λ (r : Rule). r .number)) ∙ ap length same
+        ∙ length-map (older ++ (new ∷ [])) (λ (r : Rule). r .number) ∙ length-append older (new ∷ []) in
         let all : length older + length (removed new (s .rules)) ≡ length (s .rules) = kept-removed new (s .rules) in
         let waits : length (t .waiting ++ removed new (s .rules)) ≡ length (t .waiting) + length (removed new (s .rules)) =
         length-append (t .waiting) (removed new (s .rules)) in

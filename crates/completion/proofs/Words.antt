@@ -149,11 +149,11 @@ module _ (Σ : List Symbol) where
         instance = record {
           substitution = only (p .σ) (p .l);
           over = λ x. only-over (p .σ) (p .l) x (over-at (p .σ) (p .l) h′ x) (member x (variables (p .l))) (member-says x (variables (p .l)));
-          left-is = subst-agree (p .σ) (only (p .σ) (p .l)) (p .l) (λ x i. only-is (p .σ) (p .l) x i _ (member-says x (variables (p .l)))) ∙ ap
-              (subst-term (only (p .σ) (p .l))) (sym (a .is-left));
+          left-is = subst-agree (p .σ) (only (p .σ) (p .l)) (p .l) (λ x i. only-is (p .σ) (p .l) x i _ (member-says x (variables (p .l))))
+              ∙ ap (subst-term (only (p .σ) (p .l))) (sym (a .is-left));
           right-is = subst-agree (p .σ) (only (p .σ) (p .l)) (p .r)
-              (λ x i. only-is (p .σ) (p .l) x (vars (p .l) (p .r) (p .rule) x i) _ (member-says x (variables (p .l)))) ∙ ap
-              (subst-term (only (p .σ) (p .l))) (sym (a .is-right));
+              (λ x i. only-is (p .σ) (p .l) x (vars (p .l) (p .r) (p .rule) x i) _ (member-says x (variables (p .l))))
+              ∙ ap (subst-term (only (p .σ) (p .l))) (sym (a .is-right));
         };
         at-node = plug-node (p .c) redex contractum s t (p .before) (p .after);
       }

@@ -206,8 +206,8 @@ module _ (rules : List Rule) where
         to-whole-earliest (subterm-at t) (subterm-in (cons t ts)) 0 (size t)
         (λ p q e h. let z : q ≡ p = omega arith in ap (subterm-in (cons t ts)) z ∙ in-first t ts p h)
         (subterm-within t) (cons u ts) c (c .position) (omega arith) (λ q h r. absurd (omega arith))
-        (ap (λ v. cons v ts) (c .result) ∙ sym
-        (replace-first t ts (c .position) (c .redex .rewritten) (subterm-below t (c .position) (c .redex .subterm) (c .redex .stands))))
+        (ap (λ v. cons v ts) (c .result)
+        ∙ sym (replace-first t ts (c .position) (c .redex .rewritten) (subterm-below t (c .position) (c .redex .subterm) (c .redex .stands))))
 
     later-agrees : (p q : ℕ) → q ≡ size t + p → p < sizes ts → subterm-in (cons t ts) q ≡ subterm-in ts p
     later-agrees p q e h = in-later t ts q p e
