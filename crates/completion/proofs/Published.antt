@@ -4,7 +4,7 @@
 -- Read first: specs/Transitions, specs/Systems, proofs/Derived, proofs/Soundness.
 use mathlib.Core.Path.{_≡_, refl, sym, ap, ap₂, subst, subst₂, _∙_}
 use mathlib.Core.Bool.{false, false≢true}
-use mathlib.Core.Logic.{⊎-elim, inl}
+use mathlib.Core.Logic.{⊎-elim}
 use mathlib.Core.List.{List, [], _∷_, _++_, append-assoc, append-nil, List·Memᴰ, List·Memᴰ·not-nil, Memᴰ·append-left}
 use Prim.Native.Nat.{ℕ, suc}
 use Rattle.terms.specs.Base.{Every}

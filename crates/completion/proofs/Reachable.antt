@@ -2,17 +2,16 @@
 -- Read first: proofs/Ends, proofs/Traced, proofs/Units.
 use mathlib.Core.Path.{_≡_, refl, sym, ap, subst, _∙_}
 use mathlib.Core.List.{[], _∷_}
-use Prim.Native.Nat.{ℕ, zero, suc, _+_, _-_, _≤_, _<_}
+use Prim.Native.Nat.{ℕ, zero, suc, _-_, _≤_, _<_}
 use native.Mathlib.Omega.{arith}
 use lib.ListN.{length, length-append}
 use Rattle.completion.proofs.Sentences.{turn-unpaid}
-use Rattle.terms.specs.Term.{Pair}
-use Rattle.rewriting.specs.Rewrite.{End, complete, neither-above, spent, too-large, rules-full, log-full, Paid, done, stop, and-then, _>>=_, pay}
+use Rattle.rewriting.specs.Rewrite.{End, Paid, done, stop, and-then, _>>=_, pay}
 use Rattle.rewriting.proofs.Holds.{Holds, stop≢done}
 use Rattle.problem.specs.Problem.{Problem}
-use Rattle.completion.specs.Turn.{State, Finished, initial, settled, turn, turns, run}
+use Rattle.completion.specs.Turn.{State, initial, settled, turn}
 use Rattle.completion.proofs.Units.{rest-of-turn, left-of, Fair}
-use Rattle.completion.proofs.Ends.{Next, settles, makes, Certified, RulesFull, Because, Neither, Large}
+use Rattle.completion.proofs.Ends.{Next, settles, makes, Because}
 use Rattle.completion.proofs.Traced.{turn-traced}
 
 -- the states that turns lead to from the first one, with the units then left

@@ -1,30 +1,36 @@
 -- The steps of a turn as document 01 says them: each law is one of its sentences, of what `turn` and its parts come to when the steps before have
 -- come to something. Assumes nothing.
 -- Read first: specs/Turn.
-use mathlib.Core.Path.{_≡_, refl, sym, ap, _∙_}
+use mathlib.Core.Path.{_≡_, refl}
 use mathlib.Core.Bool.{true, false}
 use mathlib.Core.List.{List, [], _∷_, _++_}
-use Prim.Native.Nat.{ℕ, zero, suc, _≤_, _<_}
-use lib.Dec.{ltb, leb}
+use Prim.Native.Nat.{ℕ, suc, _≤_, _<_}
 use lib.ListN.{length}
-use borrow.Author.Tests.{le-leb, lt-leb, lt-ltb, le-ltb}
+use borrow.Author.Tests.{le-leb, lt-ltb, le-ltb}
 use Rattle.terms.specs.Base.{if_then_else_}
 use Rattle.terms.specs.Term.{Pair, same, pair-variables}
 use Rattle.order.specs.Order.{above}
 use Rattle.rewriting.specs.Overlap.{Rule}
-use Rattle.rewriting.specs.Rewrite.{End, complete, neither-above, spent, too-large, rules-full, log-full, Paid, done, stop, return, end-with}
+use Rattle.rewriting.specs.Rewrite.{End, neither-above, spent, too-large, rules-full, log-full, Paid, done, stop, return, end-with}
 use Rattle.rewriting.specs.Rewrite.{and-then, _>>=_, end-if, pay, normalise-pair, Paying}
 use Rattle.rewriting.proofs.Holds.{Holds, Pays, bind-holds, return-holds}
 use Rattle.problem.specs.Problem.{rank-of, Problem}
-use Rattle.completion.specs.Turn.{Candidate, State, Taken, if-different, scan-inputs, scan, take-pair, orient, kept, removed, normalise-rights}
-use Rattle.completion.specs.Turn.{make-rule, settled, turn}
+use Rattle.completion.specs.Turn.{Candidate, State, Taken, if-different, scan-inputs, scan, take-pair, orient, kept, removed}
+use Rattle.completion.specs.Turn.{make-rule, turn}
 
 -- 1. "Pay a unit": with none left, the end is 21.
 pub turn-unpaid : (P : Problem) (s : State) → turn P s 0 ≡ stop spent 0
 unfolding turn _>>=_ and-then pay
 turn-unpaid P s = refl
 
--- 1. "After all overlaps, normalise each input equation. The first with two different normal forms is taken, as these forms."
+-- 1. "After all overlaps, normalise each input equation": one with equal forms costs its steps, and the next comes,
+pub scan-pays-input : (rules : List Rule) (c : Candidate) (cs : List Candidate) (forms : Pair) (units left : ℕ) →
+    normalise-pair rules (c .sides) units ≡ done forms left →
+    same (forms .left) (forms .right) ≡ true → scan rules (c ∷ cs) [] units ≡ scan rules cs [] left
+unfolding scan scan-inputs _>>=_ and-then if-different if_then_else_
+scan-pays-input rules c cs forms units left h d = rw (h, d) refl
+
+-- and "The first with two different normal forms is taken, as these forms."
 pub scan-takes-input : (rules : List Rule) (c : Candidate) (cs : List Candidate) (forms : Pair) (units left : ℕ) →
     normalise-pair rules (c .sides) units ≡ done forms left →
     same (forms .left) (forms .right) ≡ false → scan rules (c ∷ cs) [] units ≡ done (record { origin = c .origin; sides = forms }) left
@@ -33,15 +39,13 @@ scan-takes-input rules c cs forms units left h d = rw (h, d) refl
 
 -- 2. "With 512 entries in the log, end 23."
 pub turn-log-full : (P : Problem) (s : State) (units : ℕ) (t : Taken) (left : ℕ) → take-pair P (s .rules) (s .waiting) units ≡ done t left →
-    512 ≤ length (s .log) →
-    turn P s (suc units) ≡ stop log-full left
+    512 ≤ length (s .log) → turn P s (suc units) ≡ stop log-full left
 unfolding turn _>>=_ and-then pay end-if end-with
 turn-log-full P s units t left h full = rw (h, le-leb 512 (length (s .log)) full) refl
 
 -- 4. "Neither side above: end 20."
 pub orient-neither : (P : Problem) (e : Pair) (units : ℕ) → above (rank-of (P .symbols)) (e .left) (e .right) ≡ false →
-    above (rank-of (P .symbols)) (e .right) (e .left) ≡ false →
-    orient P e units ≡ stop (neither-above e) units
+    above (rank-of (P .symbols)) (e .right) (e .left) ≡ false → orient P e units ≡ stop (neither-above e) units
 unfolding orient if_then_else_ end-with
 orient-neither P e units a b = rw (a, b) refl
 

@@ -1,11 +1,10 @@
--- How a run ends: with a turn that stops, for the cause that its end names. Assumes nothing.
+-- How a run ends: with a turn that stops, for the cause that its end names; and one turn more than the budget is enough turns. Assumes nothing.
 -- Read first: proofs/Ends, proofs/Reachable.
 use mathlib.Core.Path.{_≡_, refl}
 use Prim.Native.Nat.{ℕ, zero, suc, _+_, _≤_, _<_}
 use native.Mathlib.Omega.{arith}
-use lib.ListN.{length}
 use Rattle.terms.specs.Term.{Pair}
-use Rattle.rewriting.specs.Rewrite.{End, complete, neither-above, spent, too-large, rules-full, log-full, Paid, done, stop, and-then, _>>=_, pay}
+use Rattle.rewriting.specs.Rewrite.{complete, neither-above, spent, too-large, rules-full, log-full, Paid, done, stop, and-then, _>>=_, pay}
 use Rattle.problem.specs.Problem.{Problem}
 use Rattle.completion.specs.Turn.{State, Finished, initial, turn, turns, run}
 use Rattle.completion.proofs.Units.{left-of, rest-of-turn}

@@ -19,7 +19,7 @@ use Rattle.rewriting.proofs.Covers.{HoldsAt}
 use Rattle.rewriting.proofs.Holds.{Form, Forms, Pays, bind-holds, return-holds, end-with-holds, end-if-holds, if-holds, pay-holds, hold-holds}
 use Rattle.rewriting.proofs.Holds.{normalise-holds, normalise-pair-holds}
 use Rattle.problem.specs.Problem.{Problem}
-use Rattle.completion.specs.Turn.{overlapping, Candidate, State, Taken, kept, scan-overlap, if-different, if-different-overlap, scan-inputs}
+use Rattle.completion.specs.Turn.{overlapping, Candidate, State, Taken, scan-overlap, if-different, if-different-overlap, scan-inputs}
 use Rattle.completion.specs.Turn.{scan, take-pair, orient, normalise-rights, make-rule, turn}
 use Rattle.completion.proofs.Ends.{inputs, Scanned, Source, of-waiting, of-overlap, of-input, Takes, Oriented, as-taken, other-way, Due}
 use Rattle.completion.proofs.Ends.{Rights, none-yet, one-more, older-rules, Next, settles, makes, SameForm, SameAt, OverlapsSame}

@@ -3,7 +3,7 @@
 -- Read first: specs/Turn, proofs/Sentences.
 use mathlib.Core.Path.{_≡_, refl, sym, ap, _∙_}
 use mathlib.Core.Bool.{Bool, true, false}
-use mathlib.Core.List.{List, [], _∷_, _++_}
+use mathlib.Core.List.{List, [], _∷_}
 use Prim.Native.Nat.{ℕ, zero, suc, _≤_, _<_, _-_}
 use native.Mathlib.Omega.{arith}
 use lib.Dec.{ltb, leb}
@@ -13,10 +13,10 @@ use Rattle.terms.specs.Base.{if_then_else_}
 use Rattle.terms.specs.Term.{Pair, same, pair-variables}
 use Rattle.rewriting.proofs.Holds.{and-then-assoc, stop≢done}
 use Rattle.rewriting.specs.Overlap.{Rule, all-places}
-use Rattle.rewriting.specs.Rewrite.{End, spent, too-large, rules-full, log-full, done, stop, Paying, return, end-with, and-then, _>>=_, end-if, pay}
+use Rattle.rewriting.specs.Rewrite.{End, too-large, rules-full, log-full, done, stop, Paying, return, end-with, and-then, _>>=_, end-if, pay}
 use Rattle.rewriting.specs.Rewrite.{normalise-pair}
 use Rattle.problem.specs.Problem.{Problem}
-use Rattle.completion.specs.Turn.{scanned-input, Candidate, State, Taken, candidates, scan, take-pair, orient, kept, removed, normalise-rights}
+use Rattle.completion.specs.Turn.{scanned-input, Candidate, State, Taken, candidates, scan, take-pair, orient, kept, normalise-rights}
 use Rattle.completion.specs.Turn.{make-rule, settled, turn, Finished, initial, turns, run}
 pub use Rattle.completion.proofs.Sentences.{turn-unpaid, turn-log-full, new-rule, next-state}
 use Rattle.completion.proofs.Sentences.{make-many-rules}

@@ -1,10 +1,10 @@
--- The units: nothing that pays leaves more than it had, a turn leaves less, and so one turn more than the budget is enough turns. Assumes nothing.
+-- The units: nothing that pays leaves more than it had, and a turn leaves less. Assumes nothing.
 -- Read first: specs/Turn, proofs/Lawful.
 use mathlib.Core.Path.{_≡_, refl}
 use mathlib.Core.Bool.{Bool, true, false}
 use mathlib.Core.List.{List}
 use mathlib.Core.Option.{Option, none, some}
-use Prim.Native.Nat.{ℕ, zero, suc, _≤_, _<_}
+use Prim.Native.Nat.{ℕ, zero, suc, _≤_}
 use native.Mathlib.Omega.{arith}
 use Rattle.terms.specs.Base.{if_then_else_}
 use Rattle.terms.specs.Term.{Term}
@@ -12,7 +12,7 @@ use Rattle.problem.specs.Problem.{Problem}
 use Rattle.rewriting.specs.Overlap.{Rule}
 use Rattle.rewriting.specs.Rewrite.{step, End, Paid, done, stop, Paying, return, end-with, and-then, _>>=_, pay, normalise}
 use Rattle.completion.proofs.Lawful.{Lawful, rest-lawful}
-use Rattle.completion.specs.Turn.{State, turn, turns}
+use Rattle.completion.specs.Turn.{State, turn}
 
 -- the units left
 unfoldable pub left-of : {A : Type 0} → Paid A → ℕ

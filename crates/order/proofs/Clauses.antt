@@ -7,7 +7,7 @@ use Prim.Native.Nat.{ℕ}
 use native.Mathlib.Omega.{arith}
 use lib.Dec.{eqb, ltb}
 use Rattle.terms.specs.Base.{if_then_else_}
-use Rattle.terms.specs.Term.{Term, Terms, var, node, nil, cons, same, count}
+use Rattle.terms.specs.Term.{Terms, var, node, nil, cons, same, count}
 use Rattle.order.specs.Order.{by-clauses, by-clauses-all, above, some-reaches, first-above}
 use Rattle.order.specs.Walk.{all-above}
 use Rattle.order.proofs.PathOrder.{SameLen, len-nil, len-cons}
