@@ -9,6 +9,7 @@ use Prim.Native.Nat.{ℕ, suc, _≤_, _<_}
 use lib.ListN.{length}
 use Rattle.completion.proofs.Sentences.{new-rule, next-state}
 use Rattle.terms.specs.Term.{Term, Pair, same, size, pair-variables, renamed}
+use Rattle.terms.proofs.Shape.{zero≢one}
 use Rattle.terms.proofs.Below.{swapped}
 use Rattle.terms.specs.Base.{Every}
 use Rattle.order.specs.Order.{above}
@@ -54,12 +55,16 @@ pub data Source (P : Problem) (s : State) : Candidate → List Candidate → Typ
       c ≡ record { origin = overlapping (at .inner .number) (at .outer .number) (at .position); sides = renamed (o .sides) } → cs ≡ [] → Source P s c cs
   of-input : {c : Candidate} {cs : List Candidate} → s .waiting ≡ [] → OverlapsSame (s .rules) → List·Memᴰ c (inputs P) → cs ≡ [] → Source P s c cs
 
--- the pair as its normal forms
+pub none≢waiting : {c : Candidate} {cs : List Candidate} → [] ≡ c ∷ cs → ⊥
+none≢waiting e = zero≢one (cc)
+
+-- the pair as its normal forms, which differ where the scan took it
 pub record Takes (P : Problem) (s : State) (t : Taken) : Type 0 where
   pub of : Candidate
   pub source : Source P s of (t .waiting)
   pub origin : t .pair .origin ≡ of .origin
   pub forms : Forms (s .rules) (of .sides) (t .pair .sides)
+  pub scanned : s .waiting ≡ [] → same (t .pair .sides .left) (t .pair .sides .right) ≡ false
 
 -- Steps 4 and 5: the upper side to the left.
 pub data Oriented (P : Problem) (e : Pair) : Pair → Type 0 where

@@ -3,16 +3,16 @@
 -- Assumes nothing.
 -- Read first: specs/Transitions, specs/Systems, proofs/Derived, proofs/Soundness.
 use mathlib.Core.Path.{_≡_, refl, sym, ap, ap₂, subst, subst₂, _∙_}
-use mathlib.Core.Bool.{false, false≢true}
+use mathlib.Core.Bool.{false≢true}
 use mathlib.Core.Logic.{⊎-elim}
 use mathlib.Core.List.{List, [], _∷_, _++_, append-assoc, append-nil, List·Memᴰ, List·Memᴰ·not-nil, Memᴰ·append-left}
 use Prim.Native.Nat.{ℕ, suc}
 use Rattle.terms.specs.Base.{Every}
-use Rattle.terms.specs.Term.{Pair, same}
+use Rattle.terms.specs.Term.{Pair}
 use Rattle.terms.proofs.Shape.{same-dec}
 use Rattle.terms.proofs.Below.{swapped}
 use Rattle.terms.proofs.Every.{every-in, every-head}
-use Rattle.rewriting.specs.Overlap.{Rule, sides-of}
+use Rattle.rewriting.specs.Overlap.{Rule, sides-of, Overlap, Place}
 use Rattle.rewriting.specs.Rewrite.{complete, done}
 use Rattle.rewriting.proofs.Relations.{Of, Step, Conv}
 use Rattle.rewriting.proofs.Converge.{conv-conv}
@@ -28,7 +28,8 @@ use Rattle.completion.specs.Transitions.{rename-rule, Derivation, writte
 use Rattle.completion.specs.Systems.{if-removed, waiting-equations, waiting-rules, together, system-of, given}
 use Rattle.completion.proofs.Sentences.{new-rule, next-state}
 use Rattle.completion.proofs.Words.{equation-sides}
-use Rattle.completion.proofs.Ends.{OverlapsSame, inputs, Source, of-waiting, of-overlap, of-input, Takes, Oriented, as-taken, other-way}
+use Rattle.completion.proofs.Ends.{OverlapsSame, none≢waiting, Scanned, inputs, Source, of-waiting, of-overlap, of-input, Takes, Oriented}
+use Rattle.completion.proofs.Ends.{as-taken, other-way}
 use Rattle.completion.proofs.Ends.{Rights, Next, settles, makes}
 use Rattle.completion.proofs.Reachable.{Reachable, from-start, by-turn, turn-next}
 use Rattle.completion.proofs.Stopped.{run-stops, run-complete}
@@ -137,48 +138,48 @@ module _ (P : Problem) where
         (reached-star (h .left .reached)) (step-none (s .rules) (f .left) (h .left .normal))
         (reached-star (h .right .reached)) (step-none (s .rules) (f .right) (h .right .normal))
 
-    -- What a turn takes is then among the equations, in its forms; or it is an input at the scan, whose forms are the same.
+    -- So the scan takes none, for what it takes has two different forms;
+    never-taken : (t : Taken) → (h : Takes P s t) → s .waiting ≡ [] → OverlapsSame (s .rules) → List·Memᴰ (h .of) (inputs P) → ⊥
+    never-taken t h w same-forms i =
+        let e : t .pair .sides .left ≡ t .pair .sides .right = never-found w same-forms (h .of) i (t .pair .sides) (h .forms) in
+        false≢true (sym (h .scanned w) ∙ same-dec (t .pair .sides .left) (t .pair .sides .right) .1 e)
+
+    -- and what a turn takes enters the equations, in its forms.
     abbrev taking : Taken → System
     taking t = t .pair .sides ∷ waiting-equations (t .waiting) ⨾ sides-of (s .rules) ++ waiting-rules (t .waiting)
 
-    data Entered (t : Taken) : Type 0 where
-      entered : Derivation rank Properly (system-of s) (taking t) → Entered t
-      nothing-new : t .pair .sides .left ≡ t .pair .sides .right → s .waiting ≡ [] → t .waiting ≡ [] → Entered t
-
-    taken-entered : Postponed s → Every (FreeRemoved (s .rules)) (s .waiting) → (t : Taken) → Takes P s t → Entered t
+    taken-derives : Postponed s → Every (FreeRemoved (s .rules)) (s .waiting) → (t : Taken) → Takes P s t →
+        Derivation rank Properly (system-of s) (taking t)
     unfolding together
-    taken-entered p proper t h = go (h .source)
+    taken-derives p free t h = go (h .source)
       where
-        go : Source P s (h .of) (t .waiting) → Entered t
+        go : Source P s (h .of) (t .waiting) → Derivation rank Properly (system-of s) (taking t)
         go (of-waiting e) =
-            entered
-            (subst (λ l. Derivation rank Properly (waiting-equations l ⨾ sides-of (s .rules) ++ waiting-rules l) (taking t)) (sym e)
+            subst (λ l. Derivation rank Properly (waiting-equations l ⨾ sides-of (s .rules) ++ waiting-rules l) (taking t)) (sym e)
             (waiting-derives rank (s .rules) (t .waiting) (h .of) (t .pair .sides) (every-head (subst (Every (ReducesRemoved (s .rules))) e p))
-            (every-head (subst (Every (FreeRemoved (s .rules))) e proper)) (h .forms)))
+            (every-head (subst (Every (FreeRemoved (s .rules))) e free)) (h .forms))
         go (of-overlap at o z small e q) =
-            entered
-            (subst (λ l. Derivation rank Properly (waiting-equations l ⨾ sides-of (s .rules) ++ waiting-rules l) (taking t)) (q ∙ sym (z .idle))
+            subst (λ l. Derivation rank Properly (waiting-equations l ⨾ sides-of (s .rules) ++ waiting-rules l) (taking t)) (q ∙ sym (z .idle))
             (overlap-derives rank (s .rules) (sides-of (s .rules) ++ waiting-rules (t .waiting)) (λ l r i. Memᴰ·append-left _ i) at o (z .listed)
             (z .is) (waiting-equations (t .waiting)) (t .pair .sides)
-            (subst (λ (c : Candidate). Forms (s .rules) (c .sides) (t .pair .sides)) e (h .forms))))
-        go (of-input w a i q) = nothing-new (never-found w a (h .of) i (t .pair .sides) (h .forms)) w q
+            (subst (λ (c : Candidate). Forms (s .rules) (c .sides) (t .pair .sides)) e (h .forms)))
+        go (of-input w a i q) = absurd (never-taken t h w a i)
 
     -- step 3
-    settled-derives : (t : Taken) → t .pair .sides .left ≡ t .pair .sides .right → Entered t → Derivation rank Properly (system-of s) (system-of (settled s t))
+    settled-derives : (t : Taken) → t .pair .sides .left ≡ t .pair .sides .right → Derivation rank Properly (system-of s) (taking t) →
+        Derivation rank Properly (system-of s) (system-of (settled s t))
     unfolding together settled
-    settled-derives t q (entered d) =
+    settled-derives t q d =
         let E : List Pair = waiting-equations (t .waiting) in
         let R : List Pair = sides-of (s .rules) ++ waiting-rules (t .waiting) in
         derives rank d (subst (λ z. Derivation rank Properly (pair (t .pair .sides .left) z ∷ E ⨾ R) (E ⨾ R)) q (by-one rank delete (none-more rank)))
-    settled-derives t q (nothing-new e w v) =
-        subst (λ l. Derivation rank Properly (system-of s) (waiting-equations l ⨾ sides-of (s .rules) ++ waiting-rules l)) (w ∙ sym v) (none-more rank)
 
     -- steps 4 to 7
-    rule-derives : (t : Taken) → same (t .pair .sides .left) (t .pair .sides .right) ≡ false → Entered t → (sides : Pair) → Oriented P (t .pair .sides) sides →
+    rule-derives : (t : Taken) → Derivation rank Properly (system-of s) (taking t) → (sides : Pair) → Oriented P (t .pair .sides) sides →
         (composed : List Rule) → Rights (new-rule s sides) (kept (new-rule s sides) (s .rules)) composed [] →
         Derivation rank Properly (system-of s) (system-of (next-state s t sides (composed ++ (new-rule s sides ∷ []))))
     unfolding together
-    rule-derives t n (entered d) sides o composed r =
+    rule-derives t d sides o composed r =
         let new : Rule = new-rule s sides in
         let E : List Pair = waiting-equations (t .waiting) in
         let W : List Pair = waiting-rules (t .waiting) in
@@ -191,12 +192,11 @@ module _ (P : Problem) where
         sym (rules-append (t .waiting) (removed new (s .rules))) in
         subst₂ (λ a b. Derivation rank Properly (system-of s) (a ⨾ sides-of (composed ++ (new ∷ [])) ++ b)) E-is W-is
         (derives rank c (made-derives P E W (s .rules) new composed falls r))
-    rule-derives t n (nothing-new e w v) sides o composed r = absurd (false≢true (sym n ∙ same-dec (t .pair .sides .left) (t .pair .sides .right) .1 e))
 
     next-derives : Postponed s → Every (FreeRemoved (s .rules)) (s .waiting) → (s′ : State) → Next P s s′ →
         Derivation rank Properly (system-of s) (system-of s′)
-    next-derives p proper s′ (settles t h room q e) = rw e (settled-derives t q (taken-entered p proper t h))
-    next-derives p proper s′ (makes t h room n few sides o live composed r e) = rw e (rule-derives t n (taken-entered p proper t h) sides o composed r)
+    next-derives p free s′ (settles t h room q e) = rw e (settled-derives t q (taken-derives p free t h))
+    next-derives p free s′ (makes t h room n few sides o live composed r e) = rw e (rule-derives t (taken-derives p free t h) sides o composed r)
 
   -- Every state of a run is derived from the input equations,
   pub reachable-derived : {s : State} {left : ℕ} → Reachable P s left → Derivation rank Properly (given P) (system-of s)
@@ -219,6 +219,21 @@ module _ (P : Problem) where
   complete-derived e = subst (Derivation rank Properly (given P)) (idle-system (run P .state) (run-complete P e .idle)) run-derived
 
   -- The test of input equations at the scan finds nothing: each has one normal form once all overlaps have.
-  pub inputs-same-forms : {s : State} {left : ℕ} → Reachable P s left → s .waiting ≡ [] → OverlapsSame (s .rules) → (c : Candidate) → List·Memᴰ c (inputs P) →
-      (f : Pair) → Forms (s .rules) (c .sides) f → f .left ≡ f .right
+  pub inputs-same-forms : {s : State} {left : ℕ} → Reachable P s left → s .waiting ≡ [] → OverlapsSame (s .rules) → (c : Candidate) →
+      List·Memᴰ c (inputs P) → (f : Pair) → Forms (s .rules) (c .sides) f → f .left ≡ f .right
   inputs-same-forms {s} r = never-found s (reachable-derived r) (reachable-good P r)
+
+  -- So what the scan takes is an overlap: no pair of kind 3 is ever taken.
+  pub record OverlapTaken (s : State) (t : Taken) : Type 0 where
+    pub at : Place
+    pub overlap : Overlap
+    pub scanned : Scanned s at overlap
+    pub origin : t .pair .origin ≡ overlapping (at .inner .number) (at .outer .number) (at .position)
+
+  pub scan-takes-overlap : {s : State} {left : ℕ} → Reachable P s left → s .waiting ≡ [] → (t : Taken) → Takes P s t → OverlapTaken s t
+  scan-takes-overlap {s} r w t h = go (h .source)
+    where
+      go : Source P s (h .of) (t .waiting) → OverlapTaken s t
+      go (of-waiting e) = absurd (none≢waiting (sym w ∙ e))
+      go (of-overlap at o z small e q) = record { at = at; overlap = o; scanned = z; origin = h .origin ∙ ap (λ (c : Candidate). c .origin) e }
+      go (of-input w′ a i q) = absurd (never-taken s (reachable-derived r) (reachable-good P r) t h w′ a i)

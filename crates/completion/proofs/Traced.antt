@@ -21,7 +21,7 @@ use Rattle.rewriting.proofs.Holds.{normalise-holds, normalise-pair-holds}
 use Rattle.problem.specs.Problem.{Problem}
 use Rattle.completion.specs.Turn.{overlapping, Candidate, State, Taken, scan-overlap, if-different, if-different-overlap, scan-inputs}
 use Rattle.completion.specs.Turn.{scan, take-pair, orient, normalise-rights, make-rule, turn}
-use Rattle.completion.proofs.Ends.{inputs, Scanned, Source, of-waiting, of-overlap, of-input, Takes, Oriented, as-taken, other-way, Due}
+use Rattle.completion.proofs.Ends.{none≢waiting, inputs, Scanned, Source, of-waiting, of-overlap, of-input, Takes, Oriented, as-taken, other-way, Due}
 use Rattle.completion.proofs.Ends.{Rights, none-yet, one-more, older-rules, Next, settles, makes, SameForm, SameAt, OverlapsSame}
 use Rattle.completion.proofs.Ends.{SameCandidate, Certified, Large, in-taking, in-overlap, in-right, variables, Because}
 
@@ -48,6 +48,7 @@ module _ (P : Problem) (s : State) where
     pub source : Source P s of []
     pub origin : c .origin ≡ of .origin
     pub forms : Forms (s .rules) (of .sides) (c .sides)
+    pub differ : same (c .sides .left) (c .sides .right) ≡ false
 
   same-form : (e f : Pair) → f .left ≡ f .right → Forms (s .rules) e f → SameForm (s .rules) e
   same-form e f q h = record { to = f .right; left = subst (Form (s .rules) (e .left)) q (h .left); right = h .right }
@@ -58,7 +59,7 @@ module _ (P : Problem) (s : State) where
   unfolding if-different
   different c f next h k go =
       if-holds _ _ _ (λ b. go (same-form (c .sides) f (same-dec (f .left) (f .right) .0 b) k))
-      (λ _. return-holds _ (record { of = c; source = h; origin = refl; forms = k }))
+      (λ b. return-holds _ (record { of = c; source = h; origin = refl; forms = k; differ = b }))
 
   scan-inputs-traced : s .waiting ≡ [] → OverlapsSame (s .rules) → (cs : List Candidate) → Every (λ c. List·Memᴰ c (inputs P)) cs →
       (Every (SameCandidate (s .rules)) cs → Certified P s) → Pays Found E (scan-inputs (s .rules) cs)
@@ -110,10 +111,10 @@ module _ (P : Problem) (s : State) where
   unfolding take-pair
   take-traced [] w =
       bind-holds _ _ (scan-traced w (all-places [] (s .rules)) (every-of _ (λ at i. i)) (λ a. a)) λ c f.
-      return-holds _ (record { of = f .of; source = f .source; origin = f .origin; forms = f .forms })
+      return-holds _ (record { of = f .of; source = f .source; origin = f .origin; forms = f .forms; scanned = λ _. f .differ })
   take-traced (c ∷ waiting) w =
       bind-holds _ _ (forms c waiting (of-waiting w)) λ f g.
-      return-holds _ (record { of = c; source = of-waiting w; origin = refl; forms = g })
+      return-holds _ (record { of = c; source = of-waiting w; origin = refl; forms = g; scanned = λ e. absurd (none≢waiting (sym e ∙ w)) })
 
   pub takes : Pays (Takes P s) E (take-pair P (s .rules) (s .waiting))
   takes = take-traced (s .waiting) refl
