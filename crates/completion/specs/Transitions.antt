@@ -2,6 +2,7 @@
 -- names from there and from 001. What it is that equations and rules are derived from others. Assumes nothing.
 -- The source has sets, here are lists: whatever is derived so is derived by the source's rules of the sets of the lists' members, since "E ∪ {s = t}"
 -- does not say that s = t is not in E.
+-- Read first: specs/Delivery (`AtNode`).
 use mathlib.Core.Path.{_≡_}
 use mathlib.Core.Bool.{true}
 use mathlib.Core.List.{List, _∷_, List·Memᴰ}
