@@ -2,6 +2,7 @@
 -- Where document 01's letter differs from 004's: step 6 lets the two sides of a removed rule wait as they are, and they are rewritten when they are
 -- taken; Collapse rewrites the left side as it removes the rule. So a removed rule counts among the rules until it is taken, and its Collapse is the
 -- first step of normalising it; proofs/Postponed and proofs/Encompassed say that it is still allowed then, the condition s ▷ l included.
+-- A pair of kind 3, an input at the scan, is no Deduce; none is ever taken (proofs/Published: `scan-takes-overlap`).
 -- Read first: specs/Turn, specs/Transitions.
 use mathlib.Core.List.{List, [], _∷_, _++_, map}
 use Rattle.terms.specs.Term.{Pair}
