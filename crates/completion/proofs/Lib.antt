@@ -1,7 +1,5 @@
 pub mod Lawful
 pub mod Units
-pub mod Stops
-pub mod Runs
 pub mod Words
 pub mod Ends
 pub mod Traced
