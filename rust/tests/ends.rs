@@ -2,7 +2,8 @@
 
 mod common;
 
-use common::{bytes, hex, rule_sides, run, Fields};
+use common::{bytes, completed, hex, refusal, rule_sides, run, Fields};
+use kb_engine::cases;
 use kb_engine::notation::Theory;
 use kb_engine::theories::{self, GROUP, PAPERS};
 
@@ -168,6 +169,26 @@ fn end_23_by_the_513th_entry() {
     assert_eq!((fields.end, fields.log.len()), (23, 512));
     // The turn's unit and its rewriting come before the test of the log.
     assert_eq!(run(&theory, fields.units - 1).end, 21);
+}
+
+/// A stored run whose name begins with a number ends with it.
+#[test]
+fn stored_runs_end_as_their_names_say() {
+    let (mut named, mut found) = (0, Vec::new());
+    for case in cases::complete::cases().list() {
+        if refusal(&case.problem).is_some() || case.asked > 0 {
+            continue;
+        }
+        let end = completed(&case.problem).end;
+        found.push(end);
+        let number = case.name.split([':', ' ']).next();
+        if let Some(Ok(number @ (0 | 20..=23))) = number.map(str::parse::<u8>) {
+            assert_eq!(end, number, "{}", case.name);
+            named += 1;
+        }
+    }
+    assert!(named > 15, "only {named}");
+    assert!([0, 20, 21, 22, 23].iter().all(|end| found.contains(end)));
 }
 
 #[test]

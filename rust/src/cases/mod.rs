@@ -65,6 +65,11 @@ impl Cases {
         self.bytes(name, problem);
     }
 
+    /// The cases in their order.
+    pub fn list(&self) -> &[Case] {
+        &self.0
+    }
+
     /// The bytes that the program reads.
     pub fn input(&self) -> Vec<u8> {
         let mut out = Vec::new();
