@@ -20,8 +20,8 @@ fn case(text: &[u8], at: usize) -> usize {
         return text.len();
     }
     let name = at + 4;
-    let problem = name + terms::wide(text[at + 1]);
-    let end = problem + 256 * terms::wide(text[at + 2]) + terms::wide(text[at + 3]);
+    let problem = name + print::wide(text[at + 1]);
+    let end = problem + 256 * print::wide(text[at + 2]) + print::wide(text[at + 3]);
     if end <= text.len() {
         answer(text[at], &text[name..problem], &text[problem..end]);
     }

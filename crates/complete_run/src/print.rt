@@ -1,8 +1,15 @@
 // What complete answers and leaves in the buffer, as text: the refusal or the count, a line a field, and whether a byte behind was changed.
 use libc::STDOUT_FILENO;
+ghost use Prim.Native.Nat.{_<_};
 
 // What the buffer holds before the call.
 const BEFORE: u8 = 0xa5;
+
+pub fn wide(b: u8) -> usize
+    ensures { λ r. ⌜ r < 256 ⌝ }
+{
+    b as usize
+}
 
 pub fn print(text: &[u8]) {
     io::write_all(STDOUT_FILENO, text);
@@ -13,7 +20,7 @@ fn number(n: usize) {
 }
 
 fn hex(b: u8) {
-    io::print_hex(STDOUT_FILENO, terms::wide(b) as u64, 2);
+    io::print_hex(STDOUT_FILENO, wide(b) as u64, 2);
 }
 
 fn bytes(s: &[u8]) {
@@ -42,7 +49,7 @@ fn field_at(result: &[u8], at: usize) -> usize {
         return result.len();
     }
     let contents = at + 3;
-    let end = contents + 256 * terms::wide(result[at + 1]) + terms::wide(result[at + 2]);
+    let end = contents + 256 * wide(result[at + 1]) + wide(result[at + 2]);
     if end <= result.len() {
         field(result[at], &result[contents..end]);
     }
