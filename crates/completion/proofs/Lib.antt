@@ -1,8 +1,6 @@
 pub mod Sentences
 pub mod Lawful
 pub mod Units
-pub mod Stops
-pub mod Runs
 pub mod Words
 pub mod Ends
 pub mod Traced
