@@ -162,11 +162,7 @@ fn sides() -> Vec<Case> {
 
 /// Peaks and rewritten terms of 120 and 121 nodes.
 fn terms_of_runs() -> Vec<Case> {
-    let step = |n: usize| {
-        Theory::new("a/0/0 s/1/1 h/1/2")
-            .equation("h(x) = s(s(x))")
-            .equation(&format!("s(h({})) = a", power("s", n, "a")))
-    };
+    let step = theories::long_step;
     let above = (Order::LeftAbove, UnifyAnswer::None);
     let (joined, large) = (Ended::new(0, 3, 1), Ended::new(22, 2, 1));
     vec![

@@ -5,6 +5,7 @@
 //! the two on many problems says something about both.
 
 pub mod calls;
+pub mod cases;
 pub mod fields;
 pub mod fixed;
 pub mod generate;

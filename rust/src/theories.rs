@@ -150,15 +150,71 @@ pub fn descents(lengths: &[usize]) -> Theory {
     theory
 }
 
-/// An overlap whose pair has `extra` variables besides four others.
+/// t(z0,t(z1,.. c)), so many variables.
+fn tuple(variables: usize) -> String {
+    let list = (0..variables).map(|i| format!("z{i}"));
+    list.rfold("c".to_string(), |rest, z| format!("t({z},{rest})"))
+}
+
+/// An overlap whose pair has `extra` variables besides four others, neither
+/// side above the other.
 pub fn many_variables(extra: usize) -> Theory {
-    let list: Vec<String> = (0..extra).map(|i| format!("z{i}")).collect();
-    let tuple = list
-        .iter()
-        .rfold("c".to_string(), |rest, z| format!("t({z},{rest})"));
+    let tuple = tuple(extra);
     Theory::new("c/0/0 t/2/1 q/2/2 h/1/3 f/4/4 k/2/5")
         .equation("h(f(x,y,z,w)) = c")
         .equation(&format!("k(h(y),{tuple}) = q(y,{tuple})"))
+}
+
+/// The same with a pair that can be oriented.
+pub fn many_variables_oriented(extra: usize) -> Theory {
+    let tuple = tuple(extra);
+    Theory::new("c/0/0 t/2/1 q/2/2 g/4/3 f/4/4 h/1/5 k/2/6")
+        .equation("h(f(x,y,z,w)) = g(w,x,y,z)")
+        .equation(&format!("k(h(y),{tuple}) = q(y,{tuple})"))
+}
+
+/// d(s(x)) = s(s(d(x))) on so many d: each doubles the s below it.
+pub fn growing(d: usize, s: usize) -> Theory {
+    let nested = power("d", d, &power("s", s, "0"));
+    Theory::new("0/0/0 s/1/1 d/1/2 a/0/3")
+        .equations(&["d(0) = 0", "d(s(x)) = s(s(d(x)))"])
+        .equation(&format!("{nested} = a"))
+}
+
+/// An overlap whose left side has 2n + 5 nodes: the inner rule doubles a part
+/// of the outer left side.
+pub fn large_left(n: usize) -> Theory {
+    Theory::new("0/0/0 s/1/1 t/2/2 h/2/3 k/2/4")
+        .equation(&format!("k(h({},z),z) = 0", power("s", n, "0")))
+        .equation("h(x,0) = t(x,x)")
+}
+
+/// An overlap whose right side has 2n + 3 nodes: the outer rule doubles a part
+/// of the inner left side.
+pub fn large_right(n: usize) -> Theory {
+    Theory::new("0/0/0 s/1/1 t/2/2 h/1/3 k/1/4")
+        .equation(&format!("h({}) = 0", power("s", n, "0")))
+        .equation("k(h(x)) = t(x,x)")
+}
+
+/// Two left sides whose common instance doubles n times.
+pub fn large_peak(n: usize) -> Theory {
+    let (mut first, mut second) = ("c".to_string(), "c".to_string());
+    for i in (1..=n).rev() {
+        let before = i - 1;
+        first = format!("t(x{i},t(f(x{i},x{i}),{first}))");
+        second = format!("t(f(y{before},y{before}),t(y{i},{second}))");
+    }
+    Theory::new("c/0/0 d/0/1 t/2/2 f/2/3")
+        .equation(&format!("{first} = c"))
+        .equation(&format!("{second} = d"))
+}
+
+/// A step to n + 4 nodes, by h(x) to s(s(x)).
+pub fn long_step(n: usize) -> Theory {
+    Theory::new("a/0/0 s/1/1 h/1/2")
+        .equation("h(x) = s(s(x))")
+        .equation(&format!("s(h({})) = a", power("s", n, "a")))
 }
 
 /// Two nested counters run down by rewriting, three digits outside and two

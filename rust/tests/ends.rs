@@ -2,9 +2,10 @@
 
 mod common;
 
-use common::{bytes, hex, rule_sides, run, Fields};
+use common::{bytes, completed, hex, refusal, rule_sides, run, Fields};
+use kb_engine::cases;
 use kb_engine::notation::Theory;
-use kb_engine::theories::{self, power, GROUP, PAPERS};
+use kb_engine::theories::{self, GROUP, PAPERS};
 
 const BUDGET: u32 = 1_000_000;
 
@@ -78,12 +79,7 @@ fn budget_0_ends_21() {
 
 #[test]
 fn end_22_by_a_step() {
-    let grow = |n: usize| {
-        let nested = power("d", n, "s(0)");
-        Theory::new("0/0/0 s/1/1 d/1/2 a/0/3")
-            .equations(&["d(0) = 0", "d(s(x)) = s(s(d(x)))"])
-            .equation(&format!("{nested} = a"))
-    };
+    let grow = |n: usize| theories::growing(n, 1);
     assert_eq!(run(&grow(6), BUDGET).end, 0);
     let fields = run(&grow(7), BUDGET);
     assert_eq!(
@@ -98,11 +94,7 @@ fn end_22_by_a_step() {
 
 #[test]
 fn end_22_by_the_left_of_a_pair() {
-    let theory = |n: usize| {
-        Theory::new("0/0/0 s/1/1 t/2/2 h/2/3 k/2/4")
-            .equation(&format!("k(h({},z),z) = 0", power("s", n, "0")))
-            .equation("h(x,0) = t(x,x)")
-    };
+    let theory = theories::large_left;
     // k(t(X,X),0) has 2n + 5 nodes.
     let fields = run(&theory(57), BUDGET);
     assert_eq!(
@@ -115,11 +107,7 @@ fn end_22_by_the_left_of_a_pair() {
 
 #[test]
 fn end_22_by_the_right_of_a_pair() {
-    let theory = |n: usize| {
-        Theory::new("0/0/0 s/1/1 t/2/2 h/1/3 k/1/4")
-            .equation(&format!("h({}) = 0", power("s", n, "0")))
-            .equation("k(h(x)) = t(x,x)")
-    };
+    let theory = theories::large_right;
     // t(X,X) has 2n + 3 nodes.
     let fields = run(&theory(58), BUDGET);
     assert_eq!((fields.end, fields.rules.len()), (0, 3));
@@ -129,34 +117,21 @@ fn end_22_by_the_right_of_a_pair() {
 
 #[test]
 fn end_22_by_an_astronomic_peak() {
-    let (mut first, mut second) = ("c".to_string(), "c".to_string());
-    for i in (1..=12).rev() {
-        first = format!("t(x{i},t(f(x{i},x{i}),{first}))");
-        second = format!("t(f(y{},y{}),t(y{i},{second}))", i - 1, i - 1);
-    }
-    let theory = Theory::new("c/0/0 d/0/1 t/2/2 f/2/3")
-        .equation(&format!("{first} = c"))
-        .equation(&format!("{second} = d"));
+    let theory = theories::large_peak(12);
     let fields = run(&theory, BUDGET);
     assert_eq!((fields.end, fields.units, fields.rules.len()), (22, 3, 2));
-}
-
-/// Like `many_variables`, with an orientable pair.
-fn orientable_pair(extra: usize) -> Theory {
-    let list = (0..extra).map(|i| format!("z{i}"));
-    let tuple = list.rfold("c".to_string(), |rest, z| format!("t({z},{rest})"));
-    Theory::new("c/0/0 t/2/1 q/2/2 g/4/3 f/4/4 h/1/5 k/2/6")
-        .equation("h(f(x,y,z,w)) = g(w,x,y,z)")
-        .equation(&format!("k(h(y),{tuple}) = q(y,{tuple})"))
 }
 
 #[test]
 fn end_22_by_17_variables() {
     assert_eq!(end_and_units(&theories::many_variables(12)), (20, 3));
     assert_eq!(end_and_units(&theories::many_variables(13)), (22, 3));
-    let fields = run(&orientable_pair(12), BUDGET);
+    let fields = run(&theories::many_variables_oriented(12), BUDGET);
     assert_eq!((fields.end, fields.rules.len()), (0, 3));
-    assert_eq!(end_and_units(&orientable_pair(13)), (22, 3));
+    assert_eq!(
+        end_and_units(&theories::many_variables_oriented(13)),
+        (22, 3)
+    );
 }
 
 #[test]
@@ -194,6 +169,26 @@ fn end_23_by_the_513th_entry() {
     assert_eq!((fields.end, fields.log.len()), (23, 512));
     // The turn's unit and its rewriting come before the test of the log.
     assert_eq!(run(&theory, fields.units - 1).end, 21);
+}
+
+/// A stored run whose name begins with a number ends with it.
+#[test]
+fn stored_runs_end_as_their_names_say() {
+    let (mut named, mut found) = (0, Vec::new());
+    for case in cases::complete::cases().list() {
+        if refusal(&case.problem).is_some() || case.asked > 0 {
+            continue;
+        }
+        let end = completed(&case.problem).end;
+        found.push(end);
+        let number = case.name.split([':', ' ']).next();
+        if let Some(Ok(number @ (0 | 20..=23))) = number.map(str::parse::<u8>) {
+            assert_eq!(end, number, "{}", case.name);
+            named += 1;
+        }
+    }
+    assert!(named > 15, "only {named}");
+    assert!([0, 20, 21, 22, 23].iter().all(|end| found.contains(end)));
 }
 
 #[test]

@@ -4,6 +4,7 @@ mod common;
 
 use common::literal::{apply, rename, Bytes, Symbols};
 use common::{completed, hex, literal_run};
+use kb_engine::cases;
 use kb_engine::problem::Problem;
 use kb_engine::{compare, generate, unify, CompareAnswer, UnifyAnswer, MIN_RESULT};
 use std::collections::HashMap;
@@ -11,6 +12,8 @@ use std::collections::HashMap;
 const SEED: u64 = 20;
 /// Longer runs are left to the comparison of engines.
 const MOST_BUDGET: u32 = 60;
+/// Of the stored runs.
+const MOST_UNITS: u32 = 2000;
 
 /// Symbols and equations of a problem the engine's reader accepts.
 fn parts(problem: &Problem) -> (Symbols, Vec<(Bytes, Bytes)>) {
@@ -47,6 +50,28 @@ fn runs_follow_the_definitions() {
         }
     }
     assert!(decided > 500, "only {decided}");
+}
+
+/// The cases of complete_run, but for the longest runs.
+#[test]
+fn stored_runs_follow_the_definitions() {
+    let mut decided = 0;
+    for case in cases::complete::cases().list() {
+        let Ok(problem) = Problem::read(&case.problem) else {
+            continue;
+        };
+        let fields = completed(&case.problem);
+        if fields.units > MOST_UNITS {
+            continue;
+        }
+        let (symbols, equations) = parts(&problem);
+        if let Some(mut expected) = literal_run::run(symbols, problem.budget, &equations) {
+            expected.count = fields.count;
+            assert_eq!(fields, expected, "{}", case.name);
+            decided += 1;
+        }
+    }
+    assert!(decided > 90, "only {decided}");
 }
 
 #[test]

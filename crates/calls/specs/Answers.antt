@@ -17,7 +17,7 @@ use Rattle.calls.specs.declared.Compared.the-variants.{LeftAbove, RightA
 use Rattle.calls.specs.declared.Unified.{Unified}
 use Rattle.calls.specs.declared.Unified.the-variants.{Instance, Nothing, TooLarge, Refused as NotUnified}
 
--- "Compare answers 1 (left above), 2 (right above), 3 (identical), 4 (neither)", or the refusal's number and place.
+-- "Compare answers 1 (left above), 2 (right above), 3 (identical), 4 (neither)", or the refusal's number and place. [12.2]
 unfoldable pub compared-told : Compared → Reading ℕ
 compared-told LeftAbove = ok 1
 compared-told RightAbove = ok 2
@@ -26,7 +26,7 @@ compared-told Neither = ok 4
 compared-told (Unread number place) = refused number place
 
 -- What unify returns: the count of result bytes, "none", a number only, or a number and a place. "a common instance over 120 nodes" has the number of
--- the run's end for a term over 120 nodes.
+-- the run's end for a term over 120 nodes. [12.4 to 12.6]
 pub data Returned : Type 0 where
   bytes-written : ℕ → Returned
   none-common : Returned
@@ -51,12 +51,12 @@ unify-returns (ok no-instance) = none-common
 unify-returns (ok instance-too-large) = number-only (end-number too-large)
 unify-returns (refused n place) = number-and-place n place
 
--- the answer and the result buffer, before and after, are what the definition says
+-- the answer and the result buffer, before and after, are what the definition says [4.14, 12.4 to 12.6]
 pub record Unifies (u : Reading CommonInstance) (r : Unified) (d d′ : List ℕ) : Type 0 where
   pub told : unified-told r ≡ unify-returns u
   pub leaves : d′ ≡ after-unify u d
 
--- "refused (2 to 12, or a position not below the node count)"
+-- "refused (2 to 12, or a position not below the node count)" [12.8]
 unfoldable pub subterm-refused : List ℕ → ℕ → Bool
 subterm-refused l p =
     elim (parse-single l) [
@@ -65,6 +65,7 @@ subterm-refused l p =
     ]
 
 -- a reference to where that part of what another refers to begins: the same block of memory, so many bytes on; the bytes are `subterm-call`
+-- [12.7]
 pub record IsPart (lent part : RefT (List ℕ)) (q : Part) : Type 0 where
   pub block : part .ptr .0 ≡ lent .ptr .0
   pub place : part .ptr .1 ≡ lent .ptr .1 + q .start

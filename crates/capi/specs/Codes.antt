@@ -1,5 +1,5 @@
 -- The calls' answers as one number for C: a kind times 2 ^ 48, document 01's number times 2 ^ 32, and below it a value of 32 bits; an answer taken
--- apart; and demand 3 of the bytes that C takes and leaves. Assumes nothing.
+-- apart; and demand 3 of the bytes that C takes and leaves; section 15 of docs/DEFINITION.md. Assumes nothing.
 use mathlib.Core.Path.{_≡_}
 use mathlib.Core.List.{List}
 use Prim.Native.Nat.{ℕ, _+_, _*_, _/_, _%_}
@@ -9,22 +9,25 @@ use Rattle.completion.specs.Calls.{Part}
 use Rattle.completion.specs.Promise.{Delivers}
 use Rattle.calls.specs.Answers.{Returned, bytes-written, none-common, number-only, number-and-place}
 
+-- [15.1]
 unfoldable pub code : ℕ → ℕ → ℕ → ℕ
 code kind number value = kind * 281_474_976_710_656 + number * 4_294_967_296 + value % 4_294_967_296
 
 -- compare and complete: kind 1 with 1 to 4, or with the count of result bytes; or kind 0 with the refusal's number and place
+-- [15.2]
 unfoldable pub answer-code : Reading ℕ → ℕ
 answer-code (ok n) = code 1 0 n
 answer-code (refused n at) = code 0 n at
 
 -- unify: kind 1 with the count of result bytes, kind 2 for "none", kind 3 for a number only, or kind 0 with the refusal's number and place
+-- [15.3]
 unfoldable pub unify-code : Returned → ℕ
 unify-code (bytes-written count) = code 1 0 count
 unify-code none-common = code 2 0 0
 unify-code (number-only n) = code 3 n 0
 unify-code (number-and-place n at) = code 0 n at
 
--- subterm: the part's first byte times 2 ^ 32, and how many bytes it has
+-- subterm: the part's first byte times 2 ^ 32, and how many bytes it has [15.4]
 unfoldable pub part-code : Part → ℕ
 part-code p = p .start % 4_294_967_296 * 4_294_967_296 + p .bytes % 4_294_967_296
 
@@ -43,6 +46,6 @@ unfoldable pub start-in : ℕ → ℕ
 start-in r = r / 4_294_967_296
 
 -- Demand 3 for C, of the problem's bytes, the result's at exit and the answer: where its kind is 1, as many of the result's bytes as its value says
--- deliver.
+-- deliver. [15.5]
 unfoldable pub CodeDelivers : List ℕ → List ℕ → ℕ → Type 0
 CodeDelivers problem result r = kind-in r ≡ 1 → Delivers problem (take (value-in r) result)

@@ -12,7 +12,8 @@ use borrow.Author.Tests.{ltb-false}
 use Rattle.terms.specs.Base.{number-from, Every, of-none, of-cons}
 use Rattle.terms.specs.Term.{Term, size}
 use Rattle.terms.proofs.Every.{every-head}
-use Rattle.problem.specs.Problem.{ok, ReadField, Symbol, read-symbols, symbol-field, budget-field, ReadPart, read-side, Equation, equation-field, equation-fields, Problem, parse, only-equation}
+use Rattle.problem.specs.Problem.{ok, ReadField, Symbol, read-symbols, symbol-field, budget-field, ReadPart, read-side, Equation, equation-field}
+use Rattle.problem.specs.Problem.{equation-fields, Problem, parse, only-equation}
 use Rattle.completion.specs.Calls.{Single, parse-single}
 use Rattle.problem.specs.Over.{Over}
 use Rattle.completion.proofs.Over.{OverPair, OverEquations}
@@ -111,7 +112,14 @@ accepts bytes P e =
     from-bind _ _ P e λ es d e.
     let q : record { symbols = Σ; budget = budget; equations = es } ≡ P = ok-injective e in
     let k : EquationsFit Σ 16 es = equations-fit Σ 16 (b .end) (b .rest) es d in
-    rw (← q) (record { symbols-few = symbols-few s Σ a; budget-few = budget-few b budget c; equations-few = k .few; equations-fit = k .fit; equations-over = k .over })
+    rw (← q)
+    (record {
+      symbols-few = symbols-few s Σ a;
+      budget-few = budget-few b budget c;
+      equations-few = k .few;
+      equations-fit = k .fit;
+      equations-over = k .over;
+    })
 
 -- So does the equation of a problem that has exactly one.
 pub only-fits : (Q : Equation → Type 0) (end : ℕ) (es : List Equation) (e : Equation) → Every Q es → only-equation end es ≡ ok e → Q e

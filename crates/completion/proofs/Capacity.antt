@@ -26,7 +26,8 @@ use Rattle.completion.proofs.Kept.{PlaceFits, all-places-fit, kept-remo
 use Rattle.completion.proofs.Kept
 use Rattle.completion.proofs.Ends.{Takes, Because}
 use Rattle.completion.proofs.Traced.{takes}
-use Rattle.completion.proofs.Reachable.{Reachable, run-units}
+use Rattle.completion.proofs.Reachable.{Reachable}
+use Rattle.completion.proofs.Stopped.{run-units}
 use Rattle.completion.proofs.Accepts.{accepts}
 use Rattle.completion.proofs.Result.{result-length, result-is-bytes}
 
@@ -71,7 +72,8 @@ module _ (bytes : List ℕ) (P : Problem) (read : parse bytes ≡ ok P) where
       rw e at k
 
   pub overlap-variables : (o : Overlap) → OverlapMade (λ f. f < symbols) o → length (pair-variables (o .sides)) ≤ 32
-  overlap-variables o h = variables-few 32 (o .sides) (made-vars _ (λ x. x < 32) (o .sides .left) (h .left-made)) (made-vars _ (λ x. x < 32) (o .sides .right) (h .right-made))
+  overlap-variables o h =
+      variables-few 32 (o .sides) (made-vars _ (λ x. x < 32) (o .sides .left) (h .left-made)) (made-vars _ (λ x. x < 32) (o .sides .right) (h .right-made))
 
   -- what a turn takes: at most 120 nodes a side, variables below 32, and at most 32 equations wait
   pub taken-fits : {s : State} {left : ℕ} (r : Reachable P s left) (now rest : ℕ) (t : Taken) → take-pair P (s .rules) (s .waiting) now ≡ done t rest →
@@ -83,7 +85,8 @@ module _ (bytes : List ℕ) (P : Problem) (read : parse bytes ≡ ok P) where
   pub joined-few : {s : State} {left : ℕ} (r : Reachable P s left) (t : Taken) → TakenFits P (accepts bytes P read) s (state-limits r) t → (new : Rule) →
       length (t .waiting ++ removed new (s .rules)) ≤ 32
   joined-few {s} r t f new =
-      let a : length (t .waiting ++ removed new (s .rules)) ≡ length (t .waiting) + length (removed new (s .rules)) = length-append (t .waiting) (removed new (s .rules)) in
+      let a : length (t .waiting ++ removed new (s .rules)) ≡ length (t .waiting) + length (removed new (s .rules)) =
+      length-append (t .waiting) (removed new (s .rules)) in
       let b : length (kept new (s .rules)) + length (removed new (s .rules)) ≡ length (s .rules) = kept-removed new (s .rules) in
       let c : length (s .rules) + suc (length (t .waiting)) ≤ 33 = f .room in
       omega arith
@@ -96,7 +99,8 @@ module _ (bytes : List ℕ) (P : Problem) (read : parse bytes ≡ ok P) where
   pub units-back : number-from 0 (number-bytes 4 (run P .units)) ≡ run P .units
   units-back = number-back 4 (run P .units) (let a = units-few in omega arith)
 
-  pub number-fits-two : {s : State} {left : ℕ} → Reachable P s left → (r : Rule) → List·Memᴰ r (s .rules) → number-from 0 (number-bytes 2 (r .number)) ≡ r .number
+  pub number-fits-two : {s : State} {left : ℕ} → Reachable P s left → (r : Rule) → List·Memᴰ r (s .rules) →
+      number-from 0 (number-bytes 2 (r .number)) ≡ r .number
   number-fits-two r rule i = number-back 2 (rule .number) (let a : rule .number ≤ _ = rule-fits r rule i .last in let b = made-few r in omega arith)
 
   -- 4. The result.

@@ -17,9 +17,11 @@ use Rattle.rewriting.specs.Overlap.{Rule, Overlap, overlap}
 use Rattle.rewriting.proofs.Covers.{BothHold, all-places-hold}
 use Rattle.rewriting.proofs.Holds.{Reached}
 use Rattle.problem.specs.Problem.{rank-of, Equation, Problem}
-use Rattle.completion.specs.Turn.{Origin, removed-rule, Candidate, scanned-input, waiting-input, State, Taken, candidates, initial, rewrites, kept, removed, settled, run}
-use Rattle.completion.proofs.Ends.{Small, Source, of-waiting, of-overlap, of-input, Takes, Oriented, as-taken, other-way, Rights, none-yet, one-more, Next, settles, makes}
-use Rattle.completion.proofs.Reachable.{Reachable, from-start, by-turn, turn-next, run-stops}
+use Rattle.completion.specs.Turn.{Origin, removed-rule, Candidate, scanned-input, waiting-input, State, Taken, candidates, initial, rewrites}
+use Rattle.completion.specs.Turn.{kept, removed, settled}
+use Rattle.completion.proofs.Ends.{Small, Source, of-waiting, of-overlap, of-input, Takes, Oriented, as-taken, other-way, Rights, none-yet}
+use Rattle.completion.proofs.Ends.{one-more, Next, settles, makes}
+use Rattle.completion.proofs.Reachable.{Reachable, from-start, by-turn, turn-next}
 
 -- Every rule is kept or joins the waiting list.
 module _ {Q : Rule → Type 0} (new : Rule) where
@@ -30,7 +32,8 @@ module _ {Q : Rule → Type 0} (new : Rule) where
       either-has (Every Q) (rewrites new old) (kept new rules) (old ∷ kept new rules) (kept-every h) (of-cons q (kept-every h))
 
 module _ {W : Candidate → Type 0} where
-  pub removed-every : {Q : Rule → Type 0} (new : Rule) {rules : List Rule} → ((old : Rule) → Q old → W (record { origin = removed-rule (old .number); sides = old .sides })) → Every Q rules → Every W (removed new rules)
+  pub removed-every : {Q : Rule → Type 0} (new : Rule) {rules : List Rule} →
+      ((old : Rule) → Q old → W (record { origin = removed-rule (old .number); sides = old .sides })) → Every Q rules → Every W (removed new rules)
   unfolding removed
   removed-every new f of-none = of-none
   removed-every new f (of-cons {x = old} {l = rules} q h) =
@@ -48,10 +51,12 @@ pub record Closed (P : Problem) (R W T : Pair → Type 0) : Type 0 where
   pub given : (e : Equation) → List·Memᴰ e (P .equations) → W (renamed (e .sides))
   pub taken : (e : Pair) → W e → T e
   pub overlapped : (inner outer : Pair) (p : ℕ) (o : Overlap) → overlap inner outer p ≡ some o → Small o → R inner → R outer → T (renamed (o .sides))
-  pub rewritten : (rules : List Rule) → Every (λ (r : Rule). R (r .sides)) rules → (e f : Pair) → Reached rules (e .left) (f .left) → Reached rules (e .right) (f .right) → T e → T f
+  pub rewritten : (rules : List Rule) → Every (λ (r : Rule). R (r .sides)) rules → (e f : Pair) → Reached rules (e .left) (f .left) →
+      Reached rules (e .right) (f .right) → T e → T f
   pub turned : (e : Pair) → T e → T (swapped e)
   pub oriented : (e : Pair) → T e → length (pair-variables e) ≤ 16 → above (rank-of (P .symbols)) (e .left) (e .right) ≡ true → R (renamed e)
-  pub composed : (rules : List Rule) → Every (λ (r : Rule). R (r .sides)) rules → (e : Pair) (r : Term) → Reached rules (e .right) r → R e → R (record { left = e .left; right = r })
+  pub composed : (rules : List Rule) → Every (λ (r : Rule). R (r .sides)) rules → (e : Pair) (r : Term) → Reached rules (e .right) r → R e →
+      R (record { left = e .left; right = r })
   pub put-off : (e : Pair) → R e → W e
 
 module _ (P : Problem) (R W T : Pair → Type 0) (k : Closed P R W T) where
@@ -72,10 +77,12 @@ module _ (P : Problem) (R W T : Pair → Type 0) (k : Closed P R W T) where
       first (of-cons q h) = (k .taken (c .sides) q, h)
   source-has s h c cs (of-overlap at o z small e q) =
       let both : BothHold RuleHas at = every-in (all-places-hold RuleHas [] (s .rules) of-none (h .rules)) (z .listed) in (
-        subst (λ (d : Candidate). T (d .sides)) (sym e) (k .overlapped (at .inner .sides) (at .outer .sides) (at .position) o (z .is) small (both .inner-holds) (both .outer-holds)),
+        subst (λ (d : Candidate). T (d .sides)) (sym e)
+            (k .overlapped (at .inner .sides) (at .outer .sides) (at .position) o (z .is) small (both .inner-holds) (both .outer-holds)),
         subst (Every WaitingHas) (sym q) of-none,
       )
-  source-has s h c cs (of-input w i q) = (k .taken (c .sides) (every-in (candidates-every W scanned-input 1 (P .equations) (k .given)) i), subst (Every WaitingHas) (sym q) of-none)
+  source-has s h c cs (of-input w a i q) =
+      (k .taken (c .sides) (every-in (candidates-every W scanned-input 1 (P .equations) (k .given)) i), subst (Every WaitingHas) (sym q) of-none)
 
   pub taken-has : (s : State) → Has s → (t : Taken) → Takes P s t → T (t .pair .sides) × Every WaitingHas (t .waiting)
   taken-has s h t g =
@@ -86,13 +93,15 @@ module _ (P : Problem) (R W T : Pair → Type 0) (k : Closed P R W T) where
   oriented-has e f h few (as-taken a q) = subst R (sym q) (k .oriented e h few a)
   oriented-has e f h few (other-way a q) = subst R (sym q) (k .oriented (swapped e) (k .turned e h) (omega (arith, swapped-variables e)) a)
 
-  rights-have : {new : Rule} {older done later : List Rule} → Every RuleHas older → RuleHas new → Rights new older done later → Every RuleHas done × Every RuleHas later
+  rights-have : {new : Rule} {older done later : List Rule} → Every RuleHas older → RuleHas new → Rights new older done later →
+      Every RuleHas done × Every RuleHas later
   rights-have h n (none-yet e d) = (subst (Every RuleHas) (sym e) of-none, subst (Every RuleHas) (sym d) h)
   rights-have {new} h n (one-more {before} {done} {later} {old} {r} g f e) = go (rights-have h n g)
     where
       go : Every RuleHas before × Every RuleHas (old ∷ later) → Every RuleHas done × Every RuleHas later
       go (b, of-cons q l) = (
-        subst (Every RuleHas) (sym e) (every-append b (every-one (k .composed _ (every-append (every-append b (of-cons q l)) (every-one n)) (old .sides) r (f .reached) q))),
+        subst (Every RuleHas) (sym e)
+            (every-append b (every-one (k .composed _ (every-append (every-append b (of-cons q l)) (every-one n)) (old .sides) r (f .reached) q))),
         l,
       )
 
@@ -113,6 +122,3 @@ module _ (P : Problem) (R W T : Pair → Type 0) (k : Closed P R W T) where
   unfolding initial
   reachable-has (from-start e b) = rw e (record { rules = of-none; waiting = candidates-every W waiting-input 1 (P .equations) (k .given) })
   reachable-has (by-turn {s} {s′} {left} {left′} r e) = next-has s s′ (reachable-has r) (turn-next P s s′ left left′ e)
-
-  pub run-has : Has (run P .state)
-  run-has = reachable-has (run-stops P .reachable)

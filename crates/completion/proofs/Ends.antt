@@ -1,5 +1,5 @@
 -- What a turn does, and what each of its ends says of the state that it began with. Assumes nothing.
--- Read first: specs/Turn, rewriting/proofs/Holds, proofs/Turning (`next-state`).
+-- Read first: specs/Turn, rewriting/proofs/Holds, proofs/Sentences (`next-state`).
 use mathlib.Core.Path.{_≡_}
 use mathlib.Core.Bool.{true, false}
 use mathlib.Core.Logic.{_⊎_}
@@ -7,8 +7,9 @@ use mathlib.Core.List.{List, [], _∷_, _++_, List·Memᴰ}
 use mathlib.Core.Option.{some}
 use Prim.Native.Nat.{ℕ, suc, _≤_, _<_}
 use lib.ListN.{length}
-use Rattle.completion.proofs.Turning.{new-rule, next-state}
+use Rattle.completion.proofs.Sentences.{new-rule, next-state}
 use Rattle.terms.specs.Term.{Term, Pair, same, size, pair-variables, renamed}
+use Rattle.terms.proofs.Shape.{zero≢one}
 use Rattle.terms.proofs.Below.{swapped}
 use Rattle.terms.specs.Base.{Every}
 use Rattle.order.specs.Order.{above}
@@ -34,24 +35,50 @@ pub record Small (o : Overlap) : Type 0 where
   pub left : size (o .sides .left) ≤ 120
   pub right : size (o .sides .right) ≤ 120
 
--- the pair before it is normalised, and the equations that wait behind it: the oldest of the waiting list, an overlap, an input
+-- one normal form for both sides, of a pair and of the overlap at a place
+pub record SameForm (rules : List Rule) (e : Pair) : Type 0 where
+  pub to : Term
+  pub left : Form rules (e .left) to
+  pub right : Form rules (e .right) to
+
+abbrev pub SameAt : List Rule → Pair → Pair → ℕ → Type 0
+SameAt rules inner outer p = (o : Overlap) → overlap inner outer p ≡ some o → SameForm rules (renamed (o .sides))
+
+abbrev pub OverlapsSame : List Rule → Type 0
+OverlapsSame rules = Every (HoldsAt (SameAt rules)) (all-places [] rules)
+
+-- the pair before it is normalised, and the equations that wait behind it: the oldest of the waiting list, an overlap, an input when all overlaps
+-- have one form
 pub data Source (P : Problem) (s : State) : Candidate → List Candidate → Type 0 where
   of-waiting : {c : Candidate} {cs : List Candidate} → s .waiting ≡ c ∷ cs → Source P s c cs
   of-overlap : {c : Candidate} {cs : List Candidate} (at : Place) (o : Overlap) → Scanned s at o → Small o →
       c ≡ record { origin = overlapping (at .inner .number) (at .outer .number) (at .position); sides = renamed (o .sides) } → cs ≡ [] → Source P s c cs
-  of-input : {c : Candidate} {cs : List Candidate} → s .waiting ≡ [] → List·Memᴰ c (inputs P) → cs ≡ [] → Source P s c cs
+  of-input : {c : Candidate} {cs : List Candidate} → s .waiting ≡ [] → OverlapsSame (s .rules) → List·Memᴰ c (inputs P) → cs ≡ [] → Source P s c cs
 
--- the pair as its normal forms
+pub none≢waiting : {c : Candidate} {cs : List Candidate} → [] ≡ c ∷ cs → ⊥
+none≢waiting e = zero≢one (cc)
+
+-- the pair as its normal forms, which differ where the scan took it
 pub record Takes (P : Problem) (s : State) (t : Taken) : Type 0 where
   pub of : Candidate
   pub source : Source P s of (t .waiting)
   pub origin : t .pair .origin ≡ of .origin
   pub forms : Forms (s .rules) (of .sides) (t .pair .sides)
+  pub scanned : s .waiting ≡ [] → same (t .pair .sides .left) (t .pair .sides .right) ≡ false
 
 -- Steps 4 and 5: the upper side to the left.
 pub data Oriented (P : Problem) (e : Pair) : Pair → Type 0 where
   as-taken : {f : Pair} → above (rank-of (P .symbols)) (e .left) (e .right) ≡ true → f ≡ renamed e → Oriented P e f
   other-way : {f : Pair} → above (rank-of (P .symbols)) (e .right) (e .left) ≡ true → f ≡ renamed (swapped e) → Oriented P e f
+
+-- Steps 2 to 5 passed: of the pair that was taken a rule with these sides is made.
+pub record Due (P : Problem) (s : State) (sides : Pair) : Type 0 where
+  pub taken : Taken
+  pub takes : Takes P s taken
+  pub room : length (s .log) < 512
+  pub differ : same (taken .pair .sides .left) (taken .pair .sides .right) ≡ false
+  pub few : length (pair-variables (taken .pair .sides)) ≤ 16
+  pub oriented : Oriented P (taken .pair .sides) sides
 
 -- Step 7: of the older rules these were done, and these are to come.
 abbrev pub with-right : Rule → Term → Rule
@@ -59,7 +86,8 @@ with-right old r = record { number = old .number; sides = record { left = old .s
 
 pub data Rights (new : Rule) (older : List Rule) : List Rule → List Rule → Type 0 where
   none-yet : {done later : List Rule} → done ≡ [] → later ≡ older → Rights new older done later
-  one-more : {before done later : List Rule} {old : Rule} {r : Term} → Rights new older before (old ∷ later) → Form (before ++ (old ∷ later) ++ (new ∷ [])) (old .sides .right) r →
+  one-more : {before done later : List Rule} {old : Rule} {r : Term} → Rights new older before (old ∷ later) →
+      Form (before ++ (old ∷ later) ++ (new ∷ [])) (old .sides .right) r →
       done ≡ before ++ (with-right old r ∷ []) → Rights new older done later
 
 abbrev pub older-rules : State → Pair → List Rule
@@ -73,20 +101,12 @@ pub data Next (P : Problem) (s : State) : State → Type 0 where
       (done : List Rule) → Rights (new-rule s sides) (older-rules s sides) done [] → s′ ≡ next-state s t sides (done ++ (new-rule s sides ∷ [])) → Next P s s′
 
 -- 0: nothing waits, the sides of each overlap have one normal form, and so have those of each input equation.
-pub record SameForm (rules : List Rule) (e : Pair) : Type 0 where
-  pub to : Term
-  pub left : Form rules (e .left) to
-  pub right : Form rules (e .right) to
-
-abbrev pub SameAt : List Rule → Pair → Pair → ℕ → Type 0
-SameAt rules inner outer p = (o : Overlap) → overlap inner outer p ≡ some o → SameForm rules (renamed (o .sides))
-
 abbrev pub SameCandidate : List Rule → Candidate → Type 0
 SameCandidate rules c = SameForm rules (c .sides)
 
 pub record Certified (P : Problem) (s : State) : Type 0 where
   pub idle : s .waiting ≡ []
-  pub overlaps : Every (HoldsAt (SameAt (s .rules))) (all-places [] (s .rules))
+  pub overlaps : OverlapsSame (s .rules)
   pub inputs-same : Every (SameCandidate (s .rules)) (inputs P)
 
 -- 20: "neither side above the other"
@@ -107,20 +127,28 @@ SideOf e t = (t ≡ e .left) ⊎ (t ≡ e .right)
 pub data Large (P : Problem) (s : State) : Type 0 where
   in-taking : (c : Candidate) (cs : List Candidate) → Source P s c cs → (t : Term) → SideOf (c .sides) t → Outgrown (s .rules) t → Large P s
   in-overlap : (at : Place) (o : Overlap) → Scanned s at o → (t : Term) → (t ≡ o .peak) ⊎ SideOf (o .sides) t → 120 < size t → Large P s
-  in-right : (new : Rule) (done later : List Rule) (old : Rule) → Rights new (kept new (s .rules)) done (old ∷ later) →
-      Outgrown (done ++ (old ∷ later) ++ (new ∷ [])) (old .sides .right) → Large P s
+  in-right : (sides : Pair) → Due P s sides → suc (length (older-rules s sides)) ≤ 32 → (done later : List Rule) (old : Rule) →
+      Rights (new-rule s sides) (older-rules s sides) done (old ∷ later) →
+      Outgrown (done ++ (old ∷ later) ++ (new-rule s sides ∷ [])) (old .sides .right) → Large P s
   variables : (t : Taken) → Takes P s t → 16 < length (pair-variables (t .pair .sides)) → Large P s
 
--- 23: "a 33rd live rule"
-pub record RulesFull (s : State) : Type 0 where
+-- 23: "a 33rd live rule", which the pair that was taken makes
+pub record RulesFull (P : Problem) (s : State) : Type 0 where
   pub sides : Pair
+  pub due : Due P s sides
   pub over : 32 < suc (length (older-rules s sides))
 
--- With so many units left, a turn that began with s ended so. 21 comes with none, and "a 513th log entry" is 23 too.
+-- 23: "a 513th log entry", of the pair that was taken
+pub record LogFull (P : Problem) (s : State) : Type 0 where
+  pub taken : Taken
+  pub takes : Takes P s taken
+  pub over : 512 ≤ length (s .log)
+
+-- With so many units left, a turn that began with s ended so. 21 comes with none.
 unfoldable pub Because : Problem → State → End → ℕ → Type 0
 Because P s complete left = Certified P s
 Because P s (neither-above e) left = Neither P s e
 Because P s spent left = left ≡ 0
 Because P s too-large left = Large P s
-Because P s rules-full left = RulesFull s
-Because P s log-full left = 512 ≤ length (s .log)
+Because P s rules-full left = RulesFull P s
+Because P s log-full left = LogFull P s

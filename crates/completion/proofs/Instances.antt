@@ -79,7 +79,8 @@ pub instances :
     -- 9. The settle input: 31 result bytes, as above.
     × (complete-call settle-input 16_384 ≡ ok (number-bytes 31 0x10_0001_00_11_0004_00000003_12_0006_000101018080_13_0008_0100010000000001))
     -- 10. The same, budget 2: end 21, units 2, rule 1.
-    × (complete-call (number-bytes 21 0x01_0004_00000101_02_0004_00000002_03_0004_01018080) 16_384 ≡ ok (number-bytes 31 0x10_0001_15_11_0004_00000002_12_0006_000101018080_13_0008_0100010000000001))
+    × (complete-call (number-bytes 21 0x01_0004_00000101_02_0004_00000002_03_0004_01018080) 16_384
+    ≡ ok (number-bytes 31 0x10_0001_15_11_0004_00000002_12_0006_000101018080_13_0008_0100010000000001))
     -- 11. No equation, budget 9: end 0, units 1.
     × (complete-call (problem group 9 []) 16_384 ≡ ok (number-bytes 11 0x10_0001_00_11_0004_00000001))
     -- 12. x*y = y*x, budget 9: end 20, units 1, field 14 holds 02 80 81 02 81 80.

@@ -26,9 +26,10 @@ use Rattle.rewriting.proofs.Lower.{above-lower}
 use Rattle.rewriting.proofs.Covers.{of-every}
 use Rattle.rewriting.proofs.Holds.{Reached, reached-star}
 use Rattle.problem.specs.Problem.{rank-of, Problem}
-use Rattle.completion.specs.Turn.{run}
+use Rattle.completion.specs.Turn.{State}
 use Rattle.completion.proofs.Words.{equation-sides, equation-pair, of-item}
-use Rattle.completion.proofs.Closed.{Closed, run-has}
+use Rattle.completion.proofs.Reachable.{Reachable}
+use Rattle.completion.proofs.Closed.{Closed, reachable-has}
 
 module _ (P : Problem) where
   abbrev pub Input : Rules
@@ -66,10 +67,12 @@ module _ (P : Problem) where
   overlap-equal inner outer p o e a b = conv-conv {E = Conv (Step Input)} (λ l r c. c) (overlap-conv inner outer p o (Conv (Step Input)) a b e)
 
   -- a right side rewritten by live rules
-  composed-good : (rules : List Rule) → GoodRules rules → (e : Pair) (r : Term) → Reached rules (e .right) r → Good e → Good (record { left = e .left; right = r })
+  composed-good : (rules : List Rule) → GoodRules rules → (e : Pair) (r : Term) → Reached rules (e .right) r → Good e →
+      Good (record { left = e .left; right = r })
   composed-good rules good e r s q =
       record {
-        down = above-lower (rank-of (P .symbols)) (Of (sides-of rules)) (λ a b i. of-every Good good a b i .down) (e .left) (e .right) r (reached-star s) (q .down);
+        down = above-lower (rank-of (P .symbols)) (Of (sides-of rules)) (λ a b i. of-every Good good a b i .down) (e .left) (e .right) r
+            (reached-star s) (q .down);
         low = q .low;
         equal = chain (q .equal) (conv-conv (rules-sound good) (star-conv (reached-star s)));
       }
@@ -87,5 +90,5 @@ module _ (P : Problem) where
         put-off = λ e q. q .equal;
       }
 
-  pub run-good : GoodRules (run P .state .rules)
-  run-good = run-has P Good Equal Equal good-closed .rules
+  pub reachable-good : {s : State} {left : ℕ} → Reachable P s left → GoodRules (s .rules)
+  reachable-good r = reachable-has P Good Equal Equal good-closed r .rules

@@ -7,7 +7,7 @@ use mathlib.Core.Option.{some}
 use Prim.Native.Nat.{ℕ, suc, _+_, _≤_, _<_}
 use native.Mathlib.Omega.{arith}
 use lib.ListN.{length, length-append, length-map}
-use Rattle.completion.proofs.Turning.{new-rule, next-state}
+use Rattle.completion.proofs.Sentences.{new-rule, next-state}
 use Rattle.terms.specs.Base.{if_then_else_, Every, of-none, of-cons}
 use Rattle.terms.specs.Term.{Term, Pair, size, renamed}
 use Rattle.terms.proofs.Every.{every-head, every-tail, every-one, every-in, every-append, every-map, every-both, every-mapped, mapped-every}
@@ -18,10 +18,14 @@ use Rattle.rewriting.proofs.Covers.{all-places-hold}
 use Rattle.rewriting.proofs.Holds.{Reached, reached-keeps}
 use Rattle.problem.specs.Problem.{Problem}
 use Rattle.completion.specs.Turn.{Origin, overlapping, scanned-input, Candidate, State, Taken, rewrites, kept, removed, settled, run}
-use Rattle.completion.proofs.Limits.{HeldTo, HeldPair, OriginFits, CandidateFits, RuleFits, EntryFits, Ascending, numbers, Limits, Accepted, later-origin, later-candidate, later-entry, pair-wide, renamed-held, few-variables, candidates-fit, initial-limits}
-use Rattle.completion.proofs.Ends.{inputs, Small, Source, of-waiting, of-overlap, of-input, Takes, Rights, none-yet, one-more, with-right, older-rules, Next, settles, makes, Neither}
+use Rattle.completion.proofs.Limits.{HeldTo, HeldPair, OriginFits, CandidateFits, RuleFits, EntryFits, Ascending, numbers, Limits, Accepted}
+use Rattle.completion.proofs.Limits.{later-origin, later-candidate, later-entry, pair-wide, renamed-held, few-variables, candidates-fit}
+use Rattle.completion.proofs.Limits.{initial-limits}
+use Rattle.completion.proofs.Ends.{inputs, Small, Source, of-waiting, of-overlap, of-input, Takes, Rights, none-yet, one-more, with-right}
+use Rattle.completion.proofs.Ends.{older-rules, Next, settles, makes, Neither}
 use Rattle.completion.proofs.Closed.{Closed, Has, taken-has, next-has, kept-every, removed-every}
-use Rattle.completion.proofs.Reachable.{Reachable, from-start, by-turn, turn-next, run-stops}
+use Rattle.completion.proofs.Reachable.{Reachable, from-start, by-turn, turn-next}
+use Rattle.completion.proofs.Stopped.{run-stops}
 
 -- Places.
 pub record PlaceFits (n made : ℕ) (at : Place) : Type 0 where
@@ -57,7 +61,8 @@ unfolding Ascending
 ascending-from a b l [] h = tt
 ascending-from a b l (k ∷ ks) h = (omega arith, h .1)
 
-ascending-keep : (b : Bool) (lo : ℕ) (old : Rule) (rules : List Rule) → lo < old .number → Ascending (old .number) (numbers rules) → Ascending lo (numbers (if b then rules else (old ∷ rules)))
+ascending-keep : (b : Bool) (lo : ℕ) (old : Rule) (rules : List Rule) → lo < old .number → Ascending (old .number) (numbers rules) →
+    Ascending lo (numbers (if b then rules else (old ∷ rules)))
 unfolding if_then_else_ Ascending
 ascending-keep true lo old rules l h = ascending-from lo (old .number) (omega arith) (numbers rules) h
 ascending-keep false lo old rules l h = (l, h)
@@ -67,7 +72,8 @@ unfolding kept Ascending
 ascending-kept new lo [] h = tt
 ascending-kept new lo (old ∷ rules) h = ascending-keep (rewrites new old) lo old (kept new rules) (h .0) (ascending-kept new (old .number) rules (h .1))
 
-pub ascending-last : (n made lo : ℕ) (rules : List Rule) (new : Rule) → lo ≤ made → made < new .number → Every (RuleFits n made) rules → Ascending lo (numbers rules) →
+pub ascending-last : (n made lo : ℕ) (rules : List Rule) (new : Rule) → lo ≤ made → made < new .number → Every (RuleFits n made) rules →
+    Ascending lo (numbers rules) →
     Ascending lo (numbers (rules ++ (new ∷ [])))
 unfolding Ascending
 ascending-last n made lo [] new l m of-none h = (omega arith, tt)
@@ -79,7 +85,8 @@ numbers-append = map-append (λ (r : Rule). r .number)
 -- Normalising right sides keeps the numbers.
 moved : (before later : List Rule) (old old′ : Rule) → old′ .number ≡ old .number → numbers (before ++ (old′ ∷ []) ++ later) ≡ numbers (before ++ (old ∷ later))
 moved before later old old′ e =
-    ap numbers (append-assoc before (old′ ∷ []) later) ∙ numbers-append before (old′ ∷ later) ∙ ap (λ k. numbers before ++ (k ∷ numbers later)) e ∙ sym (numbers-append before (old ∷ later))
+    ap numbers (append-assoc before (old′ ∷ []) later) ∙ numbers-append before (old′ ∷ later) ∙ ap (λ k. numbers before ++ (k ∷ numbers later)) e
+    ∙ sym (numbers-append before (old ∷ later))
 
 rights-same : {new : Rule} {older done later : List Rule} → Rights new older done later → numbers (done ++ later) ≡ numbers older
 rights-same (none-yet e d) = rw (e, d) refl
@@ -87,7 +94,8 @@ rights-same (one-more {before} {done} {later} {old} {r} g f e) = rw e (moved bef
 
 rights-numbers : {new : Rule} {older done : List Rule} → Rights new older done [] → numbers (done ++ (new ∷ [])) ≡ numbers (older ++ (new ∷ []))
 rights-numbers {new} {older} {done} g =
-    numbers-append done (new ∷ []) ∙ ap (λ k. k ++ (new .number ∷ [])) (ap numbers (sym (append-nil done)) ∙ rights-same g) ∙ sym (numbers-append older (new ∷ []))
+    numbers-append done (new ∷ []) ∙ ap (λ k. k ++ (new .number ∷ [])) (ap numbers (sym (append-nil done)) ∙ rights-same g)
+    ∙ sym (numbers-append older (new ∷ []))
 
 -- Steps keep sizes and variables.
 module _ (n v : ℕ) (wide : 16 ≤ v) (rules : List Rule) (fit : Every (λ (r : Rule). HeldPair n 16 (r .sides)) rules) where
@@ -105,21 +113,28 @@ module _ (P : Problem) (ok : Accepted P) where
   abbrev pub symbols : ℕ
   symbols = length (P .symbols)
 
-  overlap-held : (inner outer : Pair) (p : ℕ) (o : Overlap) → overlap inner outer p ≡ some o → Small o → HeldPair symbols 16 inner → HeldPair symbols 16 outer → HeldPair symbols 32 (renamed (o .sides))
+  overlap-held : (inner outer : Pair) (p : ℕ) (o : Overlap) → overlap inner outer p ≡ some o → Small o → HeldPair symbols 16 inner →
+      HeldPair symbols 16 outer → HeldPair symbols 32 (renamed (o .sides))
   overlap-held inner outer p o e small a b =
-      let k : MaybeOverlap (λ f. f < symbols) (overlap inner outer p) = overlap-made (λ f. f < symbols) inner outer p (a .left .made, a .right .made) (b .left .made, b .right .made) in
+      let k : MaybeOverlap (λ f. f < symbols) (overlap inner outer p) =
+      overlap-made (λ f. f < symbols) inner outer p (a .left .made, a .right .made) (b .left .made, b .right .made) in
       let h : MaybeOverlap (λ f. f < symbols) (some o) = subst (MaybeOverlap (λ f. f < symbols)) e k in
-      let q : HeldPair symbols 32 (o .sides) = record { left = record { small = small .left; made = h .left-made }; right = record { small = small .right; made = h .right-made } } in
+      let q : HeldPair symbols 32 (o .sides) =
+      record { left = record { small = small .left; made = h .left-made }; right = record { small = small .right; made = h .right-made } } in
       renamed-held symbols 32 32 (o .sides) (few-variables symbols 32 (o .sides) q) q
 
   pub held-closed : Closed P (HeldPair symbols 16) (HeldPair symbols 16) (HeldPair symbols 32)
   held-closed =
       record {
-        given = λ e i. let h : HeldPair symbols 16 (e .sides) = every-in (ok .equations-fit) i in renamed-held symbols 16 16 (e .sides) (few-variables symbols 16 (e .sides) h) h;
+        given = λ e i. let h : HeldPair symbols 16 (e .sides) = every-in (ok .equations-fit) i in renamed-held symbols 16 16 (e .sides)
+            (few-variables symbols 16 (e .sides) h) h;
         taken = λ e h. pair-wide symbols 16 32 (omega arith) e h;
         overlapped = overlap-held;
         rewritten = λ rules fit e f l r h.
-            record { left = reached-held symbols 32 (omega arith) rules fit (e .left) (f .left) l (h .left); right = reached-held symbols 32 (omega arith) rules fit (e .right) (f .right) r (h .right) };
+            record {
+              left = reached-held symbols 32 (omega arith) rules fit (e .left) (f .left) l (h .left);
+              right = reached-held symbols 32 (omega arith) rules fit (e .right) (f .right) r (h .right);
+            };
         turned = λ e h. record { left = h .right; right = h .left };
         oriented = λ e h few a. renamed-held symbols 32 16 e few h;
         composed = λ rules fit e r s h. record { left = h .left; right = reached-held symbols 16 (omega arith) rules fit (e .right) r s (h .right) };
@@ -142,7 +157,8 @@ module _ (P : Problem) (ok : Accepted P) where
 
     inputs-fit : Every (CandidateFits symbols 16 (s .made)) (inputs P)
     unfolding OriginFits
-    inputs-fit = candidates-fit symbols (s .made) scanned-input (λ k l m. (l, m)) 1 (P .equations) (omega arith) (let few : length (P .equations) ≤ 16 = ok .equations-few in omega arith) (ok .equations-fit)
+    inputs-fit = candidates-fit symbols (s .made) scanned-input (λ k l m. (l, m)) 1 (P .equations) (omega arith)
+        (let few : length (P .equations) ≤ 16 = ok .equations-few in omega arith) (ok .equations-fit)
 
     abbrev SourceFits : Origin → List Candidate → Type 0
     SourceFits o cs = OriginFits (s .made) o × Every (CandidateFits symbols 16 (s .made)) cs × (length (s .rules) + suc (length cs) ≤ 33)
@@ -158,8 +174,9 @@ module _ (P : Problem) (ok : Accepted P) where
         (every-head h .from, every-tail h, omega arith)
     source-fits c cs (of-overlap at o z small e q) =
         let f : PlaceFits symbols (s .made) at = every-in (all-places-fit (s .rules) (lim .rules-fit)) (z .listed) in
-        rw (e, q) (none-wait (overlapping (at .inner .number) (at .outer .number) (at .position)) (f .inner-fits .first, f .inner-fits .last, f .outer-fits .first, f .outer-fits .last, f .position-fits))
-    source-fits c cs (of-input w i q) = rw q (none-wait (c .origin) (every-in inputs-fit i .from))
+        rw (e, q) (none-wait (overlapping (at .inner .number) (at .outer .number) (at .position))
+        (f .inner-fits .first, f .inner-fits .last, f .outer-fits .first, f .outer-fits .last, f .position-fits))
+    source-fits c cs (of-input w a i q) = rw q (none-wait (c .origin) (every-in inputs-fit i .from))
 
     pub taken-fits : (t : Taken) → Takes P s t → TakenFits t
     taken-fits t g =
@@ -171,14 +188,17 @@ module _ (P : Problem) (ok : Accepted P) where
           room = a .2;
         }
 
-    entry-fits : (t : Taken) (m k : ℕ) → TakenFits t → s .made ≤ m → k ≤ m → Every (EntryFits m) (s .log ++ (record { origin = t .pair .origin; made = k } ∷ []))
+    entry-fits : (t : Taken) (m k : ℕ) → TakenFits t → s .made ≤ m → k ≤ m →
+        Every (EntryFits m) (s .log ++ (record { origin = t .pair .origin; made = k } ∷ []))
     entry-fits t m k f l h =
-        every-append (every-map (later-entry (s .made) m l) (lim .log-fits)) (every-one (record { from = later-origin (s .made) m l (t .pair .origin) (f .from); last = h }))
+        every-append (every-map (later-entry (s .made) m l) (lim .log-fits))
+        (every-one (record { from = later-origin (s .made) m l (t .pair .origin) (f .from); last = h }))
 
     settled-limits : (t : Taken) → TakenFits t → length (s .log) < 512 → Limits symbols (settled s t)
     unfolding settled
     settled-limits t f room =
-        let logs : length (s .log ++ (record { origin = t .pair .origin; made = 0 } ∷ [])) ≡ length (s .log) + 1 = length-append (s .log) (record { origin = t .pair .origin; made = 0 } ∷ []) in
+        let logs : length (s .log ++ (record { origin = t .pair .origin; made = 0 } ∷ [])) ≡ length (s .log) + 1 =
+        length-append (s .log) (record { origin = t .pair .origin; made = 0 } ∷ []) in
         let place : length (s .rules) + suc (length (t .waiting)) ≤ 33 = f .room in
         let made : s .made ≤ length (s .log) = lim .made-few in
         record {
@@ -195,25 +215,33 @@ module _ (P : Problem) (ok : Accepted P) where
 
     -- Limits of the state with a new rule, whose rules are numbered like the older ones and it, and are held.
     made-limits : (t : Taken) (sides : Pair) (rules : List Rule) → TakenFits t → length (s .log) < 512 → suc (length (older-rules s sides)) ≤ 32 →
-        numbers rules ≡ numbers (older-rules s sides ++ (new-rule s sides ∷ [])) → Every (λ (r : Rule). HeldPair symbols 16 (r .sides)) rules → Limits symbols (next-state s t sides rules)
+        numbers rules ≡ numbers (older-rules s sides ++ (new-rule s sides ∷ [])) →
+        Every (λ (r : Rule). HeldPair symbols 16 (r .sides)) rules → Limits symbols (next-state s t sides rules)
     made-limits t sides rules f room live same held =
         let new : Rule = new-rule s sides in
         let m : ℕ = suc (s .made) in
         let older : List Rule = older-rules s sides in
         let older-fit : Every (RuleFits symbols (s .made)) older = kept-every new (lim .rules-fit) in
-        let count : length rules ≡ length older + 1 = sym (length-map rules (λ (r : Rule). r .number)) ∙ ap length same ∙ length-map (older ++ (new ∷ [])) (λ (r : Rule). r .number) ∙ length-append older (new ∷ []) in
+        let count : length rules ≡ length older + 1 = sym (length-map rules (λ (r : Rule). r .number)) ∙ ap length same
+        ∙ length-map (older ++ (new ∷ [])) (λ (r : Rule). r .number) ∙ length-append older (new ∷ []) in
         let all : length older + length (removed new (s .rules)) ≡ length (s .rules) = kept-removed new (s .rules) in
-        let waits : length (t .waiting ++ removed new (s .rules)) ≡ length (t .waiting) + length (removed new (s .rules)) = length-append (t .waiting) (removed new (s .rules)) in
-        let logs : length (s .log ++ (record { origin = t .pair .origin; made = m } ∷ [])) ≡ length (s .log) + 1 = length-append (s .log) (record { origin = t .pair .origin; made = m } ∷ []) in
+        let waits : length (t .waiting ++ removed new (s .rules)) ≡ length (t .waiting) + length (removed new (s .rules)) =
+        length-append (t .waiting) (removed new (s .rules)) in
+        let logs : length (s .log ++ (record { origin = t .pair .origin; made = m } ∷ [])) ≡ length (s .log) + 1 =
+        length-append (s .log) (record { origin = t .pair .origin; made = m } ∷ []) in
         let place : length (s .rules) + suc (length (t .waiting)) ≤ 33 = f .room in
         let made : s .made ≤ length (s .log) = lim .made-few in
         let numbered : Every (λ k. (1 ≤ k) × (k ≤ m)) (numbers rules) =
         subst (Every (λ k. (1 ≤ k) × (k ≤ m))) (sym same)
-        (every-mapped (λ (r : Rule). r .number) (every-append (every-map (λ r h. (h .first, (let l : r .number ≤ s .made = h .last in omega arith))) older-fit) (every-one {x = new} (omega arith, omega arith)))) in
+        (every-mapped (λ (r : Rule). r .number)
+        (every-append (every-map (λ r h. (h .first, (let l : r .number ≤ s .made = h .last in omega arith))) older-fit)
+        (every-one {x = new} (omega arith, omega arith)))) in
         record {
           live = omega arith;
-          rules-fit = every-map (λ r h. record { first = h .0 .0; last = h .0 .1; fits = h .1 }) (every-both (mapped-every (λ (r : Rule). r .number) rules numbered) held);
-          ascending = rw same (ascending-last symbols (s .made) 0 older new (omega arith) (omega arith) older-fit (ascending-kept new 0 (s .rules) (lim .ascending)));
+          rules-fit = every-map (λ r h. record { first = h .0 .0; last = h .0 .1; fits = h .1 })
+              (every-both (mapped-every (λ (r : Rule). r .number) rules numbered) held);
+          ascending =
+              rw same (ascending-last symbols (s .made) 0 older new (omega arith) (omega arith) older-fit (ascending-kept new 0 (s .rules) (lim .ascending)));
           made-few = omega arith;
           log-few = omega arith;
           log-fits = entry-fits t m m f (omega arith) (omega arith);
@@ -225,8 +253,10 @@ module _ (P : Problem) (ok : Accepted P) where
     pub next-limits : (s′ : State) → Next P s s′ → Limits symbols s′
     next-limits s′ (settles t g room q e) = rw e (settled-limits t (taken-fits t g) room)
     next-limits s′ (makes t g room d few sides o live done r e) =
-        let h : HasHeld s′ = next-has P (HeldPair symbols 16) (HeldPair symbols 16) (HeldPair symbols 32) held-closed s s′ has (makes t g room d few sides o live done r e) in
-        rw e (made-limits t sides (done ++ (new-rule s sides ∷ [])) (taken-fits t g) room live (rights-numbers r) (subst (λ (z : State). Every (λ (r : Rule). HeldPair symbols 16 (r .sides)) (z .rules)) e (h .rules)))
+        let h : HasHeld s′ =
+        next-has P (HeldPair symbols 16) (HeldPair symbols 16) (HeldPair symbols 32) held-closed s s′ has (makes t g room d few sides o live done r e) in
+        rw e (made-limits t sides (done ++ (new-rule s sides ∷ [])) (taken-fits t g) room live (rights-numbers r)
+        (subst (λ (z : State). Every (λ (r : Rule). HeldPair symbols 16 (r .sides)) (z .rules)) e (h .rules)))
 
   -- Every state of a run keeps the limits.
   pub reachable-limits : {s : State} {left : ℕ} → Reachable P s left → Limits symbols s

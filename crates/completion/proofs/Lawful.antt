@@ -9,9 +9,11 @@ use Rattle.terms.proofs.Shape.{either-has}
 use Rattle.terms.specs.Base.{if_then_else_}
 use Rattle.terms.specs.Term.{Term, Pair, same, size, renamed}
 use Rattle.rewriting.specs.Overlap.{Rule, Overlap, Place}
-use Rattle.rewriting.specs.Rewrite.{End, complete, neither-above, spent, too-large, rules-full, log-full, Paying, return, end-with, _>>=_, end-if, pay, hold, normalise, normalise-pair}
+use Rattle.rewriting.specs.Rewrite.{End, complete, neither-above, spent, too-large, rules-full, log-full, Paying, return, end-with, _>>=_, end-if}
+use Rattle.rewriting.specs.Rewrite.{pay, hold, normalise, normalise-pair}
 use Rattle.problem.specs.Problem.{Problem}
-use Rattle.completion.specs.Turn.{Origin, Candidate, State, Taken, scan-overlap, if-different, if-different-overlap, scan-inputs, scan, take-pair, orient, normalise-rights, make-rule, settled, turn}
+use Rattle.completion.specs.Turn.{Origin, Candidate, State, Taken, scan-overlap, if-different, if-different-overlap, scan-inputs, scan}
+use Rattle.completion.specs.Turn.{take-pair, orient, normalise-rights, make-rule, settled, turn}
 
 -- a fact for the end 21, another for all others
 abbrev pub Unless : End → Type 0 → Type 0 → Type 0

@@ -14,9 +14,12 @@ use Rattle.terms.specs.Term.{Term, Pair, same, size, pair-variables, renamed}
 use Rattle.terms.proofs.Every.{every-append}
 use Rattle.order.specs.Order.{above}
 use Rattle.rewriting.specs.Overlap.{Rule, Overlap, overlap, Place, all-places}
-use Rattle.rewriting.specs.Rewrite.{step, End, complete, neither-above, too-large, rules-full, log-full, Paid, done, stop, Paying, return, end-with, and-then, _>>=_, end-if, pay, hold, normalise, normalise-pair}
+use Rattle.rewriting.specs.Rewrite.{step, End, complete, neither-above, too-large, rules-full, log-full, Paid, done, stop, Paying, return, end-with}
+use Rattle.rewriting.specs.Rewrite.{and-then, _>>=_, end-if, pay, hold, normalise, normalise-pair}
 use Rattle.problem.specs.Problem.{Problem, rank-of}
-use Rattle.completion.specs.Turn.{Origin, scanned-input, Candidate, candidates, kept, State, Taken, Finished, initial, scan-overlap, if-different, if-different-overlap, scan-inputs, scan, take-pair, orient, normalise-rights, make-rule, settled, turn, turns, run}
+use Rattle.completion.specs.Turn.{Origin, scanned-input, Candidate, candidates, kept, State, Taken, Finished, initial, scan-overlap}
+use Rattle.completion.specs.Turn.{if-different, if-different-overlap, scan-inputs, scan, take-pair, orient, normalise-rights, make-rule}
+use Rattle.completion.specs.Turn.{settled, turn, turns, run}
 use Rattle.completion.proofs.Units.{left-of}
 use Rattle.completion.proofs.Reachable.{Reachable, from-start, by-turn, next-entry, turn-next, turn-less}
 
@@ -89,7 +92,8 @@ take-events P rules (c ∷ waiting) = pair-events rules (c .sides)
 unfoldable pub rights-events : List Rule → List Rule → Rule → Ledger
 rights-events before [] new = nothing
 rights-events before (old ∷ rules) new =
-    also (normalise-events (before ++ (old ∷ rules) ++ (new ∷ [])) (old .sides .right)) (normalise (before ++ (old ∷ rules) ++ (new ∷ [])) (old .sides .right)) λ r.
+    also (normalise-events (before ++ (old ∷ rules) ++ (new ∷ [])) (old .sides .right))
+    (normalise (before ++ (old ∷ rules) ++ (new ∷ [])) (old .sides .right)) λ r.
     rights-events (before ++ (record { number = old .number; sides = record { left = old .sides .left; right = r } } ∷ [])) rules new
 
 unfoldable pub make-events : Problem → State → Taken → Ledger
@@ -125,7 +129,8 @@ pub record Booked (left : ℕ) (rest : ℕ) (events : List Event) : Type 0 where
 abbrev pub Books : {A : Type 0} → Paying A → Ledger → Type 0
 Books m f = (left : ℕ) → Booked left (left-of (m left)) (f left)
 
-then-books : {A B : Type 0} (p : Paid A) (next : A → Paying B) (left : ℕ) (events : List Event) (more : A → Ledger) → Booked left (left-of p) events → ((a : A) → Books (next a) (more a)) →
+then-books : {A B : Type 0} (p : Paid A) (next : A → Paying B) (left : ℕ) (events : List Event) (more : A → Ledger) → Booked left (left-of p) events →
+    ((a : A) → Books (next a) (more a)) →
     Booked left (left-of (and-then p next)) (events ++ events-then p more)
 unfolding and-then events-then left-of
 then-books (done a l) next left events more h k =
@@ -139,7 +144,8 @@ then-books (stop e l) next left events more h k =
     let x : length events + l ≡ left = h .counted in
     record { counted = omega arith; valid = every-append (h .valid) (of-none) }
 
-bind-books : {A B : Type 0} (m : Paying A) (next : A → Paying B) (f : Ledger) (more : A → Ledger) → Books m f → ((a : A) → Books (next a) (more a)) → Books (m >>= next) (also f m more)
+bind-books : {A B : Type 0} (m : Paying A) (next : A → Paying B) (f : Ledger) (more : A → Ledger) → Books m f → ((a : A) → Books (next a) (more a)) →
+    Books (m >>= next) (also f m more)
 unfolding _>>=_ also
 bind-books m next f more h k left = then-books (m left) next left (f left) more (h left) k
 
@@ -174,7 +180,8 @@ unfolding if_then_else_
 if-books true m n f g h k = h
 if-books false m n f g h k = k
 
-step-books : (rules : List Rule) (t u : Term) (left : ℕ) (b : Bool) (p : Paid Term) (events : List Event) → step rules t ≡ some u → Booked left (left-of p) events →
+step-books : (rules : List Rule) (t u : Term) (left : ℕ) (b : Bool) (p : Paid Term) (events : List Event) → step rules t ≡ some u →
+    Booked left (left-of p) events →
     Booked (suc left) (left-of (if b then stop too-large left else p)) (rewrote rules t u ∷ (if b then [] else events))
 unfolding if_then_else_ left-of Valid
 step-books rules t u left true p events e h = record { counted = omega arith; valid = of-cons e (of-none) }
@@ -194,7 +201,8 @@ normalise-books rules t (suc left) = go (step rules t) refl (λ u. normalise-boo
     go : (o : Option Term) → step rules t ≡ o → ((u : Term) → Booked left (left-of (normalise rules u left)) (normalise-events rules u left)) →
         Booked (suc left) (left-of (normalise rules t (suc left))) (normalise-events rules t (suc left))
     go none e ih = rw (e, normalise, normalise-events) (record { counted = omega arith; valid = of-none })
-    go (some u) e ih = rw (e, normalise, normalise-events) (step-books rules t u left (ltb 120 (size u)) (normalise rules u left) (normalise-events rules u left) e (ih u))
+    go (some u) e ih =
+        rw (e, normalise, normalise-events) (step-books rules t u left (ltb 120 (size u)) (normalise rules u left) (normalise-events rules u left) e (ih u))
 
 pair-books : (rules : List Rule) (e : Pair) → Books (normalise-pair rules e) (pair-events rules e)
 unfolding normalise-pair pair-events
@@ -211,11 +219,13 @@ overlap-books rules (some o) =
     bind-books (hold (o .sides .right)) _ nothing _ (hold-books (o .sides .right)) λ _.
     last-books (normalise-pair rules (renamed (o .sides))) _ (pair-events rules (renamed (o .sides))) (pair-books rules (renamed (o .sides)))
 
-different-books : (origin : Origin) (forms : Pair) (next : Paying Candidate) (f : Ledger) → Books next f → Books (if-different origin forms next) (different-events forms f)
+different-books : (origin : Origin) (forms : Pair) (next : Paying Candidate) (f : Ledger) → Books next f →
+    Books (if-different origin forms next) (different-events forms f)
 unfolding if-different different-events
 different-books origin forms next f h = if-books (same (forms .left) (forms .right)) next _ f nothing h (return-books _)
 
-different-overlap-books : (at : Place) (o : Option Pair) (next : Paying Candidate) (f : Ledger) → Books next f → Books (if-different-overlap at o next) (different-overlap-events o f)
+different-overlap-books : (at : Place) (o : Option Pair) (next : Paying Candidate) (f : Ledger) → Books next f →
+    Books (if-different-overlap at o next) (different-overlap-events o f)
 unfolding if-different-overlap different-overlap-events
 different-overlap-books at none next f h = h
 different-overlap-books at (some forms) next f h = different-books _ forms next f h
@@ -238,14 +248,16 @@ scan-books rules inputs (at ∷ ps) =
 take-books : (P : Problem) (rules : List Rule) (cs : List Candidate) → Books (take-pair P rules cs) (take-events P rules cs)
 unfolding take-pair take-events
 take-books P rules [] =
-    last-books (scan rules (candidates scanned-input 1 (P .equations)) (all-places [] rules)) _ _ (scan-books rules (candidates scanned-input 1 (P .equations)) (all-places [] rules))
+    last-books (scan rules (candidates scanned-input 1 (P .equations)) (all-places [] rules)) _ _
+    (scan-books rules (candidates scanned-input 1 (P .equations)) (all-places [] rules))
 take-books P rules (c ∷ cs) = last-books (normalise-pair rules (c .sides)) _ (pair-events rules (c .sides)) (pair-books rules (c .sides))
 
 orient-free : (P : Problem) (e : Pair) (left : ℕ) → Booked left (left-of (orient P e left)) (nothing left)
 unfolding orient
 orient-free P e = go (above (rank-of (P .symbols)) (e .left) (e .right)) (above (rank-of (P .symbols)) (e .right) (e .left))
   where
-    go : (b c : Bool) → Books {A = Pair} (if b then return (renamed e) else if c then return (renamed (record { left = e .right; right = e .left })) else end-with (neither-above e)) nothing
+    go : (b c : Bool) → Books {A = Pair}
+        (if b then return (renamed e) else if c then return (renamed (record { left = e .right; right = e .left })) else end-with (neither-above e)) nothing
     go true c = unfold if_then_else_ in return-books _
     go false true = unfold if_then_else_ in return-books _
     go false false = unfold if_then_else_ in end-books Pair (neither-above e)
@@ -273,7 +285,8 @@ unfolding turn rest-events _>>=_ and-then pay
 rest-books P s left =
     bind-books (take-pair P (s .rules) (s .waiting)) _ (take-events P (s .rules) (s .waiting)) _ (take-books P (s .rules) (s .waiting)) (λ t.
     bind-books (end-if (leb 512 (length (s .log))) log-full) _ nothing _ (end-if-books _ log-full) λ _.
-    if-books (same (t .pair .sides .left) (t .pair .sides .right)) (return (settled s t)) (make-rule P s t) nothing (make-events P s t) (return-books (settled s t)) (make-books P s t)) left
+    if-books (same (t .pair .sides .left) (t .pair .sides .right)) (return (settled s t)) (make-rule P s t) nothing (make-events P s t)
+    (return-books (settled s t)) (make-books P s t)) left
 
 -- how many turns were begun
 unfoldable pub begun : List Event → ℕ
@@ -363,18 +376,21 @@ pub record TurnsBegun (before after : ℕ) (events : List Event) : Type 0 where
   pub begun-are : begun events + before ≡ after + last
 
 module _ (P : Problem) where
-  turns-begun : (n : ℕ) (s : State) (left : ℕ) → left < n → Reachable P s left → TurnsBegun (length (s .log)) (length (turns n P s left .state .log)) (turns-events n P s left)
+  turns-begun : (n : ℕ) (s : State) (left : ℕ) → left < n → Reachable P s left →
+      TurnsBegun (length (s .log)) (length (turns n P s left .state .log)) (turns-events n P s left)
   unfolding turns turns-events
   turns-begun zero s left h r = absurd (omega arith)
   turns-begun (suc n) s left h r = go (turn P s left) refl (turn-books P s left .once) (λ s′ left′ h r. turns-begun n s′ left′ h r)
     where
       go : (p : Paid State) → turn P s left ≡ p → begun (turn-events P s left) ≡ min 1 left →
-          ((s′ : State) (left′ : ℕ) → left′ < n → Reachable P s′ left′ → TurnsBegun (length (s′ .log)) (length (turns n P s′ left′ .state .log)) (turns-events n P s′ left′)) →
+          ((s′ : State) (left′ : ℕ) → left′ < n → Reachable P s′ left′ → TurnsBegun (length (s′ .log)) (length (turns n P s′ left′ .state .log))
+          (turns-events n P s′ left′)) →
           TurnsBegun (length (s .log)) (length (turns (suc n) P s left .state .log)) (turns-events (suc n) P s left)
       go (done s′ left′) e b ih =
           let less : left′ < left = turn-less P s s′ left left′ e in
           let g : length (s′ .log) ≡ suc (length (s .log)) = next-entry P _ _ (turn-next P _ _ _ _ e) in
-          let k : TurnsBegun (length (s′ .log)) (length (turns n P s′ left′ .state .log)) (turns-events n P s′ left′) = ih s′ left′ (omega arith) (by-turn r e) in
+          let k : TurnsBegun (length (s′ .log)) (length (turns n P s′ left′ .state .log)) (turns-events n P s′ left′) =
+          ih s′ left′ (omega arith) (by-turn r e) in
           let c : begun (turns-events n P s′ left′) + length (s′ .log) ≡ length (turns n P s′ left′ .state .log) + k .last = k .begun-are in
           let d = begun-append (turn-events P s left) (turns-events n P s′ left′) in
           rw (e, turns, turns-events) (record { last = k .last; at-most-one = k .at-most-one; begun-are = omega arith })

@@ -1,11 +1,11 @@
+pub mod Sentences
 pub mod Lawful
 pub mod Units
-pub mod Stops
-pub mod Runs
 pub mod Words
 pub mod Ends
 pub mod Traced
 pub mod Reachable
+pub mod Stopped
 pub mod Closed
 pub mod Invariant
 pub mod AtEnd
@@ -26,6 +26,7 @@ pub mod Steady
 pub mod Raised
 pub mod Ledger
 pub mod Ranks
+pub mod Clauses
 pub mod Writing
 pub mod ReadBack
 pub mod Promised
@@ -34,3 +35,11 @@ pub mod Instances
 pub mod Scanning
 pub mod Turning
 pub mod Comparing
+pub mod Reorders
+pub mod Soundness
+pub mod Deriving
+pub mod Confluent
+pub mod Postponed
+pub mod Encompassed
+pub mod Derived
+pub mod Published

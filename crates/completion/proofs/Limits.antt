@@ -87,7 +87,12 @@ later-entry a b l e h = record { from = later-origin a b l (e .origin) (h .from)
 
 -- More variables allowed.
 pub held-wide : (n v w : ℕ) → v ≤ w → (t : Term) → HeldTo n v t → HeldTo n w t
-held-wide n v w l t h = record { small = h .small; made = made-with _ (λ x. x < v) (λ x. x < w) t (h .made) (λ x i. let k : x < v = made-vars _ (λ x. x < v) t (h .made) x i in omega arith) }
+held-wide n v w l t h =
+    record {
+      small = h .small;
+      made = made-with _ (λ x. x < v) (λ x. x < w) t (h .made)
+          (λ x i. let k : x < v = made-vars _ (λ x. x < v) t (h .made) x i in omega arith);
+    }
 
 pub pair-wide : (n v w : ℕ) → v ≤ w → (e : Pair) → HeldPair n v e → HeldPair n w e
 pair-wide n v w l e h = record { left = held-wide n v w l (e .left) (h .left); right = held-wide n v w l (e .right) (h .right) }
@@ -116,7 +121,8 @@ candidates-sides origin k [] = refl
 candidates-sides origin k (e ∷ es) = ap (λ z. renamed (e .sides) ∷ z) (candidates-sides origin (suc k) es)
 
 pub candidates-fit : (n made : ℕ) (origin : ℕ → Origin) → ((k : ℕ) → 1 ≤ k → k ≤ 16 → OriginFits made (origin k)) →
-    (k : ℕ) (es : List Equation) → 1 ≤ k → k + length es ≤ 17 → Every (λ e. HeldPair n 16 (e .sides)) es → Every (CandidateFits n 16 made) (candidates origin k es)
+    (k : ℕ) (es : List Equation) → 1 ≤ k → k + length es ≤ 17 → Every (λ e. HeldPair n 16 (e .sides)) es →
+    Every (CandidateFits n 16 made) (candidates origin k es)
 unfolding candidates
 candidates-fit n made origin f k [] l m of-none = of-none
 candidates-fit n made origin f k (e ∷ es) l m (of-cons q h) =

@@ -18,9 +18,10 @@ use Rattle.rewriting.proofs.Holds.{Reached, reached-star}
 use Rattle.rewriting.proofs.Variables.{Brings, brings-subst, star-brings}
 use Rattle.problem.specs.Problem.{Symbol, rank-of, Problem}
 use Rattle.problem.specs.Over.{Over}
-use Rattle.completion.specs.Turn.{run}
+use Rattle.completion.specs.Turn.{State}
 use Rattle.completion.proofs.Over.{OverPair, OverEquations, over-renamed, over-overlap, over-star}
-use Rattle.completion.proofs.Closed.{Closed, run-has}
+use Rattle.completion.proofs.Reachable.{Reachable}
+use Rattle.completion.proofs.Closed.{Closed, reachable-has}
 
 -- A side above another has its variables.
 pub above-brings : (rank : ℕ → ℕ) (l r : Term) → above rank l r ≡ true → Brings l r
@@ -66,6 +67,6 @@ module _ (Σ : List Symbol) where
           put-off = λ e o. o .over;
         }
 
-    -- All rules that the run leaves.
-    pub run-over : OverRules (run P .state .rules)
-    run-over = run-has P OverRule (OverPair Σ) (OverPair Σ) over-closed .rules
+    -- All rules of every state of a run.
+    pub reachable-over : {s : State} {left : ℕ} → Reachable P s left → OverRules (s .rules)
+    reachable-over r = reachable-has P OverRule (OverPair Σ) (OverPair Σ) over-closed r .rules

@@ -45,7 +45,8 @@ module _ (Σ : List Symbol) where
   count-patches nil = refl
   count-patches (cons t ts) = ap suc (count-patches ts)
 
-  shape-over : (f n : ℕ) (ts : Terms) → count ts ≡ n → OverAll Σ ts → (b : Bool) → Says ((f < length Σ) × (n ≡ arity-of Σ f)) b → Over Σ (if b then node f ts else var 0)
+  shape-over : (f n : ℕ) (ts : Terms) → count ts ≡ n → OverAll Σ ts → (b : Bool) → Says ((f < length Σ) × (n ≡ arity-of Σ f)) b →
+      Over Σ (if b then node f ts else var 0)
   unfolding Over if_then_else_
   shape-over f n ts c h true k = (k .0, c ∙ k .1, h)
   shape-over f n ts c h false k = tt
@@ -56,7 +57,8 @@ module _ (Σ : List Symbol) where
 
     pub patch-over : (t : Term) → Over Σ (patch t)
     patch-over (var x) = tt
-    patch-over (node f ts) = shape-over f (count ts) (patches ts) (count-patches ts) (patches-over ts) (proper Σ f (count ts)) (dec-says _ (proper-dec Σ f (count ts)))
+    patch-over (node f ts) =
+        shape-over f (count ts) (patches ts) (count-patches ts) (patches-over ts) (proper Σ f (count ts)) (dec-says _ (proper-dec Σ f (count ts)))
 
     patches-over : (ts : Terms) → OverAll Σ (patches ts)
     patches-over nil = tt
@@ -99,7 +101,8 @@ module _ (Σ : List Symbol) where
   at-beneath f cs b e (lost-in h) = lost (λ x y. ap₂ (shape f) (count-plugs cs x y) (h x y))
   at-beneath f cs true e (kept-in ds h) = kept (beneath f ds) (λ a. ap₂ (shape f) (count-plugs cs a (var 0)) (h a) ∙ rw e refl)
   at-beneath f cs false e (kept-in ds h) =
-      lost (λ x y. let z : (w : Term) → patch (node f (plugs cs w)) ≡ var 0 = λ w. ap₂ (shape f) (count-plugs cs w (var 0)) (h w) ∙ rw e refl in z x ∙ sym (z y))
+      lost (λ x y. let z : (w : Term) → patch (node f (plugs cs w)) ≡ var 0 = λ w. ap₂ (shape f) (count-plugs cs w (var 0))
+      (h w) ∙ rw e refl in z x ∙ sym (z y))
 
   at-first : (c : Ctx) (ts : Terms) → PatchedAt c → PatchedIn (first c ts)
   unfolding patch plug

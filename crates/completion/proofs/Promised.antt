@@ -1,6 +1,6 @@
 -- Demand 3, the delivery theorem, as a promise about bytes: what complete writes, read back, holds the end and the live rules of the run, and where
--- the end is 0 these rules settle the buyer's equations. Assumes nothing.
--- Read first: specs/Promise, proofs/Delivered, proofs/ReadBack.
+-- the end is 0 these rules settle the buyer's equations. And demand 2: these rules are derived from the equations. Assumes nothing.
+-- Read first: specs/Promise, proofs/Delivered, proofs/Published, proofs/ReadBack.
 use mathlib.Core.Path.{_≡_, refl, sym, ap, subst, _∙_}
 use mathlib.Core.Bool.{false}
 use mathlib.Core.List.{List, [], _∷_, _++_, map, append-assoc}
@@ -21,12 +21,14 @@ use Rattle.completion.specs.Turn.{Entry, run}
 use Rattle.completion.specs.Calls.{rule-field, entry-field, forms-field, result-fields, result-bytes, complete-call}
 use Rattle.completion.specs.Promise.{fields-of, one-byte, end-in, rules-in, Promise, Delivers}
 use Rattle.completion.proofs.Limits.{RuleFits, Accepted, Limits}
-use Rattle.completion.proofs.OverRun.{OverRule, run-over}
+use Rattle.completion.proofs.OverRun.{OverRule, reachable-over}
+use Rattle.completion.proofs.Stopped.{run-stops}
 use Rattle.completion.proofs.Kept.{run-limits}
 use Rattle.completion.proofs.Accepts.{accepts}
 use Rattle.completion.proofs.Result.{fields-fit}
 use Rattle.completion.proofs.ReadBack.{fields-are, Fits, no-rules, rules-back}
 use Rattle.completion.proofs.Delivered.{delivered}
+use Rattle.completion.proofs.Published.{run-derived, complete-derived}
 
 -- "0, complete"; the other ends are 20 to 23.
 end-zero : (e : End) → (some (end-number e % 256) ≡ some 0) ↔ (e ≡ complete)
@@ -60,7 +62,8 @@ module _ (bytes : List ℕ) (P : Problem) (read : parse bytes ≡ ok P) where
   limits : Limits (length (P .symbols)) (run P .state)
   limits = run-limits P accepted
 
-  rule-fits : (r : Rule) → OverRule (P .symbols) (r .sides) × RuleFits (length (P .symbols)) (run P .state .made) r → Fits (P .symbols) (accepted .symbols-few) r
+  rule-fits : (r : Rule) → OverRule (P .symbols) (r .sides) × RuleFits (length (P .symbols)) (run P .state .made) r →
+      Fits (P .symbols) (accepted .symbols-few) r
   rule-fits r h =
       let a : r .number ≤ run P .state .made = h .1 .last in
       let b : run P .state .made ≤ length (run P .state .log) = limits .made-few in
@@ -76,7 +79,8 @@ module _ (bytes : List ℕ) (P : Problem) (read : parse bytes ≡ ok P) where
   -- The fields of the result are those that its bytes hold.
   pub fields-read : fields-of (result-bytes (run P)) ≡ ok (result-fields (run P))
   unfolding result-bytes
-  fields-read = fields-are (result-fields (run P)) (every-map (λ f h. let l : length (f .contents) ≤ 242 = h .length-fits in omega arith) (fields-fit P accepted))
+  fields-read =
+      fields-are (result-fields (run P)) (every-map (λ f h. let l : length (f .contents) ≤ 242 = h .length-fits in omega arith) (fields-fit P accepted))
 
   -- "which is so exactly when the turns defined above end with 0 for that problem"
   pub end-read : (end-in (result-fields (run P)) ≡ some 0) ↔ (run P .end ≡ complete)
@@ -89,7 +93,7 @@ module _ (bytes : List ℕ) (P : Problem) (read : parse bytes ≡ ok P) where
   rules-read =
       rw (append-assoc (map rule-field (run P .state .rules)) (map entry-field (run P .state .log)) (forms-field (run P .end)))
       (rules-back (P .symbols) (accepted .symbols-few) (run P .state .rules) (map entry-field (run P .state .log) ++ forms-field (run P .end))
-      (every-map rule-fits (every-both (run-over (P .symbols) P (accepted .equations-over)) (limits .rules-fit)))
+      (every-map rule-fits (every-both (reachable-over (P .symbols) P (accepted .equations-over) (run-stops P .reachable)) (limits .rules-fit)))
       (no-rules (P .symbols) (accepted .symbols-few) _ (every-append (entries-other (run P .state .log)) (forms-other (run P .end)))))
 
   pub run-promise : Promise P (result-bytes (run P))
@@ -102,6 +106,8 @@ module _ (bytes : List ℕ) (P : Problem) (read : parse bytes ≡ ok P) where
         are-rules = rules-read;
         are-live = refl;
         decide = λ h. delivered bytes P read (end-read .0 h);
+        derived = run-derived P;
+        derived-alone = λ h. complete-derived P (end-read .0 h);
       }
 
 -- The theorem.

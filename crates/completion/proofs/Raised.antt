@@ -12,7 +12,7 @@ use Rattle.completion.specs.Turn.{Candidate, State, Finished, initial, t
 use Rattle.completion.proofs.Lawful.{Unless, Other}
 use Rattle.completion.proofs.Steady.{WithMore, turn-steady}
 use Rattle.completion.proofs.Reachable.{Reachable, from-start, by-turn, turn-less}
-use Rattle.completion.proofs.Units.{turns-enough}
+use Rattle.completion.proofs.Stopped.{turns-enough}
 
 -- with k units more
 pub turn-more : (P : Problem) (s s′ : State) (left left′ k : ℕ) → turn P s left ≡ done s′ left′ → turn P s (left + k) ≡ done s′ (left′ + k)
@@ -36,7 +36,8 @@ unless log-full A B a b = b tt
 
 pub stop-more : (P : Problem) (s : State) (left left′ k : ℕ) (e : End) → Other e → turn P s left ≡ stop e left′ → turn P s (left + k) ≡ stop e (left′ + k)
 stop-more P s left left′ k e o q =
-    other e (left′ ≡ 0) (turn P s (left + k) ≡ stop e (left′ + k)) o (subst (λ p. WithMore p k (turn P s (left + k))) q (turn-steady P s left k (left + k) refl))
+    other e (left′ ≡ 0) (turn P s (left + k) ≡ stop e (left′ + k)) o
+    (subst (λ p. WithMore p k (turn P s (left + k))) q (turn-steady P s left k (left + k) refl))
 
 -- at 21 nothing is left
 pub spent-left : (P : Problem) (s : State) (left left′ : ℕ) → turn P s left ≡ stop spent left′ → left′ ≡ 0

@@ -37,7 +37,8 @@ unfolding field-bytes number-bytes
 field-back at f rest h =
     let n : ℕ = length (f .contents) in
     header at n (f .tag) (n / 256 % 256) (n % 256) (f .contents ++ rest) (two-back n h) (omega (arith, length-append (f .contents) rest))
-    ∙ ap₂ (λ c r. ok (record { first = at; tag = f .tag; contents = c; end = at + 3 + n; rest = r })) (take-at (f .contents) rest n refl) (drop-at (f .contents) rest n refl)
+    ∙ ap₂ (λ c r. ok (record { first = at; tag = f .tag; contents = c; end = at + 3 + n; rest = r })) (take-at (f .contents) rest n refl)
+    (drop-at (f .contents) rest n refl)
 
 -- so many fields, one behind the other
 pub fields-back : (more at : ℕ) (fs : List Field) → Every (λ f. length (f .contents) < 65_536) fs → length fs < more →
@@ -80,8 +81,10 @@ module _ (Σ : List Symbol) (few : length Σ ≤ 16) where
       let c = ap length b ∙ length-append (term-bytes l) (term-bytes r ++ []) in
       let d = length-append (term-bytes r) [] in
       let first : read-term Σ (suc (length bytes)) 2 bytes ≡ ok (record { part = l; end = 2 + size l; rest = term-bytes r ++ [] }) =
-      ap (λ bs. read-term Σ (suc (length bytes)) 2 bs) b ∙ read-back Σ few l (suc (length bytes)) 2 (2 + size l) (term-bytes r ++ []) ol nl (omega (arith, length-bytes l)) refl in
-      let second : read-term Σ (suc (length (term-bytes r ++ []))) (2 + size l) (term-bytes r ++ []) ≡ ok (record { part = r; end = 2 + size l + size r; rest = [] }) =
+      ap (λ bs. read-term Σ (suc (length bytes)) 2 bs) b ∙ read-back Σ few l (suc (length bytes)) 2 (2 + size l) (term-bytes r ++ []) ol nl
+      (omega (arith, length-bytes l)) refl in
+      let second : read-term Σ (suc (length (term-bytes r ++ []))) (2 + size l) (term-bytes r ++ []) ≡ ok
+      (record { part = r; end = 2 + size l + size r; rest = [] }) =
       read-back Σ few r (suc (length (term-bytes r ++ []))) (2 + size l) (2 + size l + size r) [] or nr (omega (arith, length-bytes r)) refl in
       rw (first, rule-of) (rw (second, rule-of) (rw (e, rule-of) refl))
 
@@ -91,7 +94,8 @@ module _ (Σ : List Symbol) (few : length Σ ≤ 16) where
   rule-back r f =
       let e = r .sides in
       two-terms (r .number) (r .number / 256 % 256) (r .number % 256) (e .left) (e .right) (term-bytes (e .left) ++ term-bytes (e .right))
-      (ap (λ l. term-bytes (e .left) ++ l) (sym (append-nil (term-bytes (e .right))))) (two-back (r .number) (f .number)) (f .left-over) (f .right-over) (f .left-named) (f .right-named)
+      (ap (λ l. term-bytes (e .left) ++ l) (sym (append-nil (term-bytes (e .right))))) (two-back (r .number) (f .number)) (f .left-over)
+      (f .right-over) (f .left-named) (f .right-named)
 
   -- fields of other tags hold no rule
   pub no-rules : (fs : List Field) → Every (λ f. eqb (f .tag) 0x12 ≡ false) fs → rules-in Σ fs ≡ ok []

@@ -19,7 +19,8 @@ use Rattle.rewriting.proofs.Holds.{Reached, reached-star}
 use Rattle.rewriting.proofs.Variables.{Brings, brings-subst, star-brings}
 use Rattle.problem.specs.Problem.{rank-of, Problem}
 use Rattle.completion.specs.Turn.{Candidate, scanned-input, State, candidates, run}
-use Rattle.completion.proofs.Reachable.{Reachable, run-stops}
+use Rattle.completion.proofs.Reachable.{Reachable}
+use Rattle.completion.proofs.Stopped.{run-stops}
 use Rattle.completion.proofs.Closed.{Closed, candidates-every, reachable-has}
 use Rattle.completion.proofs.OverRun.{above-brings}
 
@@ -41,9 +42,11 @@ oriented-renamed rank e a =
     record { unchanged = renamed-again e; brings = brings-subst (renaming e) (e .left) (e .right) (above-brings rank (e .left) (e .right) a) }
 
 -- step 7
-composed-renamed : (rules : List Rule) → RenamedRules rules → (e : Pair) (r : Term) → Reached rules (e .right) r → RenamedRule e → RenamedRule (record { left = e .left; right = r })
+composed-renamed : (rules : List Rule) → RenamedRules rules → (e : Pair) (r : Term) → Reached rules (e .right) r → RenamedRule e →
+    RenamedRule (record { left = e .left; right = r })
 composed-renamed rules h e r s q =
-    let b : Brings (e .left) r = λ x i. q .brings x (star-brings {R = Of (sides-of rules)} (λ l r i. of-every RenamedRule h l r i .brings) (reached-star s) x i) in
+    let b : Brings (e .left) r =
+    λ x i. q .brings x (star-brings {R = Of (sides-of rules)} (λ l r i. of-every RenamedRule h l r i .brings) (reached-star s) x i) in
     record {
       unchanged = renamed-by-left (record { left = e .left; right = r }) (sym (renamed-left e) ∙ ap (λ (d : Pair). d .left) (q .unchanged)) b;
       brings = b;

@@ -38,13 +38,16 @@ module _ (Σ : List Symbol) (es : List Equation) where
         let g : Over Σ (w .equation .sides .left) × Over Σ (w .equation .sides .right) = every-in given (w .is-equation) in
         let other : Over Σ (w .other) =
         ⊎-elim
-        (λ (i : Instance Σ (w .equation .sides) (w .one) (w .other)). subst (Over Σ) (sym (i .right-is)) (over-subst Σ (i .substitution) _ (λ x _. i .over x) (g .1)))
-        (λ (i : Instance Σ (w .equation .sides) (w .other) (w .one)). subst (Over Σ) (sym (i .left-is)) (over-subst Σ (i .substitution) _ (λ x _. i .over x) (g .0)))
+        (λ (i : Instance Σ (w .equation .sides) (w .one) (w .other)). subst (Over Σ) (sym (i .right-is))
+        (over-subst Σ (i .substitution) _ (λ x _. i .over x) (g .1)))
+        (λ (i : Instance Σ (w .equation .sides) (w .other) (w .one)). subst (Over Σ) (sym (i .left-is))
+        (over-subst Σ (i .substitution) _ (λ x _. i .over x) (g .0)))
         (w .instance) in
         subst (Over Σ) (sym (w .at-node .replaced ∙ f .replaced (w .other))) (over-refill Σ (f .c) (w .one) (w .other) (subst (Over Σ) (f .whole) o) other)
 
     -- A raw step, patched, is a replacement or no move, there and back.
-    patch-step : (s t : Term) → Relations.Step (Of (equation-sides es)) s t → Many (Replacement Σ es) (patch Σ s) (patch Σ t) × Many (Replacement Σ es) (patch Σ t) (patch Σ s)
+    patch-step : (s t : Term) → Relations.Step (Of (equation-sides es)) s t →
+        Many (Replacement Σ es) (patch Σ s) (patch Σ t) × Many (Replacement Σ es) (patch Σ t) (patch Σ s)
     patch-step s t w = here (patched-at Σ (p .c))
       where
         p : StepAt (Of (equation-sides es)) s t
@@ -78,8 +81,26 @@ module _ (Σ : List Symbol) (es : List Equation) where
         here (kept d h) =
             let s-is : patch Σ s ≡ plug d one = ap (patch Σ) (p .before) ∙ h _ ∙ ap (plug d) left-is in
             let t-is : patch Σ t ≡ plug d other = ap (patch Σ) (p .after) ∙ h _ ∙ ap (plug d) right-is in (
-              go (record { equation = a .item; is-equation = a .is-item; one = one; other = other; instance = inl instance; at-node = plug-node d one other _ _ s-is t-is }) stay,
-              go (record { equation = a .item; is-equation = a .is-item; one = other; other = one; instance = inr instance; at-node = plug-node d other one _ _ t-is s-is }) stay,
+              go
+                  (record {
+                    equation = a .item;
+                    is-equation = a .is-item;
+                    one = one;
+                    other = other;
+                    instance = inl instance;
+                    at-node = plug-node d one other _ _ s-is t-is;
+                  })
+                  stay,
+              go
+                  (record {
+                    equation = a .item;
+                    is-equation = a .is-item;
+                    one = other;
+                    other = one;
+                    instance = inr instance;
+                    at-node = plug-node d other one _ _ t-is s-is;
+                  })
+                  stay,
             )
         here (lost h) =
             let e : patch Σ s ≡ patch Σ t = ap (patch Σ) (p .before) ∙ h _ _ ∙ sym (ap (patch Σ) (p .after)) in

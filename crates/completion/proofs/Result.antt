@@ -18,7 +18,7 @@ use Rattle.completion.specs.Turn.{Origin, waiting-input, removed-rule, s
 use Rattle.completion.specs.Calls.{pair-bytes, rule-field, origin-bytes, entry-field, forms-field, result-fields, result-bytes}
 use Rattle.completion.proofs.Limits.{HeldPair, RuleFits, Limits, Accepted, renamed-held}
 use Rattle.completion.proofs.Ends.{Neither}
-use Rattle.completion.proofs.Reachable.{run-neither}
+use Rattle.completion.proofs.Stopped.{run-neither}
 use Rattle.completion.proofs.Kept.{run-limits, neither-fits}
 
 -- a field of at most so many bytes of contents, all of them bytes
@@ -90,7 +90,8 @@ origin-bytes-length (overlapping i o p) = three-length 4 i o p
 
 pub entry-length : (e : Entry) → length (entry-field e .contents) ≡ 8
 unfolding entry-field
-entry-length e = length-append (origin-bytes (e .origin)) (number-bytes 2 (e .made)) ∙ omega (arith, origin-bytes-length (e .origin), length-number-bytes 2 (e .made))
+entry-length e =
+    length-append (origin-bytes (e .origin)) (number-bytes 2 (e .made)) ∙ omega (arith, origin-bytes-length (e .origin), length-number-bytes 2 (e .made))
 
 pub entry-field-fits : (e : Entry) → FieldFits 242 (entry-field e)
 unfolding entry-field
@@ -129,7 +130,8 @@ record FormsFit (log : ℕ) (fs : List Field) : Type 0 where
 no-forms : (log : ℕ) → log ≤ 512 → FormsFit log []
 no-forms log l = record { fit = of-none; room = unfold flatMap in omega arith }
 
-one-forms : (n log : ℕ) (e : Pair) → n ≤ 16 → log < 512 → HeldPair n 16 (renamed e) → FormsFit log (record { tag = 0x14; contents = pair-bytes (renamed e) } ∷ [])
+one-forms : (n log : ℕ) (e : Pair) → n ≤ 16 → log < 512 → HeldPair n 16 (renamed e) →
+    FormsFit log (record { tag = 0x14; contents = pair-bytes (renamed e) } ∷ [])
 one-forms n log e l m h =
     let c : length (pair-bytes (renamed e)) ≤ 240 = omega (arith, pair-bytes-length (renamed e), h .left .small, h .right .small) in
     record {
@@ -143,7 +145,8 @@ module _ (P : Problem) (a : Accepted P) where
   forms-fit complete q = no-forms _ (run-limits P a .log-few)
   forms-fit (neither-above e) q =
       let h : Neither P (run P .state) e = run-neither P e q in
-      one-forms (length (P .symbols)) (length (run P .state .log)) e (a .symbols-few) (h .room) (renamed-held (length (P .symbols)) 32 16 e (h .few) (neither-fits P a e h))
+      one-forms (length (P .symbols)) (length (run P .state .log)) e (a .symbols-few) (h .room)
+      (renamed-held (length (P .symbols)) 32 16 e (h .few) (neither-fits P a e h))
   forms-fit spent q = no-forms _ (run-limits P a .log-few)
   forms-fit too-large q = no-forms _ (run-limits P a .log-few)
   forms-fit rules-full q = no-forms _ (run-limits P a .log-few)
@@ -153,7 +156,12 @@ module _ (P : Problem) (a : Accepted P) where
   unfolding result-fields
   fields-fit =
       of-cons {x = record { tag = 0x10; contents = number-bytes 1 (end-number (run P .end)) }}
-      (record { tag-fits = omega arith; contents-fit = number-bytes-bytes 1 (end-number (run P .end)); length-fits = omega (arith, length-number-bytes 1 (end-number (run P .end))) })
+      (record {
+        tag-fits = omega arith;
+        contents-fit = number-bytes-bytes 1 (end-number (run P .end));
+        length-fits = omega
+            (arith, length-number-bytes 1 (end-number (run P .end)));
+      })
       (of-cons {x = record { tag = 0x11; contents = number-bytes 4 (run P .units) }}
       (record { tag-fits = omega arith; contents-fit = number-bytes-bytes 4 (run P .units); length-fits = omega (arith, length-number-bytes 4 (run P .units)) })
       (every-append
@@ -175,11 +183,13 @@ module _ (P : Problem) (a : Accepted P) where
       let log : List Field = map entry-field (run P .state .log) in
       let forms : List Field = forms-field (run P .end) in
       let lim : Limits (length (P .symbols)) (run P .state) = run-limits P a in
-      let c1 = flat-cons (record { tag = 0x10; contents = number-bytes 1 (end-number (run P .end)) }) (record { tag = 0x11; contents = number-bytes 4 (run P .units) } ∷ (rules ++ log ++ forms)) in
+      let c1 = flat-cons (record { tag = 0x10; contents = number-bytes 1 (end-number (run P .end)) })
+      (record { tag = 0x11; contents = number-bytes 4 (run P .units) } ∷ (rules ++ log ++ forms)) in
       let c2 = flat-cons (record { tag = 0x11; contents = number-bytes 4 (run P .units) }) (rules ++ log ++ forms) in
       let c3 = ap length (flatMap-append field-bytes (rules ++ log) forms) ∙ length-append (flat (rules ++ log)) (flat forms) in
       let c4 = ap length (flatMap-append field-bytes rules log) ∙ length-append (flat rules) (flat log) in
-      let r : length (flat rules) ≤ 245 * length (run P .state .rules) = rules-length (run P .state .rules) (rules-fit (length (P .symbols)) (run P .state .made) (a .symbols-few) (run P .state .rules) (lim .rules-fit)) in
+      let r : length (flat rules) ≤ 245 * length (run P .state .rules) =
+      rules-length (run P .state .rules) (rules-fit (length (P .symbols)) (run P .state .made) (a .symbols-few) (run P .state .rules) (lim .rules-fit)) in
       let l : length (flat log) ≡ 11 * length (run P .state .log) = entries-length (run P .state .log) in
       let f : length (flat forms) + 11 * length (run P .state .log) ≤ 5864 = forms-fit (run P .end) refl .room in
       let live : length (run P .state .rules) ≤ 32 = lim .live in

@@ -9,7 +9,8 @@ use Prim.Native.Nat.{ℕ}
 use Rattle.terms.specs.Term.{Pair, same, renamed}
 use Rattle.rewriting.specs.Overlap.{Rule, Overlap, Place}
 use Rattle.rewriting.specs.Rewrite.{End, complete, neither-above, spent, too-large, rules-full, log-full, done, stop, Paying, normalise-pair}
-use Rattle.rewriting.proofs.Holds.{Holds, Forms, Pays, bind-holds, return-holds, end-with-holds, if-holds, hold-holds, normalise-pair-holds, NormalEnd, normalise-ends}
+use Rattle.rewriting.proofs.Holds.{Holds, Forms, Pays, bind-holds, return-holds, end-with-holds, if-holds, hold-holds, normalise-pair-holds}
+use Rattle.rewriting.proofs.Holds.{NormalEnd, normalise-ends}
 use Rattle.completion.specs.Turn.{Origin, Candidate, scan-overlap, if-different, if-different-overlap, scan-inputs, scan, normalise-rights}
 
 abbrev pub ScanEnd : End → Type 0
@@ -63,10 +64,12 @@ unfolding scan
 scan-scans rules inputs [] = inputs-scan rules inputs
 scan-scans rules inputs (at ∷ ps) = bind-holds _ _ (overlap-scans rules _) λ forms _. different-at at forms _ (scan-scans rules inputs ps)
 
-pub scan-ends : (rules : List Rule) (inputs : List Candidate) (ps : List Place) (units left : ℕ) (e : End) → scan rules inputs ps units ≡ stop e left → ScanEnd e
+pub scan-ends : (rules : List Rule) (inputs : List Candidate) (ps : List Place) (units left : ℕ) (e : End) → scan rules inputs ps units ≡ stop e left →
+    ScanEnd e
 scan-ends rules inputs ps units left e h = subst (Holds Differ E) h (scan-scans rules inputs ps .out units)
 
-pub scan-different : (rules : List Rule) (inputs : List Candidate) (ps : List Place) (units left : ℕ) (c : Candidate) → scan rules inputs ps units ≡ done c left →
+pub scan-different : (rules : List Rule) (inputs : List Candidate) (ps : List Place) (units left : ℕ) (c : Candidate) →
+    scan rules inputs ps units ≡ done c left →
     same (c .sides .left) (c .sides .right) ≡ false
 scan-different rules inputs ps units left c h = subst (Holds Differ E) h (scan-scans rules inputs ps .out units)
 

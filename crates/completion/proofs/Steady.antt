@@ -12,7 +12,8 @@ use Rattle.terms.specs.Base.{if_then_else_}
 use Rattle.terms.specs.Term.{Term, size}
 use Rattle.problem.specs.Problem.{Problem}
 use Rattle.rewriting.specs.Overlap.{Rule}
-use Rattle.rewriting.specs.Rewrite.{step, End, complete, neither-above, spent, too-large, rules-full, log-full, Paid, done, stop, Paying, return, end-with, and-then, _>>=_, pay, normalise}
+use Rattle.rewriting.specs.Rewrite.{step, End, complete, neither-above, spent, too-large, rules-full, log-full, Paid, done, stop, Paying, return}
+use Rattle.rewriting.specs.Rewrite.{end-with, and-then, _>>=_, pay, normalise}
 use Rattle.completion.proofs.Lawful.{Unless, Other, Lawful, turn-lawful}
 use Rattle.completion.specs.Turn.{State, turn}
 
@@ -24,7 +25,8 @@ WithMore (stop e left) k p = Unless e (left ≡ 0) (p ≡ stop e (left + k))
 abbrev pub Steady : {A : Type 0} → Paying A → Type 0
 Steady m = (left k more : ℕ) → more ≡ left + k → WithMore (m left) k (m more)
 
-stop-then : {A B : Type 0} (e : End) (left k : ℕ) (p : Paid A) (next : A → Paying B) → WithMore (stop e left) k p → WithMore {A = B} (stop e left) k (and-then p next)
+stop-then : {A B : Type 0} (e : End) (left k : ℕ) (p : Paid A) (next : A → Paying B) → WithMore (stop e left) k p →
+    WithMore {A = B} (stop e left) k (and-then p next)
 unfolding and-then
 stop-then complete left k p next h = ap (λ q. and-then q next) h
 stop-then (neither-above e) left k p next h = ap (λ q. and-then q next) h
@@ -33,7 +35,8 @@ stop-then too-large left k p next h = ap (λ q. and-then q next) h
 stop-then rules-full left k p next h = ap (λ q. and-then q next) h
 stop-then log-full left k p next h = ap (λ q. and-then q next) h
 
-then-steady : {A B : Type 0} (p q : Paid A) (next : A → Paying B) (k : ℕ) → WithMore p k q → ((a : A) → Steady (next a)) → WithMore (and-then p next) k (and-then q next)
+then-steady : {A B : Type 0} (p q : Paid A) (next : A → Paying B) (k : ℕ) → WithMore p k q → ((a : A) → Steady (next a)) →
+    WithMore (and-then p next) k (and-then q next)
 unfolding and-then
 then-steady (done a left) q next k h f = subst (λ z. WithMore (next a left) k (and-then z next)) (sym h) (f a left k (left + k) refl)
 then-steady (stop e left) q next k h f = stop-then e left k q next h
@@ -61,7 +64,8 @@ pay-steady zero k more e = refl
 pay-steady (suc left) k zero e = absurd (omega arith)
 pay-steady (suc left) k (suc more) e = ap (done tt) (omega arith)
 
-if-grown : {A : Type 0} (b : Bool) (p q p′ q′ : Paid A) (k : ℕ) → WithMore p k p′ → WithMore q k q′ → WithMore {A = A} (if b then p else q) k (if b then p′ else q′)
+if-grown : {A : Type 0} (b : Bool) (p q p′ q′ : Paid A) (k : ℕ) → WithMore p k p′ → WithMore q k q′ →
+    WithMore {A = A} (if b then p else q) k (if b then p′ else q′)
 unfolding if_then_else_
 if-grown true p q p′ q′ k h l = h
 if-grown false p q p′ q′ k h l = l
@@ -86,7 +90,8 @@ normalise-steady rules t (suc left) k (suc more) e = go (step rules t) refl (λ 
     go none q ih = rw (q, normalise) (ap (done t) e)
     go (some u) q ih =
         let l : more ≡ left + k = omega arith in
-        rw (q, normalise) (if-grown (ltb 120 (size u)) (stop too-large left) (normalise rules u left) (stop too-large more) (normalise rules u more) k (ap (stop too-large) l) (ih u l))
+        rw (q, normalise) (if-grown (ltb 120 (size u)) (stop too-large left) (normalise rules u left) (stop too-large more) (normalise rules u more) k
+        (ap (stop too-large) l) (ih u l))
 
 pub steady : Lawful (λ A m. Steady m)
 steady =

@@ -5,10 +5,10 @@ use mathlib.Core.Bool.{false}
 use mathlib.Core.Logic.{inl, inr}
 use mathlib.Core.List.{List, [], _∷_, _++_, List·Memᴰ}
 use mathlib.Core.Option.{Option, none, some}
-use Prim.Native.Nat.{ℕ, _≤_, _<_}
+use Prim.Native.Nat.{ℕ, suc, _≤_, _<_}
 use lib.ListN.{length}
 use borrow.Author.Tests.{ltb-true, ltb-false, leb-true, leb-false}
-use Rattle.completion.proofs.Turning.{new-rule, next-state}
+use Rattle.completion.proofs.Sentences.{new-rule, next-state}
 use Rattle.terms.specs.Term.{Pair, same, pair-variables, renamed}
 use Rattle.terms.proofs.Shape.{none≢some, some-inj, same-dec}
 use Rattle.terms.specs.Base.{Every, of-none, of-cons}
@@ -16,10 +16,14 @@ use Rattle.terms.proofs.Every.{every-of}
 use Rattle.rewriting.specs.Overlap.{Rule, Overlap, overlap, Place, all-places}
 use Rattle.rewriting.specs.Rewrite.{End, complete, neither-above, spent, too-large, rules-full, log-full, Paying, normalise-pair}
 use Rattle.rewriting.proofs.Covers.{HoldsAt}
-use Rattle.rewriting.proofs.Holds.{Form, Forms, Pays, bind-holds, return-holds, end-with-holds, end-if-holds, if-holds, pay-holds, hold-holds, normalise-holds, normalise-pair-holds}
+use Rattle.rewriting.proofs.Holds.{Form, Forms, Pays, bind-holds, return-holds, end-with-holds, end-if-holds, if-holds, pay-holds, hold-holds}
+use Rattle.rewriting.proofs.Holds.{normalise-holds, normalise-pair-holds}
 use Rattle.problem.specs.Problem.{Problem}
-use Rattle.completion.specs.Turn.{overlapping, Candidate, State, Taken, kept, scan-overlap, if-different, if-different-overlap, scan-inputs, scan, take-pair, orient, normalise-rights, make-rule, turn}
-use Rattle.completion.proofs.Ends.{inputs, Scanned, Source, of-waiting, of-overlap, of-input, Takes, Oriented, as-taken, other-way, Rights, none-yet, one-more, older-rules, Next, settles, makes, SameForm, SameAt, SameCandidate, Certified, Large, in-taking, in-overlap, in-right, variables, Because}
+use Rattle.completion.specs.Turn.{overlapping, Candidate, State, Taken, scan-overlap, if-different, if-different-overlap, scan-inputs}
+use Rattle.completion.specs.Turn.{scan, take-pair, orient, normalise-rights, make-rule, turn}
+use Rattle.completion.proofs.Ends.{none≢waiting, inputs, Scanned, Source, of-waiting, of-overlap, of-input, Takes, Oriented, as-taken, other-way, Due}
+use Rattle.completion.proofs.Ends.{Rights, none-yet, one-more, older-rules, Next, settles, makes, SameForm, SameAt, OverlapsSame}
+use Rattle.completion.proofs.Ends.{SameCandidate, Certified, Large, in-taking, in-overlap, in-right, variables, Because}
 
 module _ (P : Problem) (s : State) where
   abbrev pub E : End → ℕ → Type 0
@@ -35,7 +39,8 @@ module _ (P : Problem) (s : State) where
 
   -- a pair that is normalised
   forms : (c : Candidate) (cs : List Candidate) → Source P s c cs → Pays (Forms (s .rules) (c .sides)) E (normalise-pair (s .rules) (c .sides))
-  forms c cs h = normalise-pair-holds E (s .rules) out-of-units (c .sides) (λ o. large (in-taking c cs h _ (inl refl) o)) (λ o. large (in-taking c cs h _ (inr refl) o))
+  forms c cs h =
+      normalise-pair-holds E (s .rules) out-of-units (c .sides) (λ o. large (in-taking c cs h _ (inl refl) o)) (λ o. large (in-taking c cs h _ (inr refl) o))
 
   -- what the scan finds
   pub record Found (c : Candidate) : Type 0 where
@@ -43,22 +48,26 @@ module _ (P : Problem) (s : State) where
     pub source : Source P s of []
     pub origin : c .origin ≡ of .origin
     pub forms : Forms (s .rules) (of .sides) (c .sides)
+    pub differ : same (c .sides .left) (c .sides .right) ≡ false
 
   same-form : (e f : Pair) → f .left ≡ f .right → Forms (s .rules) e f → SameForm (s .rules) e
   same-form e f q h = record { to = f .right; left = subst (Form (s .rules) (e .left)) q (h .left); right = h .right }
 
-  different : (c : Candidate) (f : Pair) (next : Paying Candidate) → Source P s c [] → Forms (s .rules) (c .sides) f → (SameForm (s .rules) (c .sides) → Pays Found E next) →
+  different : (c : Candidate) (f : Pair) (next : Paying Candidate) → Source P s c [] → Forms (s .rules) (c .sides) f →
+      (SameForm (s .rules) (c .sides) → Pays Found E next) →
       Pays Found E (if-different (c .origin) f next)
   unfolding if-different
   different c f next h k go =
-      if-holds _ _ _ (λ b. go (same-form (c .sides) f (same-dec (f .left) (f .right) .0 b) k)) (λ _. return-holds _ (record { of = c; source = h; origin = refl; forms = k }))
+      if-holds _ _ _ (λ b. go (same-form (c .sides) f (same-dec (f .left) (f .right) .0 b) k))
+      (λ b. return-holds _ (record { of = c; source = h; origin = refl; forms = k; differ = b }))
 
-  scan-inputs-traced : s .waiting ≡ [] → (cs : List Candidate) → Every (λ c. List·Memᴰ c (inputs P)) cs → (Every (SameCandidate (s .rules)) cs → Certified P s) → Pays Found E (scan-inputs (s .rules) cs)
+  scan-inputs-traced : s .waiting ≡ [] → OverlapsSame (s .rules) → (cs : List Candidate) → Every (λ c. List·Memᴰ c (inputs P)) cs →
+      (Every (SameCandidate (s .rules)) cs → Certified P s) → Pays Found E (scan-inputs (s .rules) cs)
   unfolding scan-inputs Because
-  scan-inputs-traced w [] of-none k = end-with-holds complete (λ _. k of-none)
-  scan-inputs-traced w (c ∷ cs) (of-cons i h) k =
-      bind-holds _ _ (forms c [] (of-input w i refl)) λ f g.
-      different c f (scan-inputs (s .rules) cs) (of-input w i refl) g λ q. scan-inputs-traced w cs h (λ qs. k (of-cons q qs))
+  scan-inputs-traced w a [] of-none k = end-with-holds complete (λ _. k of-none)
+  scan-inputs-traced w a (c ∷ cs) (of-cons i h) k =
+      bind-holds _ _ (forms c [] (of-input w a i refl)) λ f g.
+      different c f (scan-inputs (s .rules) cs) (of-input w a i refl) g λ q. scan-inputs-traced w a cs h (λ qs. k (of-cons q qs))
 
   -- an overlap and its forms
   abbrev place-candidate : Place → Overlap → Candidate
@@ -85,51 +94,63 @@ module _ (P : Problem) (s : State) where
   unfolding if-different-overlap
   different-overlap at o none next h go = go (λ v e. absurd (none≢some (sym h ∙ e)))
   different-overlap at o (some f) next h go =
-      different (place-candidate at (h .0)) f next (h .2) (h .3) λ q. go (λ v e. subst (λ (w : Overlap). SameForm (s .rules) (renamed (w .sides))) (some-inj (sym (h .1) ∙ e)) q)
+      different (place-candidate at (h .0)) f next (h .2) (h .3) λ q. go
+      (λ v e. subst (λ (w : Overlap). SameForm (s .rules) (renamed (w .sides))) (some-inj (sym (h .1) ∙ e)) q)
 
   scan-traced : s .waiting ≡ [] → (ps : List Place) → Every (λ at. List·Memᴰ at (all-places [] (s .rules))) ps →
-      (Every (HoldsAt (SameAt (s .rules))) ps → Every (SameCandidate (s .rules)) (inputs P) → Certified P s) → Pays Found E (scan (s .rules) (inputs P) ps)
+      (Every (HoldsAt (SameAt (s .rules))) ps → OverlapsSame (s .rules)) → Pays Found E (scan (s .rules) (inputs P) ps)
   unfolding scan
-  scan-traced w [] of-none k = scan-inputs-traced w (inputs P) (every-of _ (λ c i. i)) (k of-none)
+  scan-traced w [] of-none k =
+      scan-inputs-traced w (k of-none) (inputs P) (every-of _ (λ c i. i)) (λ b. record { idle = w; overlaps = k of-none; inputs-same = b })
   scan-traced w (at ∷ ps) (of-cons i h) k =
-      bind-holds _ _ (scan-overlap-traced at (overlap (at .inner .sides) (at .outer .sides) (at .position)) (λ v e. record { idle = w; listed = i; is = e })) λ f g.
+      bind-holds _ _ (scan-overlap-traced at (overlap (at .inner .sides) (at .outer .sides) (at .position))
+      (λ v e. record { idle = w; listed = i; is = e })) λ f g.
       different-overlap at _ f (scan (s .rules) (inputs P) ps) g λ q. scan-traced w ps h (λ qs. k (of-cons q qs))
 
   take-traced : (waiting : List Candidate) → s .waiting ≡ waiting → Pays (Takes P s) E (take-pair P (s .rules) waiting)
   unfolding take-pair
   take-traced [] w =
-      bind-holds _ _ (scan-traced w (all-places [] (s .rules)) (every-of _ (λ at i. i)) (λ a b. record { idle = w; overlaps = a; inputs-same = b })) λ c f.
-      return-holds _ (record { of = f .of; source = f .source; origin = f .origin; forms = f .forms })
+      bind-holds _ _ (scan-traced w (all-places [] (s .rules)) (every-of _ (λ at i. i)) (λ a. a)) λ c f.
+      return-holds _ (record { of = f .of; source = f .source; origin = f .origin; forms = f .forms; scanned = λ _. f .differ })
   take-traced (c ∷ waiting) w =
       bind-holds _ _ (forms c waiting (of-waiting w)) λ f g.
-      return-holds _ (record { of = c; source = of-waiting w; origin = refl; forms = g })
+      return-holds _ (record { of = c; source = of-waiting w; origin = refl; forms = g; scanned = λ e. absurd (none≢waiting (sym e ∙ w)) })
 
   pub takes : Pays (Takes P s) E (take-pair P (s .rules) (s .waiting))
   takes = take-traced (s .waiting) refl
 
-  orient-traced : (t : Taken) → Takes P s t → length (s .log) < 512 → same (t .pair .sides .left) (t .pair .sides .right) ≡ false → length (pair-variables (t .pair .sides)) ≤ 16 →
+  orient-traced : (t : Taken) → Takes P s t → length (s .log) < 512 → same (t .pair .sides .left) (t .pair .sides .right) ≡ false →
+      length (pair-variables (t .pair .sides)) ≤ 16 →
       Pays (Oriented P (t .pair .sides)) E (orient P (t .pair .sides))
   unfolding orient Because
   orient-traced t h room d few =
       if-holds _ _ _ (λ a. return-holds _ (as-taken a refl)) (λ a.
       if-holds _ _ _ (λ b. return-holds _ (other-way b refl)) (λ b.
-      end-with-holds (neither-above (t .pair .sides)) (λ _. record { taken = t; takes = h; is-taken = refl; differ = d; not-left = a; not-right = b; few = few; room = room })))
+      end-with-holds (neither-above (t .pair .sides))
+      (λ _. record { taken = t; takes = h; is-taken = refl; differ = d; not-left = a; not-right = b; few = few; room = room })))
 
-  rights-traced : (new : Rule) (done later : List Rule) → Rights new (kept new (s .rules)) done later →
-      Pays (λ rules. (all : List Rule) × Rights new (kept new (s .rules)) all [] × (rules ≡ all ++ (new ∷ []))) E (normalise-rights done later new)
-  unfolding normalise-rights
-  rights-traced new done [] h = return-holds _ (done, h, refl)
-  rights-traced new done (old ∷ later) h =
-      bind-holds _ _ (normalise-holds E (done ++ (old ∷ later) ++ (new ∷ [])) out-of-units (old .sides .right) (λ o. large (in-right new done later old h o))) λ r f.
-      rights-traced new _ later (one-more h f refl)
+  module _ (sides : Pair) (due : Due P s sides) (live : suc (length (older-rules s sides)) ≤ 32) where
+    abbrev new : Rule
+    new = new-rule s sides
 
-  make-traced : (t : Taken) → Takes P s t → length (s .log) < 512 → same (t .pair .sides .left) (t .pair .sides .right) ≡ false → Pays (Next P s) E (make-rule P s t)
+    rights-traced : (done later : List Rule) → Rights new (older-rules s sides) done later →
+        Pays (λ rules. (all : List Rule) × Rights new (older-rules s sides) all [] × (rules ≡ all ++ (new ∷ []))) E (normalise-rights done later new)
+    unfolding normalise-rights
+    rights-traced done [] h = return-holds _ (done, h, refl)
+    rights-traced done (old ∷ later) h =
+        bind-holds _ _
+        (normalise-holds E (done ++ (old ∷ later) ++ (new ∷ [])) out-of-units (old .sides .right) (λ o. large (in-right sides due live done later old h o)))
+        λ r f. rights-traced _ later (one-more h f refl)
+
+  make-traced : (t : Taken) → Takes P s t → length (s .log) < 512 → same (t .pair .sides .left) (t .pair .sides .right) ≡ false →
+      Pays (Next P s) E (make-rule P s t)
   unfolding make-rule Because
   make-traced t h room d =
       bind-holds _ _ (end-if-holds _ too-large (λ q left. variables t h (ltb-true 16 _ q))) λ _ few.
       bind-holds _ _ (orient-traced t h room d (ltb-false 16 _ few)) λ sides o.
-      bind-holds _ _ (end-if-holds _ rules-full (λ q left. record { sides = sides; over = ltb-true 32 _ q })) λ _ live.
-      bind-holds _ _ (rights-traced (new-rule s sides) [] (older-rules s sides) (none-yet refl refl)) λ rules g.
+      let due : Due P s sides = record { taken = t; takes = h; room = room; differ = d; few = ltb-false 16 _ few; oriented = o } in
+      bind-holds _ _ (end-if-holds _ rules-full (λ q left. record { sides = sides; due = due; over = ltb-true 32 _ q })) λ _ live.
+      bind-holds _ _ (rights-traced sides due (ltb-false 32 _ live) [] (older-rules s sides) (none-yet refl refl)) λ rules g.
       return-holds _
       (makes t h room d (ltb-false 16 _ few) sides o (ltb-false 32 _ live) (g .0) (g .1) (ap (next-state s t sides) (g .2)))
 
@@ -138,7 +159,7 @@ module _ (P : Problem) (s : State) where
   turn-traced =
       bind-holds _ _ (pay-holds out-of-units) λ _ _.
       bind-holds _ _ takes λ t h.
-      bind-holds _ _ (end-if-holds _ log-full (λ q left. leb-true 512 _ q)) λ _ room.
+      bind-holds _ _ (end-if-holds _ log-full (λ q left. record { taken = t; takes = h; over = leb-true 512 _ q })) λ _ room.
       if-holds _ _ _
       (λ b. return-holds _ (settles t h (leb-false 512 _ room) (same-dec (t .pair .sides .left) (t .pair .sides .right) .0 b) refl))
       (λ b. make-traced t h (leb-false 512 _ room) b)

@@ -1,27 +1,27 @@
 -- A turn case by case: what `turn` comes to, from what its steps come to, for code that follows them one after the other. No invariant is assumed.
 -- Assumes nothing.
--- Read first: specs/Turn.
+-- Read first: specs/Turn, proofs/Sentences.
 use mathlib.Core.Path.{_≡_, refl, sym, ap, _∙_}
-use mathlib.Core.Bool.{true, false}
-use mathlib.Core.List.{List, [], _∷_, _++_}
+use mathlib.Core.Bool.{Bool, true, false}
+use mathlib.Core.List.{List, [], _∷_}
 use Prim.Native.Nat.{ℕ, zero, suc, _≤_, _<_, _-_}
 use native.Mathlib.Omega.{arith}
 use lib.Dec.{ltb, leb}
 use lib.ListN.{length}
-use borrow.Author.Tests.{le-leb, lt-leb, lt-ltb, le-ltb}
+use borrow.Author.Tests.{lt-leb, le-ltb, ltb-false}
 use Rattle.terms.specs.Base.{if_then_else_}
 use Rattle.terms.specs.Term.{Pair, same, pair-variables}
-use Rattle.rewriting.proofs.Holds.{and-then-assoc}
+use Rattle.rewriting.proofs.Holds.{and-then-assoc, stop≢done}
 use Rattle.rewriting.specs.Overlap.{Rule, all-places}
-use Rattle.rewriting.specs.Rewrite.{End, spent, too-large, rules-full, log-full, done, stop, Paying, return, end-with, and-then, _>>=_, end-if, pay, normalise-pair}
+use Rattle.rewriting.specs.Rewrite.{End, too-large, rules-full, log-full, done, stop, Paying, return, end-with, and-then, _>>=_, end-if, pay}
+use Rattle.rewriting.specs.Rewrite.{normalise-pair}
 use Rattle.problem.specs.Problem.{Problem}
-use Rattle.completion.specs.Turn.{scanned-input, Candidate, State, Taken, candidates, scan, take-pair, orient, kept, removed, normalise-rights, make-rule, settled, turn, Finished, initial, turns, run}
+use Rattle.completion.specs.Turn.{scanned-input, Candidate, State, Taken, candidates, scan, take-pair, orient, kept, normalise-rights}
+use Rattle.completion.specs.Turn.{make-rule, settled, turn, Finished, initial, turns, run}
+pub use Rattle.completion.proofs.Sentences.{turn-unpaid, turn-log-full, new-rule, next-state}
+use Rattle.completion.proofs.Sentences.{make-many-rules}
 
 -- Step 1 behind its unit, and the rest of a turn.
-pub turn-unpaid : (P : Problem) (s : State) → turn P s 0 ≡ stop spent 0
-unfolding turn _>>=_ and-then pay
-turn-unpaid P s = refl
-
 module _ (P : Problem) (s : State) (units : ℕ) where
   abbrev behind-take : Taken → Paying State
   behind-take t =
@@ -39,11 +39,8 @@ module _ (P : Problem) (s : State) (units : ℕ) where
     unfolding turn _>>=_ and-then pay
     rest = ap (λ p. and-then p behind-take) h
 
-    pub turn-log-full : 512 ≤ length (s .log) → turn P s (suc units) ≡ stop log-full left
-    unfolding end-if end-with and-then
-    turn-log-full full = rest ∙ ap (λ b. and-then (end-if b log-full left) later) (le-leb 512 (length (s .log)) full)
-
-    past-log : length (s .log) < 512 → turn P s (suc units) ≡ (if same (t .pair .sides .left) (t .pair .sides .right) then return (settled s t) else make-rule P s t) left
+    past-log : length (s .log) < 512 →
+        turn P s (suc units) ≡ (if same (t .pair .sides .left) (t .pair .sides .right) then return (settled s t) else make-rule P s t) left
     unfolding end-if return and-then
     past-log few = rest ∙ ap (λ b. and-then (end-if b log-full left) later) (lt-leb 512 (length (s .log)) few)
 
@@ -59,16 +56,16 @@ module _ (P : Problem) (s : State) (units : ℕ) where
 abbrev pub oriented : Problem → Pair → Paying Pair
 oriented P e = end-if (ltb 16 (length (pair-variables e))) too-large >>= λ _. orient P e
 
-abbrev pub new-rule : State → Pair → Rule
-new-rule s sides = record { number = suc (s .made); sides = sides }
-
-abbrev pub next-state : State → Taken → Pair → List Rule → State
-next-state s t sides rules = record {
-  rules = rules;
-  made = suc (s .made);
-  waiting = t .waiting ++ removed (new-rule s sides) (s .rules);
-  log = s .log ++ (record { origin = t .pair .origin; made = suc (s .made) } ∷ []);
-}
+-- the pair was oriented, so it had no more than 16 variables
+oriented-done : (P : Problem) (e sides : Pair) (units left : ℕ) → oriented P e units ≡ done sides left →
+    (length (pair-variables e) ≤ 16) × (orient P e units ≡ done sides left)
+unfolding _>>=_ and-then end-if end-with return
+oriented-done P e sides units left h = go (ltb 16 (length (pair-variables e))) refl h
+  where
+    go : (b : Bool) → ltb 16 (length (pair-variables e)) ≡ b → and-then (end-if b too-large units) (λ _. orient P e) ≡ done sides left →
+        (length (pair-variables e) ≤ 16) × (orient P e units ≡ done sides left)
+    go true q k = absurd (stop≢done k)
+    go false q k = (ltb-false 16 (length (pair-variables e)) q, k)
 
 module _ (P : Problem) (s : State) (t : Taken) (units : ℕ) where
   -- step 7, and step 6's count before it, for a new rule with these sides
@@ -92,8 +89,9 @@ module _ (P : Problem) (s : State) (t : Taken) (units : ℕ) where
     from = make-from ∙ ap (λ p. and-then p behind) h
 
     pub make-rules-full : 32 < suc (length (kept (new-rule s sides) (s .rules))) → make-rule P s t units ≡ stop rules-full left
-    unfolding _>>=_ and-then end-if end-with
-    make-rules-full full = from ∙ ap (λ b. and-then (end-if b rules-full left) (composed sides)) (lt-ltb 32 (suc (length (kept (new-rule s sides) (s .rules)))) full)
+    make-rules-full full =
+        let k = oriented-done P (t .pair .sides) sides units left h in
+        make-many-rules P s t units (k .0) sides left (k .1) full
 
     past-rules : suc (length (kept (new-rule s sides) (s .rules))) ≤ 32 →
         make-rule P s t units
@@ -107,7 +105,8 @@ module _ (P : Problem) (s : State) (t : Taken) (units : ℕ) where
     make-rights-stop few e now r = past-rules few ∙ ap (λ p. and-then p (λ rules. return (next-state s t sides rules))) r
 
     pub make-done : suc (length (kept (new-rule s sides) (s .rules))) ≤ 32 → (rules : List Rule) (now : ℕ) →
-        normalise-rights [] (kept (new-rule s sides) (s .rules)) (new-rule s sides) left ≡ done rules now → make-rule P s t units ≡ done (next-state s t sides rules) now
+        normalise-rights [] (kept (new-rule s sides) (s .rules)) (new-rule s sides) left ≡ done rules now → make-rule P s t units ≡ done
+        (next-state s t sides rules) now
     unfolding and-then return
     make-done few rules now r = past-rules few ∙ ap (λ p. and-then p (λ rules. return (next-state s t sides rules))) r
 

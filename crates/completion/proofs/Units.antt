@@ -1,10 +1,10 @@
--- The units: nothing that pays leaves more than it had, a turn leaves less, and so one turn more than the budget is enough turns. Assumes nothing.
+-- The units: nothing that pays leaves more than it had, and a turn leaves less. Assumes nothing.
 -- Read first: specs/Turn, proofs/Lawful.
 use mathlib.Core.Path.{_≡_, refl}
 use mathlib.Core.Bool.{Bool, true, false}
 use mathlib.Core.List.{List}
 use mathlib.Core.Option.{Option, none, some}
-use Prim.Native.Nat.{ℕ, zero, suc, _≤_, _<_}
+use Prim.Native.Nat.{ℕ, zero, suc, _≤_}
 use native.Mathlib.Omega.{arith}
 use Rattle.terms.specs.Base.{if_then_else_}
 use Rattle.terms.specs.Term.{Term}
@@ -12,7 +12,7 @@ use Rattle.problem.specs.Problem.{Problem}
 use Rattle.rewriting.specs.Overlap.{Rule}
 use Rattle.rewriting.specs.Rewrite.{step, End, Paid, done, stop, Paying, return, end-with, and-then, _>>=_, pay, normalise}
 use Rattle.completion.proofs.Lawful.{Lawful, rest-lawful}
-use Rattle.completion.specs.Turn.{State, turn, turns}
+use Rattle.completion.specs.Turn.{State, turn}
 
 -- the units left
 unfoldable pub left-of : {A : Type 0} → Paid A → ℕ
@@ -77,18 +77,3 @@ fair =
 pub rest-of-turn : (P : Problem) (s : State) (left : ℕ) → left-of (turn P s (suc left)) ≤ left
 unfolding turn _>>=_ and-then pay Fair
 rest-of-turn P s left = rest-lawful (λ A m. Fair m) fair P s left
-
--- So many turns as there are units, and one more, are enough: the bound of `turns` is never what ends a run.
-pub turns-enough : (n m : ℕ) (P : Problem) (s : State) (left : ℕ) → left < n → left < m → turns n P s left ≡ turns m P s left
-unfolding turns left-of
-turns-enough zero m P s left h k = absurd (omega arith)
-turns-enough (suc n) zero P s left h k = absurd (omega arith)
-turns-enough (suc n) (suc m) P s zero h k = unfold turn _>>=_ and-then pay in refl
-turns-enough (suc n) (suc m) P s (suc left) h k =
-    go (turn P s (suc left)) refl (rest-of-turn P s left) (λ s′ left′ h′ k′. turns-enough n m P s′ left′ h′ k′)
-  where
-    go : (p : Paid State) → turn P s (suc left) ≡ p → left-of p ≤ left →
-        ((s′ : State) (left′ : ℕ) → left′ < n → left′ < m → turns n P s′ left′ ≡ turns m P s′ left′) →
-        turns (suc n) P s (suc left) ≡ turns (suc m) P s (suc left)
-    go (done s′ left′) e l ih = rw (e, turns) (ih s′ left′ (omega arith) (omega arith))
-    go (stop end left′) e l ih = rw (e, turns) refl

@@ -68,7 +68,8 @@ node-step R Σ e u v s t ρ i a =
 
 pub word-step : (Σ : List Symbol) (rules : List Rule) (s t : Term) → Step Σ rules s t → StepBy rules s t
 word-step Σ rules s t w =
-    node-step (Of (sides-of rules)) Σ (w .rule .sides) (w .redex) (w .contractum) s t (of-item rule-sides rules (w .rule) (w .is-rule)) (w .instance) (w .at-node)
+    node-step (Of (sides-of rules)) Σ (w .rule .sides) (w .redex) (w .contractum) s t (of-item rule-sides rules (w .rule) (w .is-rule)) (w .instance)
+    (w .at-node)
 
 pub word-many : (Σ : List Symbol) (rules : List Rule) {s t : Term} → Many (Step Σ rules) s t → Star (StepBy rules) s t
 word-many Σ rules stay = Relations.stop
@@ -92,8 +93,10 @@ turned u v s t a =
 pub word-replacement : (Σ : List Symbol) (es : List Equation) (s t : Term) → Replacement Σ es s t → Conv (Relations.Step (Of (equation-sides es))) s t
 word-replacement Σ es s t w =
     ⊎-elim
-    (λ i. ahead (node-step _ Σ (w .equation .sides) (w .one) (w .other) s t (of-item equation-pair es (w .equation) (w .is-equation)) i (w .at-node)) Relations.same)
-    (λ i. back (node-step _ Σ (w .equation .sides) (w .other) (w .one) t s (of-item equation-pair es (w .equation) (w .is-equation)) i (turned _ _ s t (w .at-node))) Relations.same)
+    (λ i. ahead (node-step _ Σ (w .equation .sides) (w .one) (w .other) s t (of-item equation-pair es (w .equation) (w .is-equation)) i
+    (w .at-node)) Relations.same)
+    (λ i. back (node-step _ Σ (w .equation .sides) (w .other) (w .one) t s (of-item equation-pair es (w .equation) (w .is-equation)) i
+    (turned _ _ s t (w .at-node))) Relations.same)
     (w .instance)
 
 -- Terms over the symbols: what stands in one is one, and so is what an instance puts at a variable.
@@ -118,7 +121,8 @@ module _ (Σ : List Symbol) where
   abbrev only : Subst → Term → Subst
   only σ l x = if member x (variables l) then σ x else var x
 
-  only-over : (σ : Subst) (l : Term) (x : ℕ) → (In x (variables l) → Over Σ (σ x)) → (b : Bool) → Says (In x (variables l)) b → Over Σ (if b then σ x else var x)
+  only-over : (σ : Subst) (l : Term) (x : ℕ) → (In x (variables l) → Over Σ (σ x)) → (b : Bool) → Says (In x (variables l)) b →
+      Over Σ (if b then σ x else var x)
   unfolding Over if_then_else_
   only-over σ l x h true i = h i
   only-over σ l x h false n = tt
@@ -145,8 +149,11 @@ module _ (Σ : List Symbol) where
         instance = record {
           substitution = only (p .σ) (p .l);
           over = λ x. only-over (p .σ) (p .l) x (over-at (p .σ) (p .l) h′ x) (member x (variables (p .l))) (member-says x (variables (p .l)));
-          left-is = subst-agree (p .σ) (only (p .σ) (p .l)) (p .l) (λ x i. only-is (p .σ) (p .l) x i _ (member-says x (variables (p .l)))) ∙ ap (subst-term (only (p .σ) (p .l))) (sym (a .is-left));
-          right-is = subst-agree (p .σ) (only (p .σ) (p .l)) (p .r) (λ x i. only-is (p .σ) (p .l) x (vars (p .l) (p .r) (p .rule) x i) _ (member-says x (variables (p .l)))) ∙ ap (subst-term (only (p .σ) (p .l))) (sym (a .is-right));
+          left-is = subst-agree (p .σ) (only (p .σ) (p .l)) (p .l) (λ x i. only-is (p .σ) (p .l) x i _ (member-says x (variables (p .l))))
+              ∙ ap (subst-term (only (p .σ) (p .l))) (sym (a .is-left));
+          right-is = subst-agree (p .σ) (only (p .σ) (p .l)) (p .r)
+              (λ x i. only-is (p .σ) (p .l) x (vars (p .l) (p .r) (p .rule) x i) _ (member-says x (variables (p .l))))
+              ∙ ap (subst-term (only (p .σ) (p .l))) (sym (a .is-right));
         };
         at-node = plug-node (p .c) redex contractum s t (p .before) (p .after);
       }

@@ -1,5 +1,5 @@
--- Document 01, "The result and settle": the result's fields, and the four calls, from the bytes that they are lent to what they answer.
--- Assumes nothing.
+-- Document 01, "The result and settle": the result's fields, and the four calls, from the bytes that they are lent to what they answer;
+-- sections 11 and 12 of docs/DEFINITION.md. Assumes nothing.
 use mathlib.Core.Path.{_≡_}
 use mathlib.Core.List.{List, [], _∷_, _++_, map, flatMap}
 use mathlib.Core.Option.{Option, none, some}
@@ -20,23 +20,23 @@ use Rattle.completion.specs.Turn.{Origin, waiting-input, removed-rule, s
 unfoldable pub pair-bytes : Pair → List ℕ
 pair-bytes e = term-bytes (e .left) ++ term-bytes (e .right)
 
--- "12, once a rule: number in two bytes, left, right"
+-- "12, once a rule: number in two bytes, left, right" [11.4]
 unfoldable pub rule-field : Rule → Field
 rule-field r = record { tag = 0x12; contents = number-bytes 2 (r .number) ++ pair-bytes (r .sides) }
 
 -- "kind in one byte (1 waiting input, 2 waiting from a removed rule, 3 input at the scan, 4 overlap), first number in two bytes (input, removed
--- rule, input, inner rule), second in two (outer rule, else 0), position in one (else 0)"
+-- rule, input, inner rule), second in two (outer rule, else 0), position in one (else 0)" [11.6]
 unfoldable pub origin-bytes : Origin → List ℕ
 origin-bytes (waiting-input n) = 1 ∷ (number-bytes 2 n ++ number-bytes 2 0 ++ number-bytes 1 0)
 origin-bytes (removed-rule n) = 2 ∷ (number-bytes 2 n ++ number-bytes 2 0 ++ number-bytes 1 0)
 origin-bytes (scanned-input n) = 3 ∷ (number-bytes 2 n ++ number-bytes 2 0 ++ number-bytes 1 0)
 origin-bytes (overlapping inner outer p) = 4 ∷ (number-bytes 2 inner ++ number-bytes 2 outer ++ number-bytes 1 p)
 
--- "13, once a log entry": where its pair came from, then "rule made in two (0 if settled)"
+-- "13, once a log entry": where its pair came from, then "rule made in two (0 if settled)" [11.5]
 unfoldable pub entry-field : Entry → Field
 entry-field e = record { tag = 0x13; contents = origin-bytes (e .origin) ++ number-bytes 2 (e .made) }
 
--- "14, only with end 20: the two normal forms, renamed as a pair"
+-- "14, only with end 20: the two normal forms, renamed as a pair" [11.7]
 unfoldable pub forms-field : End → List Field
 forms-field complete = []
 forms-field (neither-above e) = record { tag = 0x14; contents = pair-bytes (renamed e) } ∷ []
@@ -46,6 +46,7 @@ forms-field rules-full = []
 forms-field log-full = []
 
 -- "tag 10, the end, one byte; 11, units, four bytes; 12, once a rule .. ascending; 13, once a log entry, oldest first; 14 .."
+-- [11.2 to 11.5, 11.7]
 unfoldable pub result-fields : Finished → List Field
 result-fields f =
     record { tag = 0x10; contents = number-bytes 1 (end-number (f .end)) }
@@ -55,18 +56,19 @@ result-fields f =
 unfoldable pub result-bytes : Finished → List ℕ
 result-bytes f = flatMap field-bytes (result-fields f)
 
--- 1: "result buffer under 16,384 bytes (complete, unify)", place 0
+-- 1: "result buffer under 16,384 bytes (complete, unify)", place 0 [4.1]
 unfoldable pub enough : ℕ → Reading (Unit {0})
 enough buffer = refuse-if (ltb buffer least-buffer) short-buffer 0
 
 -- complete, from the problem's bytes and the result buffer's length: the result's bytes, of which it returns the count, or the refusal
+-- [4.15, 11.1]
 unfoldable pub complete-call : List ℕ → ℕ → Reading (List ℕ)
 complete-call bytes buffer = do
   _ ← enough buffer
   P ← parse bytes
   ok (result-bytes (run P))
 
--- what compare, unify and subterm read
+-- what compare, unify and subterm read [4.15, 12.1]
 pub record Single : Type 0 where
   pub symbols : List Symbol
   pub equation : Equation
@@ -77,13 +79,13 @@ parse-single bytes = do
   e ← only-equation (length bytes) (P .equations)
   ok (record { symbols = P .symbols; equation = e })
 
--- compare: 1 to 4, or the refusal
+-- compare: 1 to 4, or the refusal [12.2]
 unfoldable pub compare-call : List ℕ → Reading ℕ
 compare-call bytes = do
   P ← parse-single bytes
   ok (comparison (rank-of (P .symbols)) (P .equation .sides .left) (P .equation .sides .right))
 
--- unify: "one field, tag 15: the most general common instance, renamed"; "none"; 22, "a common instance over 120 nodes"
+-- unify: "one field, tag 15: the most general common instance, renamed"; "none"; 22, "a common instance over 120 nodes" [12.3 to 12.6]
 pub data CommonInstance : Type 0 where
   instance : List ℕ → CommonInstance
   no-instance : CommonInstance
@@ -96,7 +98,7 @@ unified s (some m) =
     if ltb most-nodes (size t) then instance-too-large
     else instance (field-bytes (record { tag = 0x15; contents = term-bytes (renamed (record { left = t; right = t }) .left) }))
 
--- "Unify reads both sides over the same variables."
+-- "Unify reads both sides over the same variables." [12.1, 12.3]
 unfoldable pub unify-call : List ℕ → ℕ → Reading CommonInstance
 unify-call bytes buffer = do
   _ ← enough buffer
@@ -105,13 +107,13 @@ unify-call bytes buffer = do
   ok (unified (e .left) (mgu (e .left) (e .right)))
 
 -- "Subterm takes lent problem bytes and a position in the left side of the only equation; it must hand back that part of the lent bytes."
--- The part's first byte, counted from that of the lent bytes, and how many bytes it has.
+-- The part's first byte, counted from that of the lent bytes, and how many bytes it has. [12.7]
 pub record Part : Type 0 where
   pub start : ℕ
   pub bytes : ℕ
 
 -- The node's own byte stands behind the field's three header bytes and the nodes before it. A refusal has no byte; that its place is then the
--- first one is this project's choice.
+-- first one is this project's choice. [12.7 to 12.9]
 unfoldable pub part-of : ℕ → ℕ → Option Term → Part
 part-of first p none = record { start = 0; bytes = 0 }
 part-of first p (some t) = record { start = first + 3 + p; bytes = size t }
@@ -123,11 +125,11 @@ subterm-part l p =
       | refused n place ↦ record { start = 0; bytes = 0 }
     ]
 
--- "An empty part, and only it, means refused (2 to 12, or a position not below the node count)."
+-- "An empty part, and only it, means refused (2 to 12, or a position not below the node count)." [12.7, 12.8]
 unfoldable pub subterm-call : List ℕ → ℕ → List ℕ
 subterm-call l p = take (subterm-part l p .bytes) (drop (subterm-part l p .start) l)
 
--- "Left as it was": what the lent result buffer holds after a call that writes these bytes at its front.
+-- "Left as it was": what the lent result buffer holds after a call that writes these bytes at its front. [4.14, 11.1, 12.4]
 unfoldable pub written : List ℕ → List ℕ → List ℕ
 written bytes buffer = bytes ++ drop (length bytes) buffer
 

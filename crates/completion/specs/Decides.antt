@@ -1,5 +1,5 @@
 -- Demand 3, the delivery theorem, as one statement in the words of specs/Delivery: what it is that a rule set decides the buyer's equations. Every
--- term is one over the symbols, of any size and with any variables. Assumes nothing.
+-- term is one over the symbols, of any size and with any variables. [14.10] of docs/DEFINITION.md. Assumes nothing.
 use mathlib.Core.Path.{_≡_}
 use mathlib.Core.List.{List}
 use mathlib.Core.Logic.{_↔_}

@@ -1,4 +1,4 @@
--- Document 01, "What demand 3 says": the words of the delivery theorem. No limit of the engine applies. Assumes nothing.
+-- Document 01, "What demand 3 says": the words of the delivery theorem; section 14 of docs/DEFINITION.md. No limit of the engine applies. Assumes nothing.
 use mathlib.Core.Path.{_≡_}
 use mathlib.Core.List.{List, List·Memᴰ}
 use mathlib.Core.Logic.{_⊎_}
@@ -9,7 +9,7 @@ use Rattle.problem.specs.Problem.{Symbol, Equation}
 use Rattle.problem.specs.Over.{Over}
 use Rattle.rewriting.specs.Overlap.{Rule}
 
--- "Instance of a rule or equation: each variable replaced by such a term, the same one in both sides."
+-- "Instance of a rule or equation: each variable replaced by such a term, the same one in both sides." [14.5]
 pub record Instance (Σ : List Symbol) (e : Pair) (s t : Term) : Type 0 where
   pub substitution : ℕ → Term
   pub over : (x : ℕ) → Over Σ (substitution x)
@@ -22,7 +22,7 @@ pub record AtNode (u v s t : Term) : Type 0 where
   pub there : subterm-at s position ≡ some u
   pub replaced : t ≡ replace-at s position v
 
--- "one step replaces, at any node, the left side of a rule's instance by its right side"
+-- "one step replaces, at any node, the left side of a rule's instance by its right side" [14.6]
 pub record Step (Σ : List Symbol) (rules : List Rule) (s t : Term) : Type 0 where
   pub rule : Rule
   pub is-rule : List·Memᴰ rule rules
@@ -31,7 +31,7 @@ pub record Step (Σ : List Symbol) (rules : List Rule) (s t : Term) : Type 0 whe
   pub instance : Instance Σ (rule .sides) redex contractum
   pub at-node : AtNode redex contractum s t
 
--- "Replacement of equals by equals: at any node, one side of an equation's instance by the other, in either direction."
+-- "Replacement of equals by equals: at any node, one side of an equation's instance by the other, in either direction." [14.9]
 pub record Replacement (Σ : List Symbol) (equations : List Equation) (s t : Term) : Type 0 where
   pub equation : Equation
   pub is-equation : List·Memᴰ equation equations
@@ -40,15 +40,15 @@ pub record Replacement (Σ : List Symbol) (equations : List Equation) (s t : Ter
   pub instance : Instance Σ (equation .sides) one other ⊎ Instance Σ (equation .sides) other one
   pub at-node : AtNode one other s t
 
--- "finitely many steps, none included"
+-- "finitely many steps, none included" [14.8, 14.9]
 pub data Many (R : Term → Term → Type 0) : Term → Term → Type 0 where
   stay : {s : Term} → Many R s s
   go : {s t u : Term} → R s t → Many R t u → Many R s u
 
--- "It ends: no chain of steps is endless."
+-- "It ends: no chain of steps is endless." [14.7]
 unfoldable pub Ends : List Symbol → List Rule → Type 0
 Ends Σ rules = (chain : ℕ → Term) → ((n : ℕ) → Over Σ (chain n)) → ((n : ℕ) → Step Σ rules (chain n) (chain (suc n))) → ⊥
 
--- "Last term: reached by finitely many steps, none included, and no step leads from it."
+-- "Last term: reached by finitely many steps, none included, and no step leads from it." [14.8]
 unfoldable pub Last : List Symbol → List Rule → Term → Term → Type 0
 Last Σ rules s t = Many (Step Σ rules) s t × ((u : Term) → Step Σ rules t u → ⊥)

@@ -1,5 +1,6 @@
--- Document 01, "What demand 3 says": the promise of complete "about the bytes it takes and leaves". A result's bytes are read back, field by field
--- and term by term, by functions that know nothing of the run. Assumes nothing.
+-- Document 01, "What demand 3 says": the promise of complete "about the bytes it takes and leaves"; and of demand 2, that the rules are those of
+-- completion by the transition rules of Bachmair and Dershowitz. A result's bytes are read back, field by field and term by term, by functions that know
+-- nothing of the run. Section 14 of docs/DEFINITION.md. Assumes nothing.
 use mathlib.Core.Path.{_≡_}
 use mathlib.Core.List.{List, [], _∷_}
 use mathlib.Core.Logic.{_↔_}
@@ -8,14 +9,17 @@ use Prim.Native.Nat.{ℕ, zero, suc}
 use lib.Dec.{eqb, ltb}
 use lib.ListN.{length}
 use Rattle.terms.specs.Base.{if_then_else_, number-from, Field}
-use Rattle.problem.specs.Problem.{Reading, ok, refused, _>>=_, refuse-if, read-field, read-term, Symbol, Problem, parse}
+use Rattle.problem.specs.Problem.{Reading, ok, refused, _>>=_, refuse-if, read-field, read-term, Symbol, rank-of, Problem, parse}
 use Rattle.problem.specs.Stops.{cut-field, wrong-term}
-use Rattle.rewriting.specs.Overlap.{Rule}
+use Rattle.rewriting.specs.Overlap.{Rule, sides-of}
 use Rattle.rewriting.specs.Rewrite.{complete}
 use Rattle.completion.specs.Turn.{run}
 use Rattle.completion.specs.Decides.{Decides}
+use Rattle.completion.specs.Transitions.{Properly, _⨾_, Derivation}
+use Rattle.completion.specs.Systems.{together, given}
 
 -- "Fields, same form": the fields that bytes are, front to back. The first number bounds how many; one more than the bytes always suffices.
+-- [3.1, 11.1]
 unfoldable pub fields-from : ℕ → ℕ → List ℕ → Reading (List Field)
 fields-from zero at bytes = refused cut-field at
 fields-from (suc more) at [] = ok []
@@ -27,7 +31,7 @@ fields-from (suc more) at (b ∷ bytes) = do
 unfoldable pub fields-of : List ℕ → Reading (List Field)
 fields-of bytes = fields-from (suc (length bytes)) 0 bytes
 
--- "tag 10, the end, one byte"
+-- "tag 10, the end, one byte" [11.2]
 unfoldable pub one-byte : List ℕ → Option ℕ
 one-byte [] = none
 one-byte (b ∷ []) = some b
@@ -40,7 +44,7 @@ end-in (f ∷ fs) =
     if eqb (f .tag) 0x10 then one-byte (f .contents) else later
 
 -- "12, once a rule: number in two bytes, left, right": terms over the problem's symbols, and nothing behind them. What does not read so is refused;
--- with which number and place says nothing.
+-- with which number and place says nothing. [11.4]
 unfoldable pub rule-of : List Symbol → List ℕ → Reading Rule
 rule-of Σ [] = refused cut-field 0
 rule-of Σ (high ∷ []) = refused cut-field 0
@@ -57,7 +61,7 @@ rules-in Σ (f ∷ fs) =
     let here : Reading (List Rule) = rule-of Σ (f .contents) >>= λ r. later >>= λ rs. ok (r ∷ rs) in
     if eqb (f .tag) 0x12 then here else later
 
--- What the result of an accepted problem holds.
+-- What the result of an accepted problem holds [14.1 to 14.3].
 pub record Promise (P : Problem) (result : List ℕ) : Type 0 where
   pub fields : List Field
   pub are-fields : fields-of result ≡ ok fields
@@ -71,7 +75,11 @@ pub record Promise (P : Problem) (result : List ℕ) : Type 0 where
   -- "A rule set is delivered as complete when complete accepts a problem and field 10 of the result it writes holds 0";
   -- "the buyer's equations are its fields of tag 03"
   pub decide : end-in fields ≡ some 0 → Decides (P .symbols) (P .equations) rules
+  -- Demand 2: by the six transitions the problem's equations lead to the rules of the fields 12, with what the turns left waiting; with end 0 to these
+  -- rules alone, and no equation.
+  pub derived : Derivation (rank-of (P .symbols)) Properly (given P) (together rules (run P .state .waiting))
+  pub derived-alone : end-in fields ≡ some 0 → Derivation (rank-of (P .symbols)) Properly (given P) ([] ⨾ sides-of rules)
 
--- "Demand 3, the delivery theorem, is a promise of complete about the bytes it takes and leaves."
+-- "Demand 3, the delivery theorem, is a promise of complete about the bytes it takes and leaves." [14.11]
 unfoldable pub Delivers : List ℕ → List ℕ → Type 0
 Delivers problem result = (P : Problem) → parse problem ≡ ok P → Promise P result

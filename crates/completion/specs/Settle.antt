@@ -1,4 +1,5 @@
--- Document 01, "The result and settle": what the program settle prints, in ASCII, for what it reads. Assumes nothing.
+-- Document 01, "The result and settle": what the program settle prints, in ASCII, for what it reads; section 13 of docs/DEFINITION.md.
+-- Assumes nothing.
 use mathlib.Core.List.{List, [], _∷_, _++_, flatMap}
 use Prim.Native.Nat.{ℕ, zero, suc, _+_, _/_, _%_}
 use Prim.Native.Char.{code}
@@ -31,11 +32,11 @@ decimal-in (suc digits) n =
 unfoldable pub decimal : ℕ → List ℕ
 decimal n = decimal-in (suc n) n
 
--- "a line a field: tag in two hexadecimal digits, length, contents in hexadecimal"
+-- "a line a field: tag in two hexadecimal digits, length, contents in hexadecimal" [13.1]
 unfoldable pub line : Field → List ℕ
 line f = hex-byte (f .tag) ++ ascii " " ++ decimal (length (f .contents)) ++ ascii " " ++ flatMap hex-byte (f .contents) ++ ascii "\n"
 
--- "A refusal prints "refused 4 at 0"."
+-- "A refusal prints "refused 4 at 0"." [13.1, 13.2]
 unfoldable pub settle : List ℕ → List ℕ
 settle bytes =
     elim (parse bytes) [

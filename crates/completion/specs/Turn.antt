@@ -1,4 +1,4 @@
--- Document 01, "A turn": the run's state, the turn in its seven steps, and the run. Assumes nothing.
+-- Document 01, "A turn": the run's state, the turn in its seven steps, and the run; sections 8 and 9 of docs/DEFINITION.md. Assumes nothing.
 use mathlib.Core.Bool.{Bool}
 use mathlib.Core.List.{List, [], _∷_, _++_}
 use mathlib.Core.Option.{Option, none, some}
@@ -11,10 +11,11 @@ use Rattle.terms.specs.Term.{Pair, same, pair-variables, renamed}
 use Rattle.problem.specs.Problem.{rank-of, Equation, Problem}
 use Rattle.order.specs.Order.{above}
 use Rattle.rewriting.specs.Overlap.{Rule, Overlap, overlap, Place, all-places}
-use Rattle.rewriting.specs.Rewrite.{step, End, complete, neither-above, spent, too-large, rules-full, log-full, done, stop, Paying, return, end-with, _>>=_, end-if, pay, hold, normalise, normalise-pair}
+use Rattle.rewriting.specs.Rewrite.{step, End, complete, neither-above, spent, too-large, rules-full, log-full, done, stop, Paying, return, end-with}
+use Rattle.rewriting.specs.Rewrite.{_>>=_, end-if, pay, hold, normalise, normalise-pair}
 
 -- Where a pair came from: "1 waiting input, 2 waiting from a removed rule, 3 input at the scan, 4 overlap", with the numbers and the position that
--- an entry has of it.
+-- an entry has of it. [11.6]
 pub data Origin : Type 0 where
   waiting-input : ℕ → Origin
   removed-rule : ℕ → Origin
@@ -26,7 +27,7 @@ pub record Candidate : Type 0 where
   pub origin : Origin
   pub sides : Pair
 
--- a log entry; `made` is the "rule made .. (0 if settled)"
+-- a log entry; `made` is the "rule made .. (0 if settled)" [11.5]
 pub record Entry : Type 0 where
   pub origin : Origin
   pub made : ℕ
@@ -34,23 +35,25 @@ pub record Entry : Type 0 where
 -- "The state is the live rules (numbered 1, 2, .. as made, numbers never reused, places reused), the waiting list (at first the equations in order),
 -- the log and the units." Places are the representation's.
 -- The rules stand ascending and the waiting list oldest first. The units that are left go beside the state, as `Paying` hands them on.
+-- [8.1, 8.2]
 pub record State : Type 0 where
   pub rules : List Rule
   pub made : ℕ
   pub waiting : List Candidate
   pub log : List Entry
 
--- "Equations are numbered from 1." "Every equation and rule held is so renamed."
+-- "Equations are numbered from 1." "Every equation and rule held is so renamed." [2.11, 3.8]
 unfoldable pub candidates : (ℕ → Origin) → ℕ → List Equation → List Candidate
 candidates origin n [] = []
 candidates origin n (e ∷ es) = record { origin = origin n; sides = renamed (e .sides) } ∷ candidates origin (suc n) es
 
--- "the waiting list (at first the equations in order)"
+-- "the waiting list (at first the equations in order)" [8.3, 8.4]
 unfoldable pub initial : Problem → State
 initial P = record { rules = []; made = 0; waiting = candidates waiting-input 1 (P .equations); log = [] }
 
 -- Step 1, the scan. "Test the size of the peak, of the left, of the right, then normalise left, then right."
 -- "Every equation and rule held is so renamed": the pair is renamed first, so no answer depends on which most general unifier was found.
+-- [6.8, 9.5]
 unfoldable pub scan-overlap : List Rule → Option Overlap → Paying (Option Pair)
 scan-overlap rules none = return none
 scan-overlap rules (some o) = do
@@ -70,13 +73,14 @@ if-different-overlap at (some forms) next =
     if-different (overlapping (at .inner .number) (at .outer .number) (at .position)) forms next
 
 -- "After all overlaps, normalise each input equation. The first with two different normal forms is taken, as these forms.
--- If there is none, the end is 0, complete."
+-- If there is none, the end is 0, complete." [9.6, 9.7]
 unfoldable pub scan-inputs : List Rule → List Candidate → Paying Candidate
 scan-inputs rules [] = end-with complete
 scan-inputs rules (c ∷ cs) = do
   forms ← normalise-pair rules (c .sides)
   if-different (c .origin) forms (scan-inputs rules cs)
 
+-- the overlaps in their order, then the inputs; the first with two different normal forms is taken [9.3, 9.4]
 unfoldable pub scan : List Rule → List Candidate → List Place → Paying Candidate
 scan rules inputs [] = scan-inputs rules inputs
 scan rules inputs (at ∷ places) = do
@@ -88,7 +92,7 @@ pub record Taken : Type 0 where
   pub pair : Candidate
   pub waiting : List Candidate
 
--- Step 1. "Take the oldest waiting equation and normalise left, then right. If none waits, scan."
+-- Step 1. "Take the oldest waiting equation and normalise left, then right. If none waits, scan." [9.2, 9.3]
 unfoldable pub take-pair : Problem → List Rule → List Candidate → Paying Taken
 take-pair P rules [] = do
   c ← scan rules (candidates scanned-input 1 (P .equations)) (all-places [] rules)
@@ -97,14 +101,14 @@ take-pair P rules (c ∷ waiting) = do
   forms ← normalise-pair rules (c .sides)
   return (record { pair = record { origin = c .origin; sides = forms }; waiting = waiting })
 
--- Steps 4 and 5. "Neither side above: end 20." "The upper side becomes a new rule's left side."
+-- Steps 4 and 5. "Neither side above: end 20." "The upper side becomes a new rule's left side." [9.11, 9.12]
 unfoldable pub orient : Problem → Pair → Paying Pair
 orient P e =
     if above (rank-of (P .symbols)) (e .left) (e .right) then return (renamed e)
     else if above (rank-of (P .symbols)) (e .right) (e .left) then return (renamed (record { left = e .right; right = e .left }))
     else end-with (neither-above e)
 
--- Step 6. "whose left side the new rule rewrites"
+-- Step 6. "whose left side the new rule rewrites" [9.13]
 unfoldable pub rewrites : Rule → Rule → Bool
 rewrites new old = is-some (step (new ∷ []) (old .sides .left))
 
@@ -114,14 +118,14 @@ kept new (old ∷ rules) =
     let rest : List Rule = kept new rules in
     if rewrites new old then rest else (old ∷ rest)
 
--- "is removed, and its two sides join the waiting list"
+-- "is removed, and its two sides join the waiting list" [9.13]
 unfoldable pub removed : Rule → List Rule → List Candidate
 removed new [] = []
 removed new (old ∷ rules) =
     let rest : List Candidate = removed new rules in
     if rewrites new old then (record { origin = removed-rule (old .number); sides = old .sides } ∷ rest) else rest
 
--- Step 7. "Each older rule still live, ascending, gets its right side normalised by the live rules as they then read."
+-- Step 7. "Each older rule still live, ascending, gets its right side normalised by the live rules as they then read." [9.15]
 unfoldable pub normalise-rights : List Rule → List Rule → Rule → Paying (List Rule)
 normalise-rights before [] new = return (before ++ (new ∷ []))
 normalise-rights before (old ∷ rules) new = do
@@ -130,7 +134,7 @@ normalise-rights before (old ∷ rules) new = do
   normalise-rights (before ++ (old′ ∷ [])) rules new
 
 -- Steps 4 to 7. "The taken pair has at most 16 different variables, else 22." "The upper side becomes a new rule's left side." "Each older rule,
--- ascending, whose left side the new rule rewrites is removed .. Over 32 live: 23."
+-- ascending, whose left side the new rule rewrites is removed .. Over 32 live: 23." [9.10 to 9.16]
 unfoldable pub make-rule : Problem → State → Taken → Paying State
 make-rule P s t = do
   _ ← end-if (ltb most-variables (length (pair-variables (t .pair .sides)))) too-large
@@ -146,7 +150,7 @@ make-rule P s t = do
     log = s .log ++ (record { origin = t .pair .origin; made = new .number } ∷ []);
   })
 
--- Step 3. "Equal forms: entry, settled."
+-- Step 3. "Equal forms: entry, settled." [9.9]
 unfoldable pub settled : State → Taken → State
 settled s t = record {
   rules = s .rules;
@@ -156,6 +160,7 @@ settled s t = record {
 }
 
 -- "A turn takes the run's state and hands back the next one." Step 1: "Pay a unit." Step 2: "With 512 entries in the log, end 23."
+-- [8.5, 9.1, 9.8]
 unfoldable pub turn : Problem → State → Paying State
 turn P s = do
   _ ← pay
@@ -163,13 +168,13 @@ turn P s = do
   _ ← end-if (leb most-entries (length (s .log))) log-full
   if same (t .pair .sides .left) (t .pair .sides .right) then return (settled s t) else make-rule P s t
 
--- What a run leaves: its end, the units paid, and the rules and the log.
+-- What a run leaves: its end, the units paid, and the rules and the log [8.7].
 pub record Finished : Type 0 where
   pub end : End
   pub units : ℕ
   pub state : State
 
--- "A stop inside a turn leaves rules and log as at its beginning; the units count what was paid."
+-- "A stop inside a turn leaves rules and log as at its beginning; the units count what was paid." [8.7]
 -- Each turn pays a unit, so the first number, the turns, is one more than the budget.
 unfoldable pub turns : ℕ → Problem → State → ℕ → Finished
 turns zero P s left = record { end = spent; units = P .budget - left; state = s }
@@ -179,5 +184,6 @@ turns (suc n) P s left =
       | stop e left′ ↦ record { end = e; units = P .budget - left′; state = s }
     ]
 
+-- turns from the first state, with the problem's budget [8.4]
 unfoldable pub run : Problem → Finished
 run P = turns (suc (P .budget)) P (initial P) (P .budget)

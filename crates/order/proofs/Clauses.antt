@@ -1,14 +1,16 @@
--- `above` is what the document's three clauses say, word for word; where the lists are equally long no test of that is left. Assumes nothing.
+-- `above` is what the document's three clauses say; of equally many arguments, word for word. Assumes nothing. Terms over a problem's symbols have
+-- them: completion/proofs/Clauses.
 -- Read first: specs/Order, specs/Walk (`all-above`), proofs/Decide.
-use mathlib.Core.Path.{_≡_, refl, ap, _∙_}
-use mathlib.Core.Bool.{_&&_, _||_, and-true}
+use mathlib.Core.Path.{_≡_, refl, ap, ap₂, _∙_}
+use mathlib.Core.Bool.{Bool, false, _&&_, _||_, and-true}
 use Prim.Native.Nat.{ℕ}
+use native.Mathlib.Omega.{arith}
 use lib.Dec.{eqb, ltb}
 use Rattle.terms.specs.Base.{if_then_else_}
-use Rattle.terms.specs.Term.{Term, Terms, var, node, nil, cons, same}
+use Rattle.terms.specs.Term.{Terms, var, node, nil, cons, same, count}
 use Rattle.order.specs.Order.{by-clauses, by-clauses-all, above, some-reaches, first-above}
 use Rattle.order.specs.Walk.{all-above}
-use Rattle.order.proofs.PathOrder.{SameLen}
+use Rattle.order.proofs.PathOrder.{SameLen, len-nil, len-cons}
 use Rattle.order.proofs.Decide.{len-dec}
 
 module _ (rank : ℕ → ℕ) where
@@ -17,7 +19,7 @@ module _ (rank : ℕ → ℕ) where
   every-is f ss nil = refl
   every-is f ss (cons t ts) = ap (λ b. above rank (node f ss) t && b) (every-is f ss ts)
 
-  -- So `above` is what the three clauses say, word for word.
+  -- Of two terms with symbols at the root.
   pub clauses : (f g : ℕ) (ss ts : Terms) →
       above rank (node f ss) (node g ts) ≡
       (some-reaches rank ss (node g ts)
@@ -33,8 +35,23 @@ module _ (rank : ℕ → ℕ) where
   clause-variable f y ss = refl
 
   -- 3. "at the first argument where they differ that of s is above that of t"
-  pub first-differ : (s t : Term) {ss ts : Terms} → SameLen ss ts → first-above rank (cons s ss) (cons t ts) ≡ (if same s t then first-above rank ss ts else above rank s t)
-  unfolding above
-  first-differ s t {ss} {ts} l =
-      ap (λ b. if same s t then first-above rank ss ts else (above rank s t && b)) ((len-dec ss ts) .1 l)
-      ∙ ap (λ b. if same s t then first-above rank ss ts else b) (and-true (above rank s t))
+  unfoldable pub differ-above : Terms → Terms → Bool
+  differ-above nil ts = false
+  differ-above (cons s ss) nil = false
+  differ-above (cons s ss) (cons t ts) = if same s t then differ-above ss ts else above rank s t
+
+  -- Of equally many arguments `first-above` says this: its test of the length holds.
+  pub first-differ : {ss ts : Terms} → SameLen ss ts → first-above rank ss ts ≡ differ-above ss ts
+  unfolding above differ-above
+  first-differ len-nil = refl
+  first-differ (len-cons {s} {t} {ss} {ts} l) =
+      ap₂ (λ a b. if same s t then a else (above rank s t && b)) (first-differ l) (len-dec ss ts .1 l)
+      ∙ ap (λ b. if same s t then differ-above ss ts else b) (and-true (above rank s t))
+
+-- as many terms in both lists
+pub count-len : (ss ts : Terms) → count ss ≡ count ts → SameLen ss ts
+unfolding count
+count-len nil nil e = len-nil
+count-len nil (cons t ts) e = absurd (omega arith)
+count-len (cons s ss) nil e = absurd (omega arith)
+count-len (cons s ss) (cons t ts) e = len-cons (count-len ss ts (omega arith))

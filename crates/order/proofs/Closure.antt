@@ -4,7 +4,8 @@ use mathlib.Core.Logic.{⊎-elim}
 use mathlib.Core.List.{List·Memᴰ·not-nil, Memᴰ·append-left, Memᴰ·append-right, List·Memᴰ·append-cases}
 use Prim.Native.Nat.{ℕ}
 use Rattle.terms.specs.Term.{Term, Terms, node, nil, cons, subst-term, subst-terms, variables, variables-of}
-use Rattle.order.proofs.PathOrder.{SameLen, len-nil, len-cons, Above, by-arg, by-rank, by-lex, Within, here, by-above, later, AboveAll, all-nil, all-cons, Lex, first, next}
+use Rattle.order.proofs.PathOrder.{SameLen, len-nil, len-cons, Above, by-arg, by-rank, by-lex, Within, here, by-above, later, AboveAll}
+use Rattle.order.proofs.PathOrder.{all-nil, all-cons, Lex, first, next}
 use Rattle.order.proofs.WellFounded.{len-refl}
 use Rattle.terms.proofs.Subst.{In}
 use Rattle.terms.proofs.Context.{Ctx, Ctxs, hole, beneath, first as ctx-first, later as ctx-later, plug, plugs}

@@ -5,7 +5,8 @@ use mathlib.Core.Bool.{Bool, true, false, false≢true}
 use mathlib.Core.Logic.{_⊎_, inl, inr}
 use Prim.Native.Nat.{ℕ, _<_}
 use Rattle.terms.specs.Term.{Term, Terms, var, node, nil, cons}
-use Rattle.order.proofs.PathOrder.{SameLen, len-nil, len-cons, Above, by-arg, by-rank, by-lex, Within, here, by-above, later, AboveAll, all-nil, all-cons, Lex, first, next, var-above, lex-nil}
+use Rattle.order.proofs.PathOrder.{SameLen, len-nil, len-cons, Above, by-arg, by-rank, by-lex, Within, here, by-above, later, AboveAll}
+use Rattle.order.proofs.PathOrder.{all-nil, all-cons, Lex, first, next, var-above, lex-nil}
 use Rattle.terms.specs.Base.{if_then_else_}
 use Rattle.terms.proofs.Shape.{Decides, dec-map, dec-and, dec-or, dec-false, dec-true, eqb-dec, ltb-dec, same-dec}
 use Rattle.order.specs.Order.{same-length, by-clauses, by-clauses-all, above, some-reaches, first-above}

@@ -7,14 +7,16 @@ use Prim.Native.Nat.{ℕ, _+_, _<_, _≤_}
 use native.Mathlib.Omega.{arith}
 use lib.Dec.{eqb, ltb}
 use Rattle.terms.specs.Term.{Term, Terms, var, node, nil, cons, size, sizes, same}
-use Rattle.order.proofs.PathOrder.{SameLen, Above, by-arg, by-rank, by-lex, Within, here, by-above, later, AboveAll, all-nil, all-cons, Lex, first, next, var-above, lex-nil}
+use Rattle.order.proofs.PathOrder.{SameLen, Above, by-arg, by-rank, by-lex, Within, here, by-above, later, AboveAll, all-nil, all-cons, Lex}
+use Rattle.order.proofs.PathOrder.{first, next, var-above, lex-nil}
 use Rattle.order.proofs.WellFounded.{above-irrefl}
 use Rattle.order.proofs.Closure.{_∈_, in-here, in-later, above-arg, all-args}
 use Rattle.order.proofs.Trans.{above-trans}
 use Rattle.terms.proofs.Shape.{Decides, dec-map, dec-and, dec-or, dec-false, dec-true, dec-agree, eqb-dec, ltb-dec, same-dec}
 use Rattle.order.specs.Order.{same-length, above}
 use Rattle.terms.specs.Base.{if_then_else_}
-use Rattle.order.proofs.Decide.{dec-if, above-node, above-var, within-nil, within-cons, cons-within, all-parts, lex-cons-nil, lex-parts, len-dec, above-dec}
+use Rattle.order.proofs.Decide.{dec-if, above-node, above-var, within-nil, within-cons, cons-within, all-parts, lex-cons-nil, lex-parts}
+use Rattle.order.proofs.Decide.{len-dec, above-dec}
 
 -- some term of the list equals t or is above t; s is above every term of the list: by the test `ab`
 unfoldable pub some? : (Term → Term → Bool) → Terms → Term → Bool
@@ -79,7 +81,8 @@ module _ (rank : ℕ → ℕ) where
   above-same : {f : ℕ} {ss ts : Terms} → Above rank (node f ss) (node f ts) → Within rank ss (node f ts) ⊎ Lex rank ss ts
   above-same {f} {ss} {ts} a = pick (above-node rank a)
     where
-      pick : Within rank ss (node f ts) ⊎ (((rank f < rank f) ⊎ ((f ≡ f) × Lex rank ss ts)) × AboveAll rank (node f ss) ts) → Within rank ss (node f ts) ⊎ Lex rank ss ts
+      pick : Within rank ss (node f ts) ⊎ (((rank f < rank f) ⊎ ((f ≡ f) × Lex rank ss ts)) × AboveAll rank (node f ss) ts) →
+          Within rank ss (node f ts) ⊎ Lex rank ss ts
       pick (inl w) = inl w
       pick (inr (inl lt, all)) = absurd (omega arith)
       pick (inr (inr k, all)) = inr (k .1)

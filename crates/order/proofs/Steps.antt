@@ -148,7 +148,8 @@ module _ (tab s t a b : List ℕ) (n : ℕ) where
           ∙ ap (λ (z : Bool). if z then walked tab x y us ws else if above (rank tab) v w then all-above (rank tab) x ws else some-reaches (rank tab) us y)
           (sym (u v w f g) ∙ m)
 
-      pub walk-equal : q ≡ true → (d e : ℕ) → IsEnd tab a d → IsEnd tab b e → (p : Bool) → IsWalk tab s t (from a d) (from b e) (n - 1) p → IsWalk tab s t a b n p
+      pub walk-equal : q ≡ true → (d e : ℕ) → IsEnd tab a d → IsEnd tab b e → (p : Bool) → IsWalk tab s t (from a d) (from b e) (n - 1) p →
+          IsWalk tab s t a b n p
       unfolding if_then_else_
       walk-equal m d e dd ee p o x y xs ys i j k l =
           let (v, us, c, f, g) = first tab a n xs k h in

@@ -4,7 +4,8 @@ use mathlib.Core.WellFounded.{Acc, Acc·intro, Acc·inv}
 use Prim.Native.Nat.{ℕ, _<_}
 use lib.WfN.{Nat·lt-wfRel}
 use Rattle.terms.specs.Term.{Term, Terms, var, node, nil, cons}
-use Rattle.order.proofs.PathOrder.{SameLen, len-nil, len-cons, Above, by-arg, by-rank, by-lex, Within, here, by-above, later, AboveAll, all-nil, all-cons, Lex, first, next, var-above, lex-nil}
+use Rattle.order.proofs.PathOrder.{SameLen, len-nil, len-cons, Above, by-arg, by-rank, by-lex, Within, here, by-above, later, AboveAll}
+use Rattle.order.proofs.PathOrder.{all-nil, all-cons, Lex, first, next, var-above, lex-nil}
 
 pub len-refl : (ss : Terms) → SameLen ss ss
 len-refl nil = len-nil

@@ -6,7 +6,7 @@ use lib.ListN.{length}
 use Rattle.terms.specs.Term.{Term, var, node, Terms, nil, cons, count}
 use Rattle.problem.specs.Problem.{Symbol, arity-of}
 
--- "Term over its symbols: a variable, numbered by any whole number, or such a symbol with as many of these terms as its arity."
+-- "Term over its symbols: a variable, numbered by any whole number, or such a symbol with as many of these terms as its arity." [14.4]
 unfoldable mutual
   pub Over : List Symbol → Term → Type 0
   Over Σ (var x) = Unit {0}

@@ -1,4 +1,5 @@
--- What each function of the parser answers, said by `parse` of Problem and its parts. Assumes nothing.
+-- What each function of the parser answers, said by `parse` of Problem and its parts. Sections 3 and 4 of docs/DEFINITION.md are rendered there.
+-- Assumes nothing.
 use mathlib.Core.Path.{_≡_}
 use mathlib.Core.List.{List, [], _∷_}
 use Prim.Native.Nat.{ℕ, zero, suc, _+_, _-_, _≤_, _*_}

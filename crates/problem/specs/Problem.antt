@@ -1,4 +1,5 @@
--- Document 01, "The problem's fields" and "Stops and what they leave", 2 to 12: a problem's bytes read front to back. Assumes nothing.
+-- Document 01, "The problem's fields" and "Stops and what they leave", 2 to 12: a problem's bytes read front to back; sections 3 and 4 of
+-- docs/DEFINITION.md. Assumes nothing.
 use mathlib.Core.Bool.{Bool, true, false, not, _&&_, _||_}
 use mathlib.Core.List.{List, [], _∷_}
 use Prim.Native.Nat.{ℕ, zero, suc, _+_, _-_, _%_, _*_}
@@ -9,7 +10,7 @@ use Rattle.terms.specs.Base.{if_then_else_, number-from, member}
 use Rattle.terms.specs.Term.{Term, var, node, Terms, nil, cons, size, Pair}
 use Rattle.problem.specs.Stops.{long-problem, cut-field, wrong-tag, wrong-symbol-field, wrong-arity-or-rank, same-rank, wrong-budget, many-equations, wrong-term, large-side, not-one-equation}
 
--- What was read, or the refusal's number and place.
+-- What was read, or the refusal's number and place [4.13].
 pub data Reading (A : Type 0) : Type 0 where
   ok : A → Reading A
   refused : ℕ → ℕ → Reading A
@@ -31,8 +32,8 @@ pub record ReadField : Type 0 where
   pub end : ℕ
   pub rest : List ℕ
 
--- "A field is a one-byte tag, a two-byte length (high byte first), contents."
--- 3: "field's header or contents pass the end", at the "field's first byte"
+-- "A field is a one-byte tag, a two-byte length (high byte first), contents." [3.1]
+-- 3: "field's header or contents pass the end", at the "field's first byte" [4.3]
 unfoldable pub read-field : ℕ → List ℕ → Reading ReadField
 read-field at [] = refused cut-field at
 read-field at (tag ∷ []) = refused cut-field at
@@ -42,7 +43,7 @@ read-field at (tag ∷ high ∷ low ∷ bytes) = do
   _ ← refuse-if (ltb (length bytes) n) cut-field at
   ok (record { first = at; tag = tag; contents = take n bytes; end = at + 3 + n; rest = drop n bytes })
 
--- 4: "tag not the one due, or the problem ends where tag 01 or 02 is due", at the "field's first byte or the end"
+-- 4: "tag not the one due, or the problem ends where tag 01 or 02 is due", at the "field's first byte or the end" [4.4, 4.16]
 unfoldable pub due : ℕ → ℕ → List ℕ → Reading ReadField
 due tag at [] = refused wrong-tag at
 due tag at (b ∷ bytes) = do
@@ -50,7 +51,7 @@ due tag at (b ∷ bytes) = do
   _ ← refuse-if (not (eqb (f .tag) tag)) wrong-tag at
   ok f
 
--- "arity 0 to 4 then rank 0 to 15 .. numbered by place"
+-- "arity 0 to 4 then rank 0 to 15 .. numbered by place" [3.3, 3.4]
 pub record Symbol : Type 0 where
   pub arity : ℕ
   pub rank : ℕ
@@ -62,6 +63,7 @@ unfoldable pub rank-of : List Symbol → ℕ → ℕ
 rank-of Σ f = getD Σ f (record { arity = 0; rank = 0 }) .rank
 
 -- 6: "arity above 4 or rank above 15", at "that byte"; 7: "rank equal to an earlier symbol's", at "that byte". No length is odd here: 5 refuses it.
+-- [3.5, 4.6, 4.7, 4.17]
 unfoldable pub read-symbols : List ℕ → ℕ → List ℕ → Reading (List Symbol)
 read-symbols ranks at [] = ok []
 read-symbols ranks at (arity ∷ []) = ok []
@@ -72,14 +74,14 @@ read-symbols ranks at (arity ∷ rank ∷ bytes) = do
   Σ ← read-symbols (rank ∷ ranks) (at + 2) bytes
   ok (record { arity = arity; rank = rank } ∷ Σ)
 
--- 5: "symbol field's length 0, odd or over 32", at the "field's first byte"
+-- 5: "symbol field's length 0, odd or over 32", at the "field's first byte" [3.4, 4.5]
 unfoldable pub symbol-field : ReadField → Reading (List Symbol)
 symbol-field f = do
   let n = length (f .contents)
   _ ← refuse-if (eqb n 0 || eqb (n % 2) 1 || ltb (2 * most-symbols) n) wrong-symbol-field (f .first)
   read-symbols [] (f .first + 3) (f .contents)
 
--- "the budget, four bytes, high byte first, 0 to 1,000,000"; 8: "budget field not 4 bytes, or above 1,000,000"
+-- "the budget, four bytes, high byte first, 0 to 1,000,000"; 8: "budget field not 4 bytes, or above 1,000,000" [3.6, 4.8]
 unfoldable pub budget-field : ReadField → Reading ℕ
 budget-field f = do
   _ ← refuse-if (not (eqb (length (f .contents)) 4)) wrong-budget (f .first)
@@ -93,7 +95,7 @@ pub data Byte : Type 0 where
   variable : ℕ → Byte
   neither : Byte
 
--- "Symbol n (0 to 15) is byte n. Variable n (0 to 15) is byte 80 + n."
+-- "Symbol n (0 to 15) is byte n. Variable n (0 to 15) is byte 80 + n." [2.3, 2.4]
 unfoldable pub byte-of : List Symbol → ℕ → Byte
 byte-of Σ b =
     if ltb b (length Σ) then symbol b
@@ -106,7 +108,7 @@ pub record ReadPart (A : Type 0) : Type 0 where
   pub end : ℕ
   pub rest : List ℕ
 
--- so many terms, one behind the other
+-- so many terms, one behind the other [2.6]
 unfoldable pub read-terms : (ℕ → List ℕ → Reading (ReadPart Term)) → ℕ → ℕ → List ℕ → Reading (ReadPart Terms)
 read-terms one zero at bytes = ok (record { part = nil; end = at; rest = bytes })
 read-terms one (suc n) at bytes = do
@@ -114,7 +116,7 @@ read-terms one (suc n) at bytes = do
   ts ← read-terms one n (t .end) (t .rest)
   ok (record { part = cons (t .part) (ts .part); end = ts .end; rest = ts .rest })
 
--- 10: "byte that is no symbol and no variable; field ends inside a term", at "that byte or the field's end".
+-- 10: "byte that is no symbol and no variable; field ends inside a term", at "that byte or the field's end". [2.6, 4.10]
 -- The first number bounds the depth: one more than there are bytes, as `read-side` gives, does not run out.
 unfoldable pub read-term : List Symbol → ℕ → ℕ → List ℕ → Reading (ReadPart Term)
 read-term Σ zero at bytes = refused wrong-term at
@@ -128,7 +130,7 @@ read-term Σ (suc depth) at (b ∷ bytes) =
       | neither ↦ refused wrong-term at
     ]
 
--- 11: "side over 120 nodes", at the "side's first byte"
+-- 11: "side over 120 nodes", at the "side's first byte" [3.7, 4.11, 4.18]
 unfoldable pub read-side : List Symbol → ℕ → List ℕ → Reading (ReadPart Term)
 read-side Σ at bytes = do
   t ← read-term Σ (suc (length bytes)) at bytes
@@ -140,7 +142,7 @@ pub record Equation : Type 0 where
   pub first : ℕ
   pub sides : Pair
 
--- "an equation, left term then right term"; 10: "byte after the right term", at "that byte"
+-- "an equation, left term then right term"; 10: "byte after the right term", at "that byte" [3.7, 4.10, 4.18]
 unfoldable pub equation-field : List Symbol → ReadField → Reading Equation
 equation-field Σ f = do
   l ← read-side Σ (f .first + 3) (f .contents)
@@ -149,6 +151,7 @@ equation-field Σ f = do
   ok (record { first = f .first; sides = record { left = l .part; right = r .part } })
 
 -- "tag 03, 0 to 16 times"; 9: "seventeenth equation field", at the "field's first byte". The first number says how many may still come.
+-- [3.2, 3.8, 4.9, 4.16, 4.19]
 unfoldable pub equation-fields : List Symbol → ℕ → ℕ → List ℕ → Reading (List Equation)
 equation-fields Σ zero at [] = ok []
 equation-fields Σ zero at (b ∷ bytes) = do
@@ -166,7 +169,7 @@ pub record Problem : Type 0 where
   pub budget : ℕ
   pub equations : List Equation
 
--- 2: "problem over 8,192 bytes", place 8,192. "Order: 1, 2, then front to back through the problem."
+-- 2: "problem over 8,192 bytes", place 8,192. "Order: 1, 2, then front to back through the problem." [3.2, 3.9, 4.2, 4.15]
 unfoldable pub parse : List ℕ → Reading Problem
 parse bytes = do
   _ ← refuse-if (ltb most-problem (length bytes)) long-problem most-problem
@@ -177,7 +180,7 @@ parse bytes = do
   es ← equation-fields Σ most-equations (b .end) (b .rest)
   ok (record { symbols = Σ; budget = budget; equations = es })
 
--- 12: "compare, unify, subterm: equation fields are not exactly one", at "the end if none, else second field's first byte"
+-- 12: "compare, unify, subterm: equation fields are not exactly one", at "the end if none, else second field's first byte" [4.12]
 unfoldable pub only-equation : ℕ → List Equation → Reading Equation
 only-equation end [] = refused not-one-equation end
 only-equation end (e ∷ []) = ok e

@@ -54,7 +54,8 @@ module _ {gt : Term → Term → Type 0} {k : ℕ} {es rs : List Pair} (order : 
   checked-local =
       finite-critical-pairs rs (v .nodes) (v .vars)
       (λ i j n hi hj h o q.
-      pair-peak (Of rs) k (lhs rs i) (rhs rs i) (lhs rs j) (rhs rs j) (place (lhs rs j) n h .c) (place (lhs rs j) n h .s) (place (lhs rs j) n h .whole) (v .low j hj) (low-right j hj) (pairs i j n hi hj h o q))
+      pair-peak (Of rs) k (lhs rs i) (rhs rs i) (lhs rs j) (rhs rs j) (place (lhs rs j) n h .c) (place (lhs rs j) n h .s) (place (lhs rs j) n h .whole)
+      (v .low j hj) (low-right j hj) (pairs i j n hi hj h o q))
 
   pub checked-ends : Ends (Step (Of rs))
   checked-ends =

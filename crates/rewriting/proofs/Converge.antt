@@ -5,7 +5,8 @@ use mathlib.Core.Logic.{_↔_}
 use mathlib.Core.WellFounded.{Acc, Acc·intro}
 use Prim.Native.Nat.{ℕ, zero, suc}
 use Rattle.terms.specs.Term.{Term, Terms, subst-term}
-use Rattle.rewriting.proofs.Relations.{Solves, Star, Conv, same, ahead, back, Join, Normal, Below, Ends, Confluent, LocallyConfluent, Rules, Step, Steps, root, inside, here, there}
+use Rattle.rewriting.proofs.Relations.{Solves, Star, Conv, same, ahead, back, Join, Normal, Below, Ends, Confluent, LocallyConfluent, Rules}
+use Rattle.rewriting.proofs.Relations.{Step, Steps, root, inside, here, there}
 use Rattle.rewriting.proofs.Abstract.{chain, turn, join-conv, church-rosser, normal-unique, normal-stays, append, newman, last, Reducible?}
 use Rattle.rewriting.proofs.Steps.{conv-node, conv-head, conv-tail, conv-subst}
 
@@ -13,7 +14,8 @@ use Rattle.rewriting.proofs.Steps.{conv-node, conv-head, conv-tail, con
 module _ {E F : Rules} (each : (l r : Term) → E l r → Conv (Step F) l r) where
   mutual
     step-conv : {t u : Term} → Step E t u → Conv (Step F) t u
-    step-conv (root {l = l} {r = r} {u = u} ρ σ e d) = subst (λ z. Conv (Step F) z u) (sym e) (subst (λ z. Conv (Step F) (subst-term σ l) z) (sym d) (conv-subst σ (each l r ρ)))
+    step-conv (root {l = l} {r = r} {u = u} ρ σ e d) =
+        subst (λ z. Conv (Step F) z u) (sym e) (subst (λ z. Conv (Step F) (subst-term σ l) z) (sym d) (conv-subst σ (each l r ρ)))
     step-conv (inside {f = f} s) = conv-node f (steps-conv s)
 
     steps-conv : {t u : Terms} → Steps E t u → Conv (Steps F) t u
@@ -39,7 +41,8 @@ module _ {E R : Rules} (cf : Confluent (Step R)) (sound : (l r : Term) → R l r
         let h = cf t m (j .at) tm (j .right) in
         let p : n ≡ k .at = normal-stays nn (k .left) in
         let q : m ≡ h .at = normal-stays nm (h .left) in
-        normal-unique cf (append (j .left) (subst (λ z. Star (Step R) (j .at) z) (sym p) (k .right))) nn (append (j .left) (subst (λ z. Star (Step R) (j .at) z) (sym q) (h .right))) nm,
+        normal-unique cf (append (j .left) (subst (λ z. Star (Step R) (j .at) z) (sym p) (k .right))) nn
+        (append (j .left) (subst (λ z. Star (Step R) (j .at) z) (sym q) (h .right))) nm,
     λ e. equal-joins s t .1 (record { at = m; left = subst (λ z. Star (Step R) s z) e sn; right = tm }),
   )
 
@@ -51,7 +54,8 @@ no-forever-at {R} (Acc·intro t h) s e go =
 pub no-forever : {R : Rules} → Ends (Step R) → (s : ℕ → Term) → ((n : ℕ) → Step R (s n) (s (suc n))) → ⊥
 no-forever ends s go = no-forever-at (ends (s zero)) s refl go
 
-module _ {E R : Rules} (ends : Ends (Step R)) (red : Reducible? (Step R)) (lc : LocallyConfluent (Step R)) (sound : (l r : Term) → R l r → Conv (Step E) l r) (complete : (l r : Term) → E l r → Join (Step R) l r) where
+module _ {E R : Rules} (ends : Ends (Step R)) (red : Reducible? (Step R)) (lc : LocallyConfluent (Step R))
+    (sound : (l r : Term) → R l r → Conv (Step E) l r) (complete : (l r : Term) → E l r → Join (Step R) l r) where
   cf : Confluent (Step R)
   cf = newman ends lc
 
@@ -70,6 +74,7 @@ module _ {E R : Rules} (ends : Ends (Step R)) (red : Reducible? (Step R)) (lc : 
         only = λ t u s n. normal-unique cf s n (last ends red t .reached) (last ends red t .normal);
         same-final =
             λ s t.
-            let h = equal-lasts {E = E} cf sound complete s t _ _ (last ends red s .reached) (last ends red s .normal) (last ends red t .reached) (last ends red t .normal) in
+            let h = equal-lasts {E = E} cf sound complete s t _ _ (last ends red s .reached) (last ends red s .normal) (last ends red t .reached)
+            (last ends red t .normal) in
             (h .1, h .0);
       }

@@ -14,36 +14,6 @@ use Rattle.rewriting.specs.Overlap.{Rule, sides-of, Place, places, posit
 use Rattle.rewriting.proofs.Relations.{Of}
 use Rattle.rewriting.proofs.Finite.{none-such}
 
--- What holds of the rules holds of the two rules of every place; and its position is one of the outer rule's left side.
-module _ (H : Rule → Type 0) where
-  pub record BothHold (at : Place) : Type 0 where
-    pub inner-holds : H (at .inner)
-    pub outer-holds : H (at .outer)
-    pub within : at .position < size (at .outer .sides .left)
-
-  places-hold : (a b : Rule) → H a → H b → (k n : ℕ) → k + n ≤ size (b .sides .left) → Every BothHold (places a b (count-from k n))
-  unfolding places count-from
-  places-hold a b p q k zero l = of-none
-  places-hold a b p q k (suc n) l =
-      of-cons {x = record { inner = a; outer = b; position = k }} (record { inner-holds = p; outer-holds = q; within = omega arith }) (places-hold a b p q (suc k) n (omega arith))
-
-  positions-hold : (a b : Rule) → H a → H b → Every BothHold (places a b (positions b))
-  unfolding positions
-  positions-hold a b p q = places-hold a b p q 0 (size (b .sides .left)) (omega arith)
-
-  places-with-hold : (earlier : List Rule) (later : Rule) → Every H earlier → H later → Every BothHold (places-with earlier later)
-  unfolding places-with
-  places-with-hold [] later of-none q = of-none
-  places-with-hold (r ∷ rules) later (of-cons p h) q =
-      every-append (every-append (positions-hold r later p q) (positions-hold later r q p)) (places-with-hold rules later h q)
-
-  pub all-places-hold : (earlier later : List Rule) → Every H earlier → Every H later → Every BothHold (all-places earlier later)
-  unfolding all-places places-self
-  all-places-hold earlier [] h of-none = of-none
-  all-places-hold earlier (rule ∷ later) h (of-cons p k) =
-      every-append (every-append (places-with-hold earlier rule h p) (places-hold rule rule p p 1 _ (omega (arith, size-pos (rule .sides .left)))))
-      (all-places-hold (earlier ++ (rule ∷ [])) later (every-append h (of-cons p of-none)) k)
-
 -- The sides of a rule by its number.
 abbrev pub pair-at : List Rule → ℕ → Pair
 pair-at rules i = getD (sides-of rules) i none-such
@@ -53,7 +23,8 @@ sides-at H of-none i h = absurd (omega arith)
 sides-at H (of-cons q k) zero h = q
 sides-at H (of-cons q k) (suc i) h = sides-at H k i (omega arith)
 
-pub of-every : (H : Pair → Type 0) {rules : List Rule} → Every (λ (r : Rule). H (r .sides)) rules → (l r : Term) → Of (sides-of rules) l r → H (record { left = l; right = r })
+pub of-every : (H : Pair → Type 0) {rules : List Rule} → Every (λ (r : Rule). H (r .sides)) rules → (l r : Term) → Of (sides-of rules) l r →
+    H (record { left = l; right = r })
 of-every H of-none l r i = absurd (List·Memᴰ·not-nil i)
 of-every H (of-cons q h) l r i = ⊎-elim (λ e. subst H (sym e) q) (of-every H h l r) (List·Memᴰ·cases-cons i)
 
@@ -110,7 +81,8 @@ module _ (Q : Pair → Pair → ℕ → Type 0) where
         a-rule (alone rule (every-right one two both)) (every-map (λ b m. every-head (every-right earlier (rule ∷ []) m)) (k .0)) (k .1),
       )
 
-  covered : {rules : List Rule} → Triangle rules → (i j n : ℕ) → i < length (sides-of rules) → j < length (sides-of rules) → n < size (pair-at rules j .left) → (n ≡ 0 → i < j) → Q (pair-at rules i) (pair-at rules j) n
+  covered : {rules : List Rule} → Triangle rules → (i j n : ℕ) → i < length (sides-of rules) → j < length (sides-of rules) →
+      n < size (pair-at rules j .left) → (n ≡ 0 → i < j) → Q (pair-at rules i) (pair-at rules j) n
   covered no-rule i j n hi hj lt o = absurd (omega arith)
   covered (a-rule s m t) zero zero n hi hj lt o = s n (at-least n o) lt
     where
@@ -123,5 +95,37 @@ module _ (Q : Pair → Pair → ℕ → Type 0) where
       sides-at (λ (b : Pair). (n : ℕ) → n < size (a .sides .left) → Q b (a .sides) n) (every-map (λ b k. k .1) m) i (omega arith) n lt
   covered (a-rule s m t) (suc i) (suc j) n hi hj lt o = covered t i j n (omega arith) (omega arith) lt (λ e. omega (arith, o e))
 
-  pub all-places-cover : (rules : List Rule) → Every HoldsAt (all-places [] rules) → (i j n : ℕ) → i < length (sides-of rules) → j < length (sides-of rules) → n < size (pair-at rules j .left) → (n ≡ 0 → i < j) → Q (pair-at rules i) (pair-at rules j) n
+  pub all-places-cover : (rules : List Rule) → Every HoldsAt (all-places [] rules) → (i j n : ℕ) → i < length (sides-of rules) →
+      j < length (sides-of rules) → n < size (pair-at rules j .left) → (n ≡ 0 → i < j) → Q (pair-at rules i) (pair-at rules j) n
   all-places-cover rules h = covered (triangle [] rules h .1)
+
+-- What holds of the rules holds of the two rules of every place; and its position is one of the outer rule's left side.
+module _ (H : Rule → Type 0) where
+  pub record BothHold (at : Place) : Type 0 where
+    pub inner-holds : H (at .inner)
+    pub outer-holds : H (at .outer)
+    pub within : at .position < size (at .outer .sides .left)
+
+  places-hold : (a b : Rule) → H a → H b → (k n : ℕ) → k + n ≤ size (b .sides .left) → Every BothHold (places a b (count-from k n))
+  unfolding places count-from
+  places-hold a b p q k zero l = of-none
+  places-hold a b p q k (suc n) l =
+      of-cons {x = record { inner = a; outer = b; position = k }} (record { inner-holds = p; outer-holds = q; within = omega arith })
+      (places-hold a b p q (suc k) n (omega arith))
+
+  positions-hold : (a b : Rule) → H a → H b → Every BothHold (places a b (positions b))
+  unfolding positions
+  positions-hold a b p q = places-hold a b p q 0 (size (b .sides .left)) (omega arith)
+
+  places-with-hold : (earlier : List Rule) (later : Rule) → Every H earlier → H later → Every BothHold (places-with earlier later)
+  unfolding places-with
+  places-with-hold [] later of-none q = of-none
+  places-with-hold (r ∷ rules) later (of-cons p h) q =
+      every-append (every-append (positions-hold r later p q) (positions-hold later r q p)) (places-with-hold rules later h q)
+
+  pub all-places-hold : (earlier later : List Rule) → Every H earlier → Every H later → Every BothHold (all-places earlier later)
+  unfolding all-places places-self
+  all-places-hold earlier [] h of-none = of-none
+  all-places-hold earlier (rule ∷ later) h (of-cons p k) =
+      every-append (every-append (places-with-hold earlier rule h p) (places-hold rule rule p p 1 _ (omega (arith, size-pos (rule .sides .left)))))
+      (all-places-hold (earlier ++ (rule ∷ [])) later (every-append h (of-cons p of-none)) k)

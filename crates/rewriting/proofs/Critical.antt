@@ -36,7 +36,8 @@ PairDone R k l r r′ c s =
     Clash (subst-term (up k) l) s
     ⊎ ((u : MguOf (subst-term (up k) l) s) × Join (Step R) (subst-term (u .m) (plug c (subst-term (up k) r))) (subst-term (u .m) r′))
 
-pub pair-peak : (R : Rules) (k : ℕ) (l r l′ r′ : Term) (c : Ctx) (s : Term) → l′ ≡ plug c s → VarsIn (λ (x : ℕ). x < k) l′ → VarsIn (λ (x : ℕ). x < k) r′ → PairDone R k l r r′ c s → PeakOf R l r r′ c s
+pub pair-peak : (R : Rules) (k : ℕ) (l r l′ r′ : Term) (c : Ctx) (s : Term) → l′ ≡ plug c s → VarsIn (λ (x : ℕ). x < k) l′ → VarsIn (λ (x : ℕ). x < k) r′ →
+    PairDone R k l r r′ c s → PeakOf R l r r′ c s
 pair-peak R k l r l′ r′ c s e bl br done τ σ q = go done
   where
     θ : Subst
@@ -63,4 +64,5 @@ pair-peak R k l r l′ r′ c s e bl br done τ σ q = go done
         let left : subst-term δ (subst-term (u .m) (plug c (subst-term (up k) r))) ≡ plug (subst-context σ c) (subst-term τ r) =
         sym (f (plug c (subst-term (up k) r))) ∙ (subst-plug θ c (subst-term (up k) r) ∙ ap₂ plug (parts .0) (high r)) in
         let right : subst-term δ (subst-term (u .m) r′) ≡ subst-term σ r′ = sym (f r′) ∙ low r′ br in
-        subst (λ z. Join (Step R) z (subst-term σ r′)) left (subst (λ z. Join (Step R) (subst-term δ (subst-term (u .m) (plug c (subst-term (up k) r)))) z) right (join-subst δ (p .1)))
+        subst (λ z. Join (Step R) z (subst-term σ r′)) left
+        (subst (λ z. Join (Step R) (subst-term δ (subst-term (u .m) (plug c (subst-term (up k) r)))) z) right (join-subst δ (p .1)))

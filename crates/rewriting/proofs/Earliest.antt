@@ -19,7 +19,8 @@ use Rattle.terms.proofs.Positions.{at-zero, in-first, in-later, replace-plug, s
 use Rattle.terms.proofs.Bytes.{Around, around, around-in, length-bytes, length-bytes-all}
 use Rattle.unify.specs.Unify.{Binding}
 use Rattle.rewriting.specs.Overlap.{Rule}
-use Rattle.rewriting.specs.Rewrite.{matching, instantiate, root-step, step, step-in, too-large, stop, Paying, return, and-then, _>>=_, end-if, end-with, pay, hold, normalise}
+use Rattle.rewriting.specs.Rewrite.{matching, instantiate, root-step, step, step-in, too-large, stop, Paying, return, and-then, _>>=_, end-if}
+use Rattle.rewriting.specs.Rewrite.{end-with, pay, hold, normalise}
 
 -- A node that a rule's left side matches, by its position: `at` tells which subterm stands at each.
 pub record Redex (rules : List Rule) (at : ℕ → Option Term) (position : ℕ) : Type 0 where
@@ -81,7 +82,8 @@ replace-later t ts p v =
 
 module _ (rules : List Rule) where
   -- A part's n positions are those of the whole from k on: its redexes are the whole's, and so is its earliest, where each before the part has one below.
-  module _ (at at′ : ℕ → Option Term) (k n : ℕ) (agrees : (p q : ℕ) → q ≡ k + p → p < n → at′ q ≡ at p) (inside : (p : ℕ) (x : Term) → at p ≡ some x → p + size x ≤ n) where
+  module _ (at at′ : ℕ → Option Term) (k n : ℕ) (agrees : (p q : ℕ) → q ≡ k + p → p < n → at′ q ≡ at p)
+      (inside : (p : ℕ) (x : Term) → at p ≡ some x → p + size x ≤ n) where
     abbrev to-part : (p q : ℕ) → q ≡ k + p → p < n → Redex rules at′ q → Redex rules at p
     to-part p q e h r = record { subterm = r .subterm; stands = sym (agrees p q e h) ∙ r .stands; rewritten = r .rewritten; matched = r .matched }
 
@@ -100,7 +102,8 @@ module _ (rules : List Rule) where
         let w = b .within in
         record { position = k + b .position; after = omega arith; within = omega arith; redex = to-whole (b .position) (k + b .position) refl (b .redex) }
 
-    to-whole-earliest : {A B : Type 0} {put : ℕ → Term → A} {put′ : ℕ → Term → B} {u : A} (u′ : B) → (c : Earliest rules at put u) → (m : ℕ) → m ≡ k + c .position →
+    to-whole-earliest : {A B : Type 0} {put : ℕ → Term → A} {put′ : ℕ → Term → B} {u : A} (u′ : B) → (c : Earliest rules at put u) → (m : ℕ) →
+        m ≡ k + c .position →
         ((q : ℕ) → q < k → (r : Redex rules at′ q) → RedexBelow rules at′ q (r .subterm)) → u′ ≡ put′ m (c .redex .rewritten) → Earliest rules at′ put′ u′
     to-whole-earliest u′ c m at-m before e =
         let i : c .position + size (c .redex .subterm) ≤ n = inside (c .position) (c .redex .subterm) (c .redex .stands) in
@@ -146,7 +149,8 @@ module _ (rules : List Rule) where
       go zero h r = absurd (omega arith)
       go (suc q) h r = n q r
 
-  root-picks : (t : Term) → ((q : ℕ) → Redex rules (subterm-at t) (suc q) → ⊥) → (o : Option Term) → root-step rules t ≡ o → Picks rules (subterm-at t) (replace-at t) o
+  root-picks : (t : Term) → ((q : ℕ) → Redex rules (subterm-at t) (suc q) → ⊥) → (o : Option Term) → root-step rules t ≡ o →
+      Picks rules (subterm-at t) (replace-at t) o
   root-picks t n (some u) e = at-root t u e n
   root-picks t n none e = go
     where
@@ -173,7 +177,8 @@ module _ (rules : List Rule) where
     node-some : (us : Terms) → Earliest rules (subterm-in ts) (replace-in ts) us → Earliest rules (subterm-at (node f ts)) (replace-at (node f ts)) (node f us)
     unfolding subterm-at replace-at size
     node-some us c =
-        to-whole-earliest (subterm-in ts) (subterm-at (node f ts)) 1 (sizes ts) node-agrees (subterm-in-within ts) (node f us) c (suc (c .position)) (omega arith) go (ap (node f) (c .result))
+        to-whole-earliest (subterm-in ts) (subterm-at (node f ts)) 1 (sizes ts) node-agrees (subterm-in-within ts) (node f us) c (suc (c .position))
+        (omega arith) go (ap (node f) (c .result))
       where
         go : (q : ℕ) → q < 1 → (r : Redex rules (subterm-at (node f ts)) q) → RedexBelow rules (subterm-at (node f ts)) q (r .subterm)
         go (suc q) h r = absurd (omega arith)
@@ -184,7 +189,8 @@ module _ (rules : List Rule) where
               position = suc (c .position);
               after = omega arith;
               within = omega (arith, size-pos (c .redex .subterm));
-              redex = to-whole (subterm-in ts) (subterm-at (node f ts)) 1 (sizes ts) node-agrees (subterm-in-within ts) (c .position) (suc (c .position)) (omega arith) (c .redex);
+              redex = to-whole (subterm-in ts) (subterm-at (node f ts)) 1 (sizes ts) node-agrees (subterm-in-within ts) (c .position)
+                  (suc (c .position)) (omega arith) (c .redex);
             }
 
     node-picks : (o : Option Terms) → Picks rules (subterm-in ts) (replace-in ts) o → (p : Option Term) → root-step rules (node f ts) ≡ p →
@@ -200,7 +206,8 @@ module _ (rules : List Rule) where
         to-whole-earliest (subterm-at t) (subterm-in (cons t ts)) 0 (size t)
         (λ p q e h. let z : q ≡ p = omega arith in ap (subterm-in (cons t ts)) z ∙ in-first t ts p h)
         (subterm-within t) (cons u ts) c (c .position) (omega arith) (λ q h r. absurd (omega arith))
-        (ap (λ v. cons v ts) (c .result) ∙ sym (replace-first t ts (c .position) (c .redex .rewritten) (subterm-below t (c .position) (c .redex .subterm) (c .redex .stands))))
+        (ap (λ v. cons v ts) (c .result)
+        ∙ sym (replace-first t ts (c .position) (c .redex .rewritten) (subterm-below t (c .position) (c .redex .subterm) (c .redex .stands))))
 
     later-agrees : (p q : ℕ) → q ≡ size t + p → p < sizes ts → subterm-in (cons t ts) q ≡ subterm-in ts p
     later-agrees p q e h = in-later t ts q p e
@@ -208,9 +215,11 @@ module _ (rules : List Rule) where
     first-none : NoRedex rules (subterm-at t) → (q : ℕ) → q < size t → Redex rules (subterm-in (cons t ts)) q → ⊥
     first-none n q h r = n q (record { subterm = r .subterm; stands = sym (in-first t ts q h) ∙ r .stands; rewritten = r .rewritten; matched = r .matched })
 
-    later-some : NoRedex rules (subterm-at t) → (us : Terms) → Earliest rules (subterm-in ts) (replace-in ts) us → Earliest rules (subterm-in (cons t ts)) (replace-in (cons t ts)) (cons t us)
+    later-some : NoRedex rules (subterm-at t) → (us : Terms) → Earliest rules (subterm-in ts) (replace-in ts) us →
+        Earliest rules (subterm-in (cons t ts)) (replace-in (cons t ts)) (cons t us)
     later-some n us c =
-        to-whole-earliest (subterm-in ts) (subterm-in (cons t ts)) (size t) (sizes ts) later-agrees (subterm-in-within ts) (cons t us) c (size t + c .position) refl
+        to-whole-earliest (subterm-in ts) (subterm-in (cons t ts)) (size t) (sizes ts) later-agrees (subterm-in-within ts) (cons t us) c
+        (size t + c .position) refl
         (λ q h r. absurd (first-none n q h r))
         (ap (cons t) (c .result) ∙ sym (replace-later t ts (c .position) (c .redex .rewritten)))
 
@@ -222,7 +231,8 @@ module _ (rules : List Rule) where
         go (yes h) = first-none n q h r
         go (no h) =
             let i : q < size t + sizes ts = subterm-in-below (cons t ts) q (r .subterm) (r .stands) in
-            m (q - size t) (to-part (subterm-in ts) (subterm-in (cons t ts)) (size t) (sizes ts) later-agrees (subterm-in-within ts) (q - size t) q (omega arith) (omega arith) r)
+            m (q - size t) (to-part (subterm-in ts) (subterm-in (cons t ts)) (size t) (sizes ts) later-agrees (subterm-in-within ts) (q - size t) q
+            (omega arith) (omega arith) r)
 
     cons-picks : (o : Option Term) → Picks rules (subterm-at t) (replace-at t) o → (p : Option Terms) → Picks rules (subterm-in ts) (replace-in ts) p →
         Picks rules (subterm-in (cons t ts)) (replace-in (cons t ts)) (or-else (mapped (λ u. cons u ts) o) (mapped (cons t) p))
@@ -255,7 +265,8 @@ module _ (rules : List Rule) where
   step-no-redex t e = rw e at (picks t)
 
   -- There is one such node only: so it is the one that a step rewrites.
-  not-before : {A : Type 0} {at : ℕ → Option Term} {put : ℕ → Term → A} {u v : A} (c : Earliest rules at put u) (d : Earliest rules at put v) → c .position < d .position → ⊥
+  not-before : {A : Type 0} {at : ℕ → Option Term} {put : ℕ → Term → A} {u v : A} (c : Earliest rules at put u) (d : Earliest rules at put v) →
+      c .position < d .position → ⊥
   not-before c d h = c .none-below (d .earliest (c .position) h (c .redex))
 
   same-redex : {at : ℕ → Option Term} (p q : ℕ) → p ≡ q → (r : Redex rules at p) (s : Redex rules at q) → r .rewritten ≡ s .rewritten
@@ -300,7 +311,8 @@ abbrev Takes : List Rule → Term → Option Term → Type 0
 Takes rules t none = Every (Misses t) rules
 Takes rules t (some u) = LowestRule rules t u
 
-takes-cons : (rule : Rule) (rules : List Rule) (t : Term) (o : Option (List Binding)) → matching (rule .sides .left) t [] ≡ o → (p : Option Term) → Takes rules t p →
+takes-cons : (rule : Rule) (rules : List Rule) (t : Term) (o : Option (List Binding)) → matching (rule .sides .left) t [] ≡ o → (p : Option Term) →
+    Takes rules t p →
     Takes (rule ∷ rules) t (or-else (mapped (λ bs. instantiate bs (rule .sides .right)) o) p)
 unfolding mapped or-else
 takes-cons rule rules t (some bs) e p h =
@@ -336,7 +348,8 @@ lowest-taken rule after t bs e (r ∷ before) (of-cons q h) = rw q (lowest-taken
 
 pub lowest-root-step : (rules : List Rule) (t u : Term) → LowestRule rules t u → root-step rules t ≡ some u
 lowest-root-step rules t u l =
-    ap (λ rs. root-step rs t) (l .split) ∙ lowest-taken (l .rule) (l .after) t (l .bindings) (l .matches) (l .before) (l .none-before) ∙ ap some (sym (l .result))
+    ap (λ rs. root-step rs t) (l .split) ∙ lowest-taken (l .rule) (l .after) t (l .bindings) (l .matches) (l .before) (l .none-before) ∙ ap some
+    (sym (l .result))
 
 -- The answer where step says none, and where it says some u: "while some rule's left side matches a node, rewrite. .. The unit is paid first; the step's
 -- term is tested for size after."

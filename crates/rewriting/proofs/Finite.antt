@@ -48,9 +48,13 @@ unfolding number
 number-hole hole e = refl
 number-hole (beneath f cs) e = absurd (omega arith)
 
-module _ (rs : List Pair) (nodes : (i : ℕ) → i < length rs → IsNode (lhs rs i)) (vars : (i : ℕ) → i < length rs → VarsIn (λ x. In x (variables (lhs rs i))) (rhs rs i)) (pairs : (i j k : ℕ) → i < length rs → j < length rs → (h : k < size (lhs rs j)) → (k ≡ 0 → i < j) → IsNode (place (lhs rs j) k h .s) → PeakOf (Of rs) (lhs rs i) (rhs rs i) (rhs rs j) (place (lhs rs j) k h .c) (place (lhs rs j) k h .s)) where
+module _ (rs : List Pair) (nodes : (i : ℕ) → i < length rs → IsNode (lhs rs i))
+    (vars : (i : ℕ) → i < length rs → VarsIn (λ x. In x (variables (lhs rs i))) (rhs rs i))
+    (pairs : (i j k : ℕ) → i < length rs → j < length rs → (h : k < size (lhs rs j)) → (k ≡ 0 → i < j) → IsNode (place (lhs rs j) k h .s) →
+    PeakOf (Of rs) (lhs rs i) (rhs rs i) (rhs rs j) (place (lhs rs j) k h .c) (place (lhs rs j) k h .s)) where
   -- The place is the one of its number.
-  at-place : (i j : ℕ) → i < length rs → j < length rs → (c : Ctx) (s : Term) → IsNode s → lhs rs j ≡ plug c s → (number c ≡ 0 → i < j) → PeakOf (Of rs) (lhs rs i) (rhs rs i) (rhs rs j) c s
+  at-place : (i j : ℕ) → i < length rs → j < length rs → (c : Ctx) (s : Term) → IsNode s → lhs rs j ≡ plug c s → (number c ≡ 0 → i < j) →
+      PeakOf (Of rs) (lhs rs i) (rhs rs i) (rhs rs j) c s
   at-place i j hi hj c s n e o =
       let h : number c < size (lhs rs j) = subst (λ z. number c < size z) (sym e) (number-lt c s) in
       let a : At (lhs rs j) (number c) = place (lhs rs j) (number c) h in
@@ -72,7 +76,8 @@ module _ (rs : List Pair) (nodes : (i : ℕ) → i < length rs → IsNode (lhs r
       let q : j ≡ i = omega arith in
       subst (λ z. PeakOf (Of rs) (lhs rs i) (rhs rs i) (rhs rs z) hole (lhs rs z)) (sym q) (self-root i hi)
 
-  any-place : (i j : ℕ) → i < length rs → j < length rs → (c : Ctx) (s : Term) → IsNode s → lhs rs j ≡ plug c s → Dec (number c ≡ 0) → PeakOf (Of rs) (lhs rs i) (rhs rs i) (rhs rs j) c s
+  any-place : (i j : ℕ) → i < length rs → j < length rs → (c : Ctx) (s : Term) → IsNode s → lhs rs j ≡ plug c s → Dec (number c ≡ 0) →
+      PeakOf (Of rs) (lhs rs i) (rhs rs i) (rhs rs j) c s
   unfolding plug subst-context
   any-place i j hi hj c s n e (no z) = at-place i j hi hj c s n e (λ y. absurd (z y))
   any-place i j hi hj c s n e (yes z) =

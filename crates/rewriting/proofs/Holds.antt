@@ -13,14 +13,16 @@ use Rattle.terms.proofs.Shape.{zero≢one}
 use Rattle.terms.specs.Term.{Term, Pair, size}
 use Rattle.rewriting.specs.Overlap.{Rule}
 use Rattle.rewriting.specs.Ends.{ending, number-of}
-use Rattle.rewriting.specs.Rewrite.{step, End, complete, neither-above, spent, too-large, rules-full, log-full, end-number, Paid, done, stop, Paying, return, end-with, and-then, _>>=_, end-if, pay, hold, normalise, normalise-pair}
+use Rattle.rewriting.specs.Rewrite.{step, End, complete, neither-above, spent, too-large, rules-full, log-full, end-number, Paid, done}
+use Rattle.rewriting.specs.Rewrite.{stop, Paying, return, end-with, and-then, _>>=_, end-if, pay, hold, normalise, normalise-pair}
 use Rattle.rewriting.proofs.Relations
 use Rattle.rewriting.proofs.Relations.{Star}
 use Rattle.rewriting.proofs.Abstract.{append, one}
 use Rattle.rewriting.proofs.Stepping.{StepBy, step-sound}
 
 -- what follows an answer that follows another
-pub and-then-assoc : {A B C : Type 0} (p : Paid A) (f : A → Paying B) (g : B → Paying C) → and-then (and-then p f) g ≡ and-then p (λ a left. and-then (f a left) g)
+pub and-then-assoc : {A B C : Type 0} (p : Paid A) (f : A → Paying B) (g : B → Paying C) →
+    and-then (and-then p f) g ≡ and-then p (λ a left. and-then (f a left) g)
 unfolding and-then
 and-then-assoc (done a left) f g = refl
 and-then-assoc (stop e left) f g = refl
@@ -33,7 +35,8 @@ Holds Q E (stop e left) = E e left
 pub record Pays {A : Type 0} (Q : A → Type 0) (E : End → ℕ → Type 0) (m : Paying A) : Type 0 where
   pub out : (left : ℕ) → Holds Q E (m left)
 
-then-holds : {A B : Type 0} (Q : A → Type 0) (R : B → Type 0) (E : End → ℕ → Type 0) (p : Paid A) (next : A → Paying B) → Holds Q E p → ((a : A) → Q a → Pays R E (next a)) →
+then-holds : {A B : Type 0} (Q : A → Type 0) (R : B → Type 0) (E : End → ℕ → Type 0) (p : Paid A) (next : A → Paying B) → Holds Q E p →
+    ((a : A) → Q a → Pays R E (next a)) →
     Holds R E (and-then p next)
 unfolding and-then
 then-holds Q R E (done a left) next h k = k a h .out left
@@ -43,13 +46,15 @@ weaker : {A : Type 0} (Q R : A → Type 0) (E : End → ℕ → Type 0) → ((a 
 weaker Q R E f (done a left) h = f a h
 weaker Q R E f (stop e left) h = h
 
-choose-holds : {A : Type 0} (Q : A → Type 0) (E : End → ℕ → Type 0) (b : Bool) (p q : Paid A) → (b ≡ true → Holds Q E p) → (b ≡ false → Holds Q E q) → Holds Q E (if b then p else q)
+choose-holds : {A : Type 0} (Q : A → Type 0) (E : End → ℕ → Type 0) (b : Bool) (p q : Paid A) → (b ≡ true → Holds Q E p) → (b ≡ false → Holds Q E q) →
+    Holds Q E (if b then p else q)
 unfolding if_then_else_
 choose-holds Q E true p q f g = f refl
 choose-holds Q E false p q f g = g refl
 
 module _ {E : End → ℕ → Type 0} where
-  pub bind-holds : {A B : Type 0} {Q : A → Type 0} {R : B → Type 0} (m : Paying A) (next : A → Paying B) → Pays Q E m → ((a : A) → Q a → Pays R E (next a)) → Pays R E (m >>= next)
+  pub bind-holds : {A B : Type 0} {Q : A → Type 0} {R : B → Type 0} (m : Paying A) (next : A → Paying B) → Pays Q E m → ((a : A) → Q a → Pays R E (next a)) →
+      Pays R E (m >>= next)
   unfolding _>>=_
   bind-holds {Q = Q} {R = R} m next h k = record { out = λ left. then-holds Q R E (m left) next (h .out left) k }
 
@@ -94,7 +99,8 @@ reached-star start = Relations.stop
 reached-star {rules} (further {u = u} {w = w} r e l) = append (reached-star r) (one (step-sound rules u w e))
 
 -- What is kept from a term to the next is kept on the way.
-pub reached-keeps : (Q : Term → Type 0) {rules : List Rule} {t u : Term} → ((a b : Term) → step rules a ≡ some b → size b ≤ 120 → Q a → Q b) → Reached rules t u → Q t → Q u
+pub reached-keeps : (Q : Term → Type 0) {rules : List Rule} {t u : Term} → ((a b : Term) → step rules a ≡ some b → size b ≤ 120 → Q a → Q b) →
+    Reached rules t u → Q t → Q u
 reached-keeps Q k start q = q
 reached-keeps Q k (further {u = u} {w = w} r e l) q = k u w e l (reached-keeps Q k r q)
 
@@ -127,7 +133,8 @@ module _ (E : End → ℕ → Type 0) (rules : List Rule) (out-of-units : E spen
         go (some w) e = rw (e, normalise) out-of-units
     form-from u r (suc left) = go (step rules u) refl (λ w q. form-from w q left)
       where
-        go : (o : Option Term) → step rules u ≡ o → ((w : Term) → Reached rules t w → Holds (Form rules t) E (normalise rules w left)) → Holds (Form rules t) E (normalise rules u (suc left))
+        go : (o : Option Term) → step rules u ≡ o → ((w : Term) → Reached rules t w → Holds (Form rules t) E (normalise rules w left)) →
+            Holds (Form rules t) E (normalise rules u (suc left))
         go none e ih = rw (e, normalise) (record { reached = r; normal = e })
         go (some w) e ih =
             rw (e, normalise)
@@ -138,7 +145,8 @@ module _ (E : End → ℕ → Type 0) (rules : List Rule) (out-of-units : E spen
     pub normalise-holds : Pays (Form rules t) E (normalise rules t)
     normalise-holds = record { out = form-from t start }
 
-  pub normalise-pair-holds : (e : Pair) → (Outgrown rules (e .left) → (left : ℕ) → E too-large left) → (Outgrown rules (e .right) → (left : ℕ) → E too-large left) →
+  pub normalise-pair-holds : (e : Pair) → (Outgrown rules (e .left) → (left : ℕ) → E too-large left) →
+      (Outgrown rules (e .right) → (left : ℕ) → E too-large left) →
       Pays (Forms rules e) E (normalise-pair rules e)
   unfolding normalise-pair
   normalise-pair-holds e p q =

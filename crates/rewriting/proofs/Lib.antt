@@ -1,3 +1,4 @@
+pub mod Apart
 pub mod Abstract
 pub mod Steps
 pub mod Peak

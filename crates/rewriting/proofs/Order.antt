@@ -40,7 +40,16 @@ module _ {R : Rules} where
     steps-at : {t u : Terms} → Steps R t u → StepsAt R t u
     steps-at (here {ts = ts} s) =
         let p = step-at s in
-        record { l = p .l; r = p .r; rule = p .rule; σ = p .σ; c = first (p .c) ts; before = ap (λ z. cons z ts) (p .before); after = ap (λ z. cons z ts) (p .after) }
+        record {
+          l = p .l;
+          r = p .r;
+          rule = p .rule;
+          σ = p .σ;
+          c = first (p .c) ts;
+          before = ap (λ z. cons z ts) (p .before);
+          after = ap
+              (λ z. cons z ts) (p .after);
+        }
     steps-at (there {t = t} s) =
         let p = steps-at s in
         record { l = p .l; r = p .r; rule = p .rule; σ = p .σ; c = later t (p .c); before = ap (cons t) (p .before); after = ap (cons t) (p .after) }

@@ -76,7 +76,8 @@ module _ (inner outer : Pair) (p : ℕ) (o : Overlap) where
         let before : o .peak ≡ plug (subst-context m (a .c)) (subst-term m (subst-term (up 16) (inner .left))) =
         w .is-peak ∙ under-is (w .m) (outer .left) ∙ ap (subst-term m) (a .whole) ∙ subst-plug m (a .c) s ∙ ap (plug (subst-context m (a .c))) (sym e) in
         let after : o .sides .left ≡ plug (subst-context m (a .c)) (subst-term m (subst-term (up 16) (inner .right))) =
-        w .is-left ∙ under-is (w .m) _ ∙ ap (subst-term m) (a .replaced (subst-term (up 16) (inner .right))) ∙ subst-plug m (a .c) (subst-term (up 16) (inner .right)) in
+        w .is-left ∙ under-is (w .m) _ ∙ ap (subst-term m) (a .replaced (subst-term (up 16) (inner .right))) ∙ subst-plug m (a .c)
+        (subst-term (up 16) (inner .right)) in
         let τ : Subst = λ x. subst-term m (up 16 x) in
         subst₂ (Step R) (sym before) (sym after)
         (step-plug (subst-context m (a .c))

@@ -15,12 +15,14 @@ use Rattle.rewriting.proofs.Steps.{stars-subst, stars-plug}
 -- A step from `subst-term σ t` to `v`, seen from `t`: it is below a variable of `t`, or at a place of `t` that is no variable.
 pub data Fall (R : Term → Term → Type 0) (σ : ℕ → Term) : Term → Term → Type 0 where
   at-var : {t v : Term} (c : Ctx) (x : ℕ) (w : Term) → t ≡ plug c (var x) → Step R (σ x) w → v ≡ plug (subst-context σ c) w → Fall R σ t v
-  at-node : {t v l r : Term} (c : Ctx) (f : ℕ) (ts : Terms) → t ≡ plug c (node f ts) → R l r → (τ : ℕ → Term) → subst-term σ (node f ts) ≡ subst-term τ l → v ≡ plug (subst-context σ c) (subst-term τ r) → Fall R σ t v
+  at-node : {t v l r : Term} (c : Ctx) (f : ℕ) (ts : Terms) → t ≡ plug c (node f ts) → R l r → (τ : ℕ → Term) → subst-term σ (node f ts) ≡ subst-term τ l →
+      v ≡ plug (subst-context σ c) (subst-term τ r) → Fall R σ t v
 
 -- The same for a list of arguments.
 pub data Falls (R : Term → Term → Type 0) (σ : ℕ → Term) : Terms → Terms → Type 0 where
   at-vars : {t v : Terms} (c : Ctxs) (x : ℕ) (w : Term) → t ≡ plugs c (var x) → Step R (σ x) w → v ≡ plugs (subst-contexts σ c) w → Falls R σ t v
-  at-nodes : {t v : Terms} {l r : Term} (c : Ctxs) (f : ℕ) (ts : Terms) → t ≡ plugs c (node f ts) → R l r → (τ : ℕ → Term) → subst-term σ (node f ts) ≡ subst-term τ l → v ≡ plugs (subst-contexts σ c) (subst-term τ r) → Falls R σ t v
+  at-nodes : {t v : Terms} {l r : Term} (c : Ctxs) (f : ℕ) (ts : Terms) → t ≡ plugs c (node f ts) → R l r → (τ : ℕ → Term) →
+      subst-term σ (node f ts) ≡ subst-term τ l → v ≡ plugs (subst-contexts σ c) (subst-term τ r) → Falls R σ t v
 
 module _ {R : Rules} {σ : Subst} where
   fall-node : {ts vs : Terms} (f : ℕ) → Falls R σ ts vs → Fall R σ (node f ts) (node f vs)
@@ -38,14 +40,17 @@ module _ {R : Rules} {σ : Subst} where
   fall-later t u i (at-vars c x w e s d) = at-vars (later t c) x w (ap (cons t) e) s (ap₂ cons i d)
   fall-later t u i (at-nodes c g ws e ρ τ q d) = at-nodes (later t c) g ws (ap (cons t) e) ρ τ q (ap₂ cons i d)
 
-  fall-root : {s v : Term} (f : ℕ) (ts : Terms) → s ≡ subst-term σ (node f ts) → Step R s v → ((us vs : Terms) → us ≡ subst-terms σ ts → Steps R us vs → Falls R σ ts vs) → Fall R σ (node f ts) v
+  fall-root : {s v : Term} (f : ℕ) (ts : Terms) → s ≡ subst-term σ (node f ts) → Step R s v →
+      ((us vs : Terms) → us ≡ subst-terms σ ts → Steps R us vs → Falls R σ ts vs) → Fall R σ (node f ts) v
   unfolding plug plugs subst-context subst-contexts subst-term subst-terms
   fall-root f ts i (root ρ τ e d) k = at-node hole f ts refl ρ τ (sym i ∙ e) d
   fall-root f ts i (inside {f = g} {ts = us} {us = vs} s) k =
       let p : g ≡ f = cc in
       subst (λ h. Fall R σ (node f ts) (node h vs)) (sym p) (fall-node f (k us vs (cc) s))
 
-  fall-cons : {ss vs : Terms} (t : Term) (ts : Terms) → ss ≡ subst-terms σ (cons t ts) → Steps R ss vs → ((s v : Term) → s ≡ subst-term σ t → Step R s v → Fall R σ t v) → ((us vs : Terms) → us ≡ subst-terms σ ts → Steps R us vs → Falls R σ ts vs) → Falls R σ (cons t ts) vs
+  fall-cons : {ss vs : Terms} (t : Term) (ts : Terms) → ss ≡ subst-terms σ (cons t ts) → Steps R ss vs →
+      ((s v : Term) → s ≡ subst-term σ t → Step R s v → Fall R σ t v) → ((us vs : Terms) → us ≡ subst-terms σ ts → Steps R us vs → Falls R σ ts vs) →
+      Falls R σ (cons t ts) vs
   unfolding subst-term subst-terms
   fall-cons t ts i (here {t = s} {u = v} {ts = us} x) h k = fall-first ts us (cc) (h s v (cc) x)
   fall-cons t ts i (there {t = s} {ts = us} {us = ws} x) h k = fall-later t s (cc) (k us ws (cc) x)
@@ -88,7 +93,8 @@ module _ {R : Rules} where
 -- that is no variable.
 abbrev pub PeaksJoin : Rules → Type 0
 PeaksJoin R =
-    (l r l′ r′ : Term) → R l r → R l′ r′ → (c : Ctx) (f : ℕ) (ts : Terms) → l′ ≡ plug c (node f ts) → (τ σ : Subst) → subst-term σ (node f ts) ≡ subst-term τ l →
+    (l r l′ r′ : Term) → R l r → R l′ r′ → (c : Ctx) (f : ℕ) (ts : Terms) → l′ ≡ plug c (node f ts) → (τ σ : Subst) → subst-term σ
+    (node f ts) ≡ subst-term τ l →
     Join (Step R) (plug (subst-context σ c) (subst-term τ r)) (subst-term σ r′)
 
 module _ {R : Rules} (peaks : PeaksJoin R) where

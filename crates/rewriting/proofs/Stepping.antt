@@ -40,11 +40,13 @@ abbrev Rooted : List Rule → Term → Option Term → Type 0
 Rooted rules t none = Unmatched rules t
 Rooted rules t (some u) = Applied rules t u
 
-unmatched-cons : (rule : Rule) (rules : List Rule) (t : Term) → ((σ : Subst) → t ≡ subst-term σ (rule .sides .left) → ⊥) → Unmatched rules t → Unmatched (rule ∷ rules) t
+unmatched-cons : (rule : Rule) (rules : List Rule) (t : Term) → ((σ : Subst) → t ≡ subst-term σ (rule .sides .left) → ⊥) → Unmatched rules t →
+    Unmatched (rule ∷ rules) t
 unmatched-cons rule rules t n h l r i σ e =
     ⊎-elim (λ q. n σ (e ∙ ap (λ (p : Pair). subst-term σ (p .left)) q)) (λ j. h l r j σ e) (List·Memᴰ·cases-cons i)
 
-root-go : (rule : Rule) (rules : List Rule) (t : Term) (o : Option (List Binding)) → matching (rule .sides .left) t [] ≡ o → (p : Option Term) → Rooted rules t p →
+root-go : (rule : Rule) (rules : List Rule) (t : Term) (o : Option (List Binding)) → matching (rule .sides .left) t [] ≡ o → (p : Option Term) →
+    Rooted rules t p →
     Rooted (rule ∷ rules) t (or-else (mapped (λ bs. instantiate bs (rule .sides .right)) o) p)
 unfolding mapped or-else instantiate
 root-go rule rules t (some bs) e p h =

@@ -84,10 +84,12 @@ module _ {R : Rules} where
   mutual
     unfolding subst-term subst-terms plug plugs subst-context subst-contexts
 
-    pub stars-plug : (σ τ : Subst) → ((x : ℕ) → Star (Step R) (σ x) (τ x)) → (c : Ctx) (t : Term) → Star (Step R) (plug (subst-context σ c) (subst-term τ t)) (subst-term τ (plug c t))
+    pub stars-plug : (σ τ : Subst) → ((x : ℕ) → Star (Step R) (σ x) (τ x)) → (c : Ctx) (t : Term) →
+        Star (Step R) (plug (subst-context σ c) (subst-term τ t)) (subst-term τ (plug c t))
     stars-plug σ τ h hole t = stop
     stars-plug σ τ h (beneath f cs) t = star-node f (stars-plugs σ τ h cs t)
 
-    pub stars-plugs : (σ τ : Subst) → ((x : ℕ) → Star (Step R) (σ x) (τ x)) → (cs : Ctxs) (t : Term) → Star (Steps R) (plugs (subst-contexts σ cs) (subst-term τ t)) (subst-terms τ (plugs cs t))
+    pub stars-plugs : (σ τ : Subst) → ((x : ℕ) → Star (Step R) (σ x) (τ x)) → (cs : Ctxs) (t : Term) →
+        Star (Steps R) (plugs (subst-contexts σ cs) (subst-term τ t)) (subst-terms τ (plugs cs t))
     stars-plugs σ τ h (first c ts) t = star-cons (stars-plug σ τ h c t) (stars-substs σ τ h ts)
     stars-plugs σ τ h (later s cs) t = star-cons (stars-subst σ τ h s) (stars-plugs σ τ h cs t)

@@ -1,4 +1,4 @@
--- Document 01, "Overlaps". Assumes nothing.
+-- Document 01, "Overlaps", and the order in which they are scanned: section 6 and [9.4] of docs/DEFINITION.md. Assumes nothing.
 use mathlib.Core.List.{List, [], _∷_, _++_, map}
 use mathlib.Core.Option.{Option, none, some}
 use Prim.Native.Nat.{ℕ, _+_, _-_}
@@ -18,13 +18,13 @@ pub record Overlap : Type 0 where
   pub peak : Term
   pub sides : Pair
 
--- "variables renamed apart": a rule's variables are 0 to 15, and the inner rule's become 16 to 31
+-- "variables renamed apart": a rule's variables are 0 to 15, and the inner rule's become 16 to 31 [6.2]
 unfoldable pub apart : Term → Term
 apart t = subst-term (λ x. var (most-variables + x)) t
 
 -- "Inner rule l1 to r1, outer rule l2 to r2, .. l1 and the subterm of l2 at p unifiable with most general unifier m.
 -- .. The peak is l2 under m. The pair: left, the peak with the subterm at p replaced by r1 under m; right, r2 under m."
--- (p is a position of l2 and not of the peak, so r1 is put into l2 before m.)
+-- (p is a position of l2 and not of the peak, so r1 is put into l2 before m.) [6.6, 6.7]
 unfoldable pub overlap-by : Pair → Pair → ℕ → Option (List Binding) → Option Overlap
 overlap-by inner outer p none = none
 overlap-by inner outer p (some m) =
@@ -36,7 +36,7 @@ overlap-by inner outer p (some m) =
       };
     })
 
--- "position p in l2 where no variable stands"
+-- "position p in l2 where no variable stands" [6.1, 6.3]
 unfoldable pub overlap-at : Pair → Pair → ℕ → Option Term → Option Overlap
 overlap-at inner outer p none = none
 overlap-at inner outer p (some (var x)) = none
@@ -57,17 +57,17 @@ places inner outer ps = map (λ p. record { inner = inner; outer = outer; positi
 unfoldable pub positions : Rule → List ℕ
 positions outer = count-from 0 (size (outer .sides .left))
 
--- "first the earlier rule as inner, then the later; positions ascending"
+-- "first the earlier rule as inner, then the later; positions ascending" [9.4]
 unfoldable pub places-with : List Rule → Rule → List Place
 places-with [] later = []
 places-with (earlier ∷ rules) later =
     places earlier later (positions later) ++ places later earlier (positions earlier) ++ places-with rules later
 
--- "A rule with itself at p = 0 is left out."
+-- "A rule with itself at p = 0 is left out." [6.5]
 unfoldable pub places-self : Rule → List Place
 places-self rule = places rule rule (count-from 1 (size (rule .sides .left) - 1))
 
--- "pairs of live rules, a rule with itself once, ascending by the later number, then the earlier"
+-- "pairs of live rules, a rule with itself once, ascending by the later number, then the earlier" [9.4]
 unfoldable pub all-places : List Rule → List Rule → List Place
 all-places earlier [] = []
 all-places earlier (rule ∷ later) =

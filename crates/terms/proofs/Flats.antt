@@ -7,7 +7,8 @@ use mathlib.Core.Option.{some}
 use Prim.Native.Nat.{ℕ, zero, suc, _+_, _-_, _≤_, _<_}
 use native.Mathlib.Omega.{arith}
 use lib.Dec.{ltb}
-use Rattle.terms.specs.Term.{Term, var, node, Terms, nil, cons, term-bytes, terms-bytes, size, variables, variables-of, subst-term, subst-terms, subterm-at, subterm-in, replace-at, replace-in, count}
+use Rattle.terms.specs.Term.{Term, var, node, Terms, nil, cons, term-bytes, terms-bytes, size, variables, variables-of, subst-term, subst-terms}
+use Rattle.terms.specs.Term.{subterm-at, subterm-in, replace-at, replace-in, count}
 use Rattle.terms.specs.Scan.{arity, skip}
 use Rattle.terms.specs.Flat.{Wf, Wfs}
 use Rattle.terms.proofs.Subst.{Subst, In, VarsIn, count-subst}
@@ -115,7 +116,8 @@ module _ (m n : ℕ) (tab : List ℕ) (σ : Subst) where
 
     wfs-subst : (ts : Terms) → Wfs m tab ts → ((x : ℕ) → In x (variables-of ts) → Wf n tab (σ x)) → Wfs n tab (subst-terms σ ts)
     wfs-subst nil w h = tt
-    wfs-subst (cons t ts) w h = (wf-subst t (w .0) (λ x i. h x (Memᴰ·append-left (variables-of ts) i)), wfs-subst ts (w .1) (λ x i. h x (Memᴰ·append-right (variables t) i)))
+    wfs-subst (cons t ts) w h =
+        (wf-subst t (w .0) (λ x i. h x (Memᴰ·append-left (variables-of ts) i)), wfs-subst ts (w .1) (λ x i. h x (Memᴰ·append-right (variables t) i)))
 
   pub wf-subst-below : ((x : ℕ) → x < m → Wf n tab (σ x)) → (t : Term) → Wf m tab t → Wf n tab (subst-term σ t)
   wf-subst-below h t w = wf-subst t w (λ x i. h x (wf-below m tab t w x i))
@@ -124,7 +126,8 @@ count-replace : (ts : Terms) (p : ℕ) (v : Term) → count (replace-in ts p v) 
 unfolding count replace-in
 count-replace nil p v = refl
 count-replace (cons t ts) p v =
-    either-has (λ us. count us ≡ suc (count ts)) (ltb p (size t)) (cons (replace-at t p v) ts) (cons t (replace-in ts (p - size t) v)) refl (ap suc (count-replace ts (p - size t) v))
+    either-has (λ us. count us ≡ suc (count ts)) (ltb p (size t)) (cons (replace-at t p v) ts) (cons t (replace-in ts (p - size t) v)) refl
+    (ap suc (count-replace ts (p - size t) v))
 
 mutual
   unfolding replace-at replace-in Wf Wfs
@@ -138,4 +141,5 @@ mutual
   wfs-replace : (n : ℕ) (tab : List ℕ) (ts : Terms) → Wfs n tab ts → (p : ℕ) (v : Term) → Wf n tab v → Wfs n tab (replace-in ts p v)
   wfs-replace n tab nil w p v h = tt
   wfs-replace n tab (cons t ts) w p v h =
-      either-has (Wfs n tab) (ltb p (size t)) (cons (replace-at t p v) ts) (cons t (replace-in ts (p - size t) v)) (wf-replace n tab t (w .0) p v h, w .1) (w .0, wfs-replace n tab ts (w .1) (p - size t) v h)
+      either-has (Wfs n tab) (ltb p (size t)) (cons (replace-at t p v) ts) (cons t (replace-in ts (p - size t) v))
+      (wf-replace n tab t (w .0) p v h, w .1) (w .0, wfs-replace n tab ts (w .1) (p - size t) v h)

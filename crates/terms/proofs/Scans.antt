@@ -51,7 +51,8 @@ mutual
   skip-bytes m tab (var x) w rest n = rw (owes-other tab (0x80 + x) (omega arith), zero-add n) (omega arith)
   skip-bytes m tab (node f ts) w rest n = rw (owes-symbol tab f (w .0), ← w .1) (omega (arith, skip-bytes-all m tab ts (w .2) rest n))
 
-  pub skip-bytes-all : (m : ℕ) (tab : List ℕ) (ts : Terms) → Wfs m tab ts → (rest : List ℕ) (n : ℕ) → skip tab (terms-bytes ts ++ rest) (count ts + n) ≡ sizes ts + skip tab rest n
+  pub skip-bytes-all : (m : ℕ) (tab : List ℕ) (ts : Terms) → Wfs m tab ts → (rest : List ℕ) (n : ℕ) →
+      skip tab (terms-bytes ts ++ rest) (count ts + n) ≡ sizes ts + skip tab rest n
   skip-bytes-all m tab nil w rest n = rw (zero-add n) (omega arith)
   skip-bytes-all m tab (cons t ts) w rest n =
       rw (append-assoc, suc-add (count ts) n)

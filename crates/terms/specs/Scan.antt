@@ -9,11 +9,11 @@ use Rattle.terms.specs.Base.{if_then_else_}
 use Rattle.terms.specs.declared.Ends.{Ends}
 use Rattle.terms.specs.declared.Ends.the-variants.{At, Bad}
 
--- A table has two bytes a symbol: its arity and its rank.
+-- A table has two bytes a symbol: its arity and its rank [3.3].
 abbrev pub arity : List ℕ → ℕ → ℕ
 arity tab f = getD tab (f + f) 0
 
--- how many subterms follow the byte b
+-- how many subterms follow the byte b [2.5]
 unfoldable pub owes : List ℕ → ℕ → ℕ
 owes tab b = if ltb b most-symbols then arity tab b else 0
 
@@ -23,11 +23,11 @@ skip tab [] n = 0
 skip tab (b ∷ l) zero = 0
 skip tab (b ∷ l) (suc n) = suc (skip tab l (owes tab b + n))
 
--- "Symbol n (0 to 15) is byte n. Variable n (0 to 15) is byte 80 + n.", over the symbols of the table
+-- "Symbol n (0 to 15) is byte n. Variable n (0 to 15) is byte 80 + n.", over the symbols of the table [2.3, 2.4]
 unfoldable pub is-node : List ℕ → ℕ → Bool
 is-node tab b = ltb (b + b) (length tab) || leb 0x80 b && leb b 0x8f
 
--- the end of the next n subterms, or the place of a byte that is no node; where the bytes end first, their end
+-- the end of the next n subterms, or the place of a byte that is no node; where the bytes end first, their end [2.9, 4.10]
 unfoldable pub scan : List ℕ → List ℕ → ℕ → ℕ → Ends
 scan tab [] i zero = At i
 scan tab [] i (suc n) = Bad i

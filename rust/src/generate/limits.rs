@@ -3,7 +3,7 @@
 use super::random::Random;
 use super::terms::{assemble, push_term, symbols};
 use crate::notation::Theory;
-use crate::theories::{descents, endless_rules, many_variables, power, products};
+use crate::theories::{self, descents, endless_rules, many_variables, power, products};
 
 /// Two left sides whose common instance doubles with each argument pair.
 pub fn doubling_overlap(random: &mut Random) -> Vec<u8> {
@@ -29,19 +29,16 @@ pub fn size(random: &mut Random) -> Vec<u8> {
     match random.below(5) {
         0 => growth(random).problem(budget),
         1 => long_peaks(random).problem(budget),
-        2 => large_left(random).problem(budget),
-        3 => large_right(random).problem(budget),
+        2 => theories::large_left(random.between(40, 70)).problem(budget),
+        3 => theories::large_right(random.between(40, 70)).problem(budget),
         _ => exponential(random).problem(budget),
     }
 }
 
 /// d(s(x)) = s(s(d(x))) on nested d: doubles with each d.
 fn growth(random: &mut Random) -> Theory {
-    let (d, s) = (random.between(1, 7), random.between(1, 4));
-    let nested = power("d", d, &power("s", s, "0"));
-    Theory::new("0/0/0 s/1/1 d/1/2 a/0/3")
-        .equations(&["d(0) = 0", "d(s(x)) = s(s(d(x)))"])
-        .equation(&format!("{nested} = a"))
+    let d = random.between(1, 7);
+    theories::growing(d, random.between(1, 4))
 }
 
 /// f^n(x) = f^m(x): peaks up to 2n nodes that all join.
@@ -51,22 +48,6 @@ fn long_peaks(random: &mut Random) -> Theory {
     let inside = *random.pick(&["x", "x", "g(x)"]);
     let left = power("f", n, inside);
     Theory::new("f/1/0 g/1/1").equation(&format!("{left} = {}", power("f", m, "x")))
-}
-
-/// An inner rule that copies a large part of the outer left side.
-fn large_left(random: &mut Random) -> Theory {
-    let part = power("s", random.between(40, 70), "0");
-    Theory::new("0/0/0 s/1/1 t/2/2 h/2/3 k/2/4")
-        .equation(&format!("k(h({part},z),z) = 0"))
-        .equation("h(x,0) = t(x,x)")
-}
-
-/// An outer rule that copies a large part of the inner left side.
-fn large_right(random: &mut Random) -> Theory {
-    let part = power("s", random.between(40, 70), "0");
-    Theory::new("0/0/0 s/1/1 t/2/2 h/1/3 k/1/4")
-        .equation(&format!("h({part}) = 0"))
-        .equation("k(h(x)) = t(x,x)")
 }
 
 /// Trees that double at each step.
@@ -84,13 +65,7 @@ pub fn variables(random: &mut Random) -> Vec<u8> {
     if random.once_in(2) {
         return many_variables(extra).problem(budget);
     }
-    let list = (0..extra).map(|i| format!("z{i}"));
-    let tuple = list.rfold("c".to_string(), |rest, z| format!("t({z},{rest})"));
-    let symbols = "c/0/0 t/2/1 q/2/2 g/4/3 f/4/4 h/1/5 k/2/6";
-    let theory = Theory::new(symbols).equation("h(f(x,y,z,w)) = g(w,x,y,z)");
-    theory
-        .equation(&format!("k(h(y),{tuple}) = q(y,{tuple})"))
-        .problem(budget)
+    theories::many_variables_oriented(extra).problem(budget)
 }
 
 /// Too many rules or entries; the long runs are rare.

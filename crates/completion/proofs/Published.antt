@@ -1,0 +1,239 @@
+-- The run is a derivation by the published transitions: each turn that goes on leads from a state's equations and rules to the next one's, the first
+-- state's are the input equations, and with end 0 no equation is left. On the way: the test of input equations at the scan never finds anything.
+-- Assumes nothing.
+-- Read first: specs/Transitions, specs/Systems, proofs/Derived, proofs/Soundness.
+use mathlib.Core.Path.{_≡_, refl, sym, ap, ap₂, subst, subst₂, _∙_}
+use mathlib.Core.Bool.{false≢true}
+use mathlib.Core.Logic.{⊎-elim}
+use mathlib.Core.List.{List, [], _∷_, _++_, append-assoc, append-nil, List·Memᴰ, List·Memᴰ·not-nil, Memᴰ·append-left}
+use Prim.Native.Nat.{ℕ, suc}
+use Rattle.terms.specs.Base.{Every}
+use Rattle.terms.specs.Term.{Pair}
+use Rattle.terms.proofs.Shape.{same-dec}
+use Rattle.terms.proofs.Below.{swapped}
+use Rattle.terms.proofs.Every.{every-in, every-head}
+use Rattle.rewriting.specs.Overlap.{Rule, sides-of, Overlap, Place}
+use Rattle.rewriting.specs.Rewrite.{complete, done}
+use Rattle.rewriting.proofs.Relations.{Of, Step, Conv}
+use Rattle.rewriting.proofs.Converge.{conv-conv}
+use Rattle.rewriting.proofs.Sound.{sound-itself}
+use Rattle.rewriting.proofs.Stepping.{step-none}
+use Rattle.rewriting.proofs.Covers.{of-every}
+use Rattle.rewriting.proofs.Holds.{Forms, reached-star}
+use Rattle.problem.specs.Problem.{rank-of, Equation, Problem}
+use Rattle.completion.specs.Turn.{Origin, waiting-input, removed-rule, scanned-input, overlapping, Candidate, State, Taken, candidates, initial}
+use Rattle.completion.specs.Turn.{kept, removed, settled, turn, run}
+use Rattle.completion.specs.Transitions.{Properly, System, _⨾_, pair, Reordered, unmoved, behind, moved, delete, orient, reorder, turn-round}
+use Rattle.completion.specs.Transitions.{rename-rule, Derivation, written}
+use Rattle.completion.specs.Systems.{if-removed, waiting-equations, waiting-rules, together, system-of, given}
+use Rattle.completion.proofs.Sentences.{new-rule, next-state}
+use Rattle.completion.proofs.Words.{equation-sides}
+use Rattle.completion.proofs.Ends.{OverlapsSame, none≢waiting, Scanned, inputs, Source, of-waiting, of-overlap, of-input, Takes, Oriented}
+use Rattle.completion.proofs.Ends.{as-taken, other-way}
+use Rattle.completion.proofs.Ends.{Rights, Next, settles, makes}
+use Rattle.completion.proofs.Reachable.{Reachable, from-start, by-turn, turn-next}
+use Rattle.completion.proofs.Stopped.{run-stops, run-complete}
+use Rattle.completion.proofs.Closed.{candidates-every}
+use Rattle.completion.proofs.Invariant.{Good, GoodRules, Equal, good-closed, reachable-good}
+use Rattle.completion.proofs.AtEnd.{overlaps-same-join}
+use Rattle.completion.proofs.Reorders.{with-behind, with-before, put-back, exchanged, reordered-eq}
+use Rattle.completion.proofs.Soundness.{Both, Falls, derivation-falls, derived-sound, derived-falls}
+use Rattle.completion.proofs.Deriving.{derives, same-as, by-one, none-more}
+use Rattle.completion.proofs.Confluent.{conv-same-last}
+use Rattle.completion.proofs.Postponed.{ReducesRemoved, Postponed, reachable-postponed}
+use Rattle.completion.proofs.Encompassed.{FreeRemoved, reachable-free}
+use Rattle.completion.proofs.Derived.{renamed-variants, sides-append, inputs-derive, waiting-derives, overlap-derives, kept-removed}
+use Rattle.completion.proofs.Derived.{removed-no-equation, rights-derive}
+
+-- Of inputs, none is a removed rule.
+inputs-no-rule : (n : ℕ) (es : List Equation) → waiting-rules (candidates waiting-input n es) ≡ []
+unfolding candidates waiting-rules if-removed
+inputs-no-rule n [] = refl
+inputs-no-rule n (e ∷ es) = inputs-no-rule (suc n) es
+
+-- What waits, in two parts.
+if-removed-map : {A B : Type 0} (f : A → B) (o : Origin) (a b : A) → if-removed o (f a) (f b) ≡ f (if-removed o a b)
+unfolding if-removed
+if-removed-map f (waiting-input n) a b = refl
+if-removed-map f (removed-rule n) a b = refl
+if-removed-map f (scanned-input n) a b = refl
+if-removed-map f (overlapping i o p) a b = refl
+
+equations-append : (a b : List Candidate) → waiting-equations (a ++ b) ≡ waiting-equations a ++ waiting-equations b
+unfolding waiting-equations
+equations-append [] b = refl
+equations-append (c ∷ a) b =
+    ap (λ l. if-removed (c .origin) l (c .sides ∷ l)) (equations-append a b) ∙ if-removed-map (λ l. l ++ waiting-equations b) (c .origin)
+    (waiting-equations a) (c .sides ∷ waiting-equations a)
+
+rules-append : (a b : List Candidate) → waiting-rules (a ++ b) ≡ waiting-rules a ++ waiting-rules b
+unfolding waiting-rules
+rules-append [] b = refl
+rules-append (c ∷ a) b =
+    ap (λ l. if-removed (c .origin) (c .sides ∷ l) l) (rules-append a b) ∙ if-removed-map (λ l. l ++ waiting-rules b) (c .origin)
+    (c .sides ∷ waiting-rules a) (waiting-rules a)
+
+-- Steps 4 to 7, from the pair taken among the equations.
+module _ (P : Problem) (E W : List Pair) (rules : List Rule) where
+  abbrev ranked : ℕ → ℕ
+  ranked = rank-of (P .symbols)
+
+  oriented-derives : (R : List Pair) (e f : Pair) → Oriented P e f → Derivation ranked Properly (e ∷ E ⨾ R) (E ⨾ f ∷ R)
+  oriented-derives R e f (as-taken a q) = rw q (by-one ranked (orient a) (written (rename-rule (renamed-variants e))))
+  oriented-derives R e f (other-way a q) = rw q (same-as ranked turn-round (by-one ranked (orient a) (written (rename-rule (renamed-variants (swapped e))))))
+
+  -- the new rule behind the kept ones, and the removed ones at the end
+  made-reordered : (new : Rule) →
+      Reordered (new .sides ∷ (sides-of rules ++ W)) (sides-of (kept new rules) ++ (new .sides ∷ (W ++ waiting-rules (removed new rules))))
+  made-reordered new =
+      let K : List Pair = sides-of (kept new rules) in
+      let X : List Pair = waiting-rules (removed new rules) in
+      moved (behind (moved (with-behind W (kept-removed new rules)) (moved (reordered-eq (append-assoc K X W)) (with-before K (exchanged X W)))))
+      (put-back (new .sides) K (W ++ X))
+
+  made-derives : (new : Rule) (composed : List Rule) → Falls ranked (new .sides ∷ (sides-of rules ++ W)) → Rights new (kept new rules) composed [] →
+      Derivation ranked Properly (E ⨾ new .sides ∷ (sides-of rules ++ W)) (E ⨾ sides-of (composed ++ (new ∷ [])) ++ (W ++ waiting-rules (removed new rules)))
+  made-derives new composed f r =
+      let X : List Pair = W ++ waiting-rules (removed new rules) in
+      let start : Derivation ranked Properly (E ⨾ new .sides ∷ (sides-of rules ++ W)) (E ⨾ sides-of (kept new rules) ++ (new .sides ∷ X)) =
+      written (reorder unmoved (made-reordered new)) in
+      let q : sides-of (composed ++ []) ++ (new .sides ∷ X) ≡ sides-of (composed ++ (new ∷ [])) ++ X =
+      ap (λ l. sides-of l ++ (new .sides ∷ X)) (append-nil composed) ∙ sym (append-assoc (sides-of composed) (new .sides ∷ []) X) ∙ ap (λ l. l ++ X)
+      (sym (sides-append composed (new ∷ []))) in
+      derives ranked start
+      (subst (λ l. Derivation ranked Properly (E ⨾ sides-of (kept new rules) ++ (new .sides ∷ X)) (E ⨾ l)) q
+      (rights-derive ranked E X new r (derivation-falls ranked start f)))
+
+module _ (P : Problem) where
+  abbrev rank : ℕ → ℕ
+  rank = rank-of (P .symbols)
+
+  pub initial-derived : Derivation rank Properly (given P) (system-of (initial P))
+  unfolding initial together
+  initial-derived =
+      subst₂ (Derivation rank Properly)
+      (ap (λ E. E ⨾ []) (append-nil (equation-sides (P .equations))))
+      (ap₂ _⨾_ (append-nil _) (sym (inputs-no-rule 1 (P .equations))))
+      (inputs-derive rank 1 (P .equations) [] [])
+
+  -- Where nothing waits, the live rules are all.
+  idle-system : (s : State) → s .waiting ≡ [] → system-of s ≡ ([] ⨾ sides-of (s .rules))
+  unfolding together waiting-equations waiting-rules
+  idle-system s w = rw w (ap (λ R. [] ⨾ R) (append-nil (sides-of (s .rules))))
+
+  module _ (s : State) (derived : Derivation rank Properly (given P) (system-of s)) (good : GoodRules P (s .rules)) where
+    -- When all overlaps have one form, so has each input equation.
+    never-found : s .waiting ≡ [] → OverlapsSame (s .rules) → (c : Candidate) → List·Memᴰ c (inputs P) → (f : Pair) → Forms (s .rules) (c .sides) f →
+        f .left ≡ f .right
+    never-found w same-forms c i f h =
+        let rules : List Pair = sides-of (s .rules) in
+        let equal : Equal P (c .sides) = every-in (candidates-every (Equal P) scanned-input 1 (P .equations) (good-closed P .given)) i in
+        let now : Conv (Step (Both ([] ⨾ rules))) (c .sides .left) (c .sides .right) =
+        derived-sound rank (subst (Derivation rank Properly (given P)) (idle-system s w) derived) _ _ .0 equal in
+        let by-rules : Conv (Step (Of rules)) (c .sides .left) (c .sides .right) =
+        conv-conv (λ l r j. sound-itself (Of rules) l r (⊎-elim (λ k. absurd (List·Memᴰ·not-nil k)) (λ k. k) j)) now in
+        conv-same-last rank rules (λ l r j. of-every (Good P) good l r j .down) (λ l r j. of-every (Good P) good l r j .low)
+        (overlaps-same-join (s .rules) same-forms)
+        _ _ (f .left) (f .right) by-rules
+        (reached-star (h .left .reached)) (step-none (s .rules) (f .left) (h .left .normal))
+        (reached-star (h .right .reached)) (step-none (s .rules) (f .right) (h .right .normal))
+
+    -- So the scan takes none, for what it takes has two different forms;
+    never-taken : (t : Taken) → (h : Takes P s t) → s .waiting ≡ [] → OverlapsSame (s .rules) → List·Memᴰ (h .of) (inputs P) → ⊥
+    never-taken t h w same-forms i =
+        let e : t .pair .sides .left ≡ t .pair .sides .right = never-found w same-forms (h .of) i (t .pair .sides) (h .forms) in
+        false≢true (sym (h .scanned w) ∙ same-dec (t .pair .sides .left) (t .pair .sides .right) .1 e)
+
+    -- and what a turn takes enters the equations, in its forms.
+    abbrev taking : Taken → System
+    taking t = t .pair .sides ∷ waiting-equations (t .waiting) ⨾ sides-of (s .rules) ++ waiting-rules (t .waiting)
+
+    taken-derives : Postponed s → Every (FreeRemoved (s .rules)) (s .waiting) → (t : Taken) → Takes P s t →
+        Derivation rank Properly (system-of s) (taking t)
+    unfolding together
+    taken-derives p free t h = go (h .source)
+      where
+        go : Source P s (h .of) (t .waiting) → Derivation rank Properly (system-of s) (taking t)
+        go (of-waiting e) =
+            subst (λ l. Derivation rank Properly (waiting-equations l ⨾ sides-of (s .rules) ++ waiting-rules l) (taking t)) (sym e)
+            (waiting-derives rank (s .rules) (t .waiting) (h .of) (t .pair .sides) (every-head (subst (Every (ReducesRemoved (s .rules))) e p))
+            (every-head (subst (Every (FreeRemoved (s .rules))) e free)) (h .forms))
+        go (of-overlap at o z small e q) =
+            subst (λ l. Derivation rank Properly (waiting-equations l ⨾ sides-of (s .rules) ++ waiting-rules l) (taking t)) (q ∙ sym (z .idle))
+            (overlap-derives rank (s .rules) (sides-of (s .rules) ++ waiting-rules (t .waiting)) (λ l r i. Memᴰ·append-left _ i) at o (z .listed)
+            (z .is) (waiting-equations (t .waiting)) (t .pair .sides)
+            (subst (λ (c : Candidate). Forms (s .rules) (c .sides) (t .pair .sides)) e (h .forms)))
+        go (of-input w a i q) = absurd (never-taken t h w a i)
+
+    -- step 3
+    settled-derives : (t : Taken) → t .pair .sides .left ≡ t .pair .sides .right → Derivation rank Properly (system-of s) (taking t) →
+        Derivation rank Properly (system-of s) (system-of (settled s t))
+    unfolding together settled
+    settled-derives t q d =
+        let E : List Pair = waiting-equations (t .waiting) in
+        let R : List Pair = sides-of (s .rules) ++ waiting-rules (t .waiting) in
+        derives rank d (subst (λ z. Derivation rank Properly (pair (t .pair .sides .left) z ∷ E ⨾ R) (E ⨾ R)) q (by-one rank delete (none-more rank)))
+
+    -- steps 4 to 7
+    rule-derives : (t : Taken) → Derivation rank Properly (system-of s) (taking t) → (sides : Pair) → Oriented P (t .pair .sides) sides →
+        (composed : List Rule) → Rights (new-rule s sides) (kept (new-rule s sides) (s .rules)) composed [] →
+        Derivation rank Properly (system-of s) (system-of (next-state s t sides (composed ++ (new-rule s sides ∷ []))))
+    unfolding together
+    rule-derives t d sides o composed r =
+        let new : Rule = new-rule s sides in
+        let E : List Pair = waiting-equations (t .waiting) in
+        let W : List Pair = waiting-rules (t .waiting) in
+        let c : Derivation rank Properly (system-of s) (E ⨾ sides ∷ (sides-of (s .rules) ++ W)) =
+        derives rank d (oriented-derives P E W (s .rules) (sides-of (s .rules) ++ W) (t .pair .sides) sides o) in
+        let falls : Falls rank (sides ∷ (sides-of (s .rules) ++ W)) = derived-falls rank (derives rank derived c) in
+        let E-is : E ≡ waiting-equations (t .waiting ++ removed new (s .rules)) =
+        sym (equations-append (t .waiting) (removed new (s .rules)) ∙ ap (λ l. E ++ l) (removed-no-equation new (s .rules)) ∙ append-nil E) in
+        let W-is : W ++ waiting-rules (removed new (s .rules)) ≡ waiting-rules (t .waiting ++ removed new (s .rules)) =
+        sym (rules-append (t .waiting) (removed new (s .rules))) in
+        subst₂ (λ a b. Derivation rank Properly (system-of s) (a ⨾ sides-of (composed ++ (new ∷ [])) ++ b)) E-is W-is
+        (derives rank c (made-derives P E W (s .rules) new composed falls r))
+
+    next-derives : Postponed s → Every (FreeRemoved (s .rules)) (s .waiting) → (s′ : State) → Next P s s′ →
+        Derivation rank Properly (system-of s) (system-of s′)
+    next-derives p free s′ (settles t h room q e) = rw e (settled-derives t q (taken-derives p free t h))
+    next-derives p free s′ (makes t h room n few sides o live composed r e) = rw e (rule-derives t (taken-derives p free t h) sides o composed r)
+
+  -- Every state of a run is derived from the input equations,
+  pub reachable-derived : {s : State} {left : ℕ} → Reachable P s left → Derivation rank Properly (given P) (system-of s)
+  reachable-derived (from-start e b) = rw e initial-derived
+  reachable-derived (by-turn {s} {s′} {left} {left′} r e) =
+      let d : Derivation rank Properly (given P) (system-of s) = reachable-derived r in
+      derives rank d (next-derives s d (reachable-good P r) (reachable-postponed P r) (reachable-free P r) s′ (turn-next P s s′ left left′ e))
+
+  -- each turn that goes on by transitions from the state before it,
+  pub turn-derives : {s : State} {left : ℕ} → Reachable P s left → (s′ : State) (left′ : ℕ) → turn P s left ≡ done s′ left′ →
+      Derivation rank Properly (system-of s) (system-of s′)
+  turn-derives {s} {left} r s′ left′ e =
+      next-derives s (reachable-derived r) (reachable-good P r) (reachable-postponed P r) (reachable-free P r) s′ (turn-next P s s′ left left′ e)
+
+  -- and so is what the run leaves; with end 0, as rules without an equation.
+  pub run-derived : Derivation rank Properly (given P) (system-of (run P .state))
+  run-derived = reachable-derived (run-stops P .reachable)
+
+  pub complete-derived : run P .end ≡ complete → Derivation rank Properly (given P) ([] ⨾ sides-of (run P .state .rules))
+  complete-derived e = subst (Derivation rank Properly (given P)) (idle-system (run P .state) (run-complete P e .idle)) run-derived
+
+  -- The test of input equations at the scan finds nothing: each has one normal form once all overlaps have.
+  pub inputs-same-forms : {s : State} {left : ℕ} → Reachable P s left → s .waiting ≡ [] → OverlapsSame (s .rules) → (c : Candidate) →
+      List·Memᴰ c (inputs P) → (f : Pair) → Forms (s .rules) (c .sides) f → f .left ≡ f .right
+  inputs-same-forms {s} r = never-found s (reachable-derived r) (reachable-good P r)
+
+  -- So what the scan takes is an overlap: no pair of kind 3 is ever taken.
+  pub record OverlapTaken (s : State) (t : Taken) : Type 0 where
+    pub at : Place
+    pub overlap : Overlap
+    pub scanned : Scanned s at overlap
+    pub origin : t .pair .origin ≡ overlapping (at .inner .number) (at .outer .number) (at .position)
+
+  pub scan-takes-overlap : {s : State} {left : ℕ} → Reachable P s left → s .waiting ≡ [] → (t : Taken) → Takes P s t → OverlapTaken s t
+  scan-takes-overlap {s} r w t h = go (h .source)
+    where
+      go : Source P s (h .of) (t .waiting) → OverlapTaken s t
+      go (of-waiting e) = absurd (none≢waiting (sym w ∙ e))
+      go (of-overlap at o z small e q) = record { at = at; overlap = o; scanned = z; origin = h .origin ∙ ap (λ (c : Candidate). c .origin) e }
+      go (of-input w′ a i q) = absurd (never-taken s (reachable-derived r) (reachable-good P r) t h w′ a i)
