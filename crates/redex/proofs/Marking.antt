@@ -11,6 +11,7 @@ use lib.Dec.{ltb}
 use borrow.Author.Tests.{ltb-true, ltb-false}
 use lib.ListN.{length, getD, drop, take, length-append}
 use lib.Seq.{take-at, drop-append-add}
+use Rattle.limits.specs.Limits.{most-apart, most-variables}
 use Rattle.terms.specs.Base.{mapped, or-else}
 use Rattle.terms.specs.Term.{Term, Terms, var, node, nil, cons, term-bytes, terms-bytes, size, sizes, subst-term, subst-terms}
 use Rattle.terms.specs.Flat.{Wf, Wfs}
@@ -100,36 +101,41 @@ module _ (rs : List Rule) where
   -- at every place of a normal term's cells stands a normal term
   record Inner (tab l : List ℕ) : Type 0 where
     term : Term
-    wf : Wf 32 tab term
+    wf : Wf most-apart tab term
     rest : List ℕ
     text : l ≡ cells term ++ rest
     normal : step rs term ≡ none
 
-  inner-cons : (tab : List ℕ) (t : Term) (ts : Terms) (k : ℕ) (post : List ℕ) → (k < size t → Inner tab (drop k (cells t ++ (cells-all ts ++ post)))) → (size t ≤ k → Inner tab (drop (k - size t) (cells-all ts ++ post))) →
+  inner-cons : (tab : List ℕ) (t : Term) (ts : Terms) (k : ℕ) (post : List ℕ) →
+      (k < size t → Inner tab (drop k (cells t ++ (cells-all ts ++ post)))) → (size t ≤ k → Inner tab (drop (k - size t) (cells-all ts ++ post))) →
       (b : Bool) → ltb k (size t) ≡ b → Inner tab (drop k ((cells t ++ cells-all ts) ++ post))
   inner-cons tab t ts k post f g true e = subst (λ l. Inner tab (drop k l)) (sym (append-assoc (cells t) (cells-all ts) post)) (f (ltb-true k (size t) e))
   inner-cons tab t ts k post f g false e =
       let h : size t ≤ k = ltb-false k (size t) e in
       let n : length (cells t) + (k - size t) ≡ k = omega (arith, length-cells t) in
       let q : drop k ((cells t ++ cells-all ts) ++ post) ≡ drop (k - size t) (cells-all ts ++ post) =
-      ap (drop k) (append-assoc (cells t) (cells-all ts) post) ∙ ap (λ z. drop z (cells t ++ (cells-all ts ++ post))) (sym n) ∙ drop-append-add (cells t) (cells-all ts ++ post) (k - size t) in
+      ap (drop k) (append-assoc (cells t) (cells-all ts) post) ∙ ap (λ z. drop z (cells t ++ (cells-all ts ++ post))) (sym n)
+      ∙ drop-append-add (cells t) (cells-all ts ++ post) (k - size t) in
       subst (λ l. Inner tab l) (sym q) (g h)
 
   mutual
     unfolding cells size Wf
 
-    inner-at : (tab : List ℕ) (t : Term) (k : ℕ) (post : List ℕ) → Wf 32 tab t → step rs t ≡ none → k < size t → Inner tab (drop k (cells t ++ post))
+    inner-at : (tab : List ℕ) (t : Term) (k : ℕ) (post : List ℕ) → Wf most-apart tab t → step rs t ≡ none → k < size t → Inner tab (drop k (cells t ++ post))
     inner-at tab (var y) zero post w n h = record { term = var y; wf = w; rest = post; text = refl; normal = n }
     inner-at tab (var y) (suc k) post w n h = absurd (omega arith)
     inner-at tab (node f ts) zero post w n h = record { term = node f ts; wf = w; rest = post; text = refl; normal = n }
     inner-at tab (node f ts) (suc k) post w n h = inner-in tab ts k post (w .2) (node-none f ts n) (omega arith)
 
-    inner-in : (tab : List ℕ) (ts : Terms) (k : ℕ) (post : List ℕ) → Wfs 32 tab ts → step-in rs ts ≡ none → k < sizes ts → Inner tab (drop k (cells-all ts ++ post))
+    inner-in : (tab : List ℕ) (ts : Terms) (k : ℕ) (post : List ℕ) → Wfs most-apart tab ts → step-in rs ts ≡ none → k < sizes ts →
+        Inner tab (drop k (cells-all ts ++ post))
     inner-in tab nil k post w n h = absurd (omega arith)
     inner-in tab (cons t ts) k post w n h =
-        inner-cons tab t ts k post (λ l. inner-at tab t k (cells-all ts ++ post) (w .0) (cons-none t ts n .0) l) (λ l. inner-in tab ts (k - size t) post (w .1) (cons-none t ts n .1) (omega arith)) (ltb k (size t)) refl
+        inner-cons tab t ts k post (λ l. inner-at tab t k (cells-all ts ++ post) (w .0) (cons-none t ts n .0) l)
+        (λ l. inner-in tab ts (k - size t) post (w .1) (cons-none t ts n .1) (omega arith)) (ltb k (size t)) refl
 
-  below-normal : (tab T : List ℕ) (x : Term) (post : List ℕ) → Wf 32 tab x → T ≡ cells x ++ post → ArgumentsNormal rs x → (k : ℕ) (u : Term) → Stands tab T (size x) (suc k) u → step rs u ≡ none
+  below-normal : (tab T : List ℕ) (x : Term) (post : List ℕ) → Wf most-apart tab x → T ≡ cells x ++ post → ArgumentsNormal rs x → (k : ℕ) (u : Term) →
+      Stands tab T (size x) (suc k) u → step rs u ≡ none
   unfolding cells size Wf
   below-normal tab T (var y) post w e h k u s = absurd (let i = s .inside in omega (arith, size-pos u))
   below-normal tab T (node f ts) post w e h k u s =
@@ -138,7 +144,9 @@ module _ (rs : List Rule) where
       subst (λ z. step rs z ≡ none) q (v .normal)
 
   -- what is put for a right side
-  module _ (tab T B : List ℕ) (x : Term) (post : List ℕ) (w : Wf 32 tab x) (e : T ≡ cells x ++ post) (an : ArgumentsNormal rs x) (bs : List Binding) (rep : Rep tab T (size x) B bs) where
+  module _
+      (tab T B : List ℕ) (x : Term) (post : List ℕ) (w : Wf most-apart tab x) (e : T ≡ cells x ++ post) (an : ArgumentsNormal rs x)
+      (bs : List Binding) (rep : Rep tab T (size x) B bs) where
     slot-marked : (y k : ℕ) (o : Option Term) → Slot tab T (size x) k o → Marked rs (piece-at T (128 + y) k) (bound-or-variable y o)
     unfolding piece-at bound-or-variable
     slot-marked y zero none s = leaf refl
@@ -167,14 +175,14 @@ module _ (rs : List Rule) where
     mutual
       unfolding pieces term-bytes subst-term Wf Wfs
 
-      term-marked : (r : Term) → Wf 16 tab r → Marked rs (pieces T B (term-bytes r)) (subst-term (by bs) r)
+      term-marked : (r : Term) → Wf most-variables tab r → Marked rs (pieces T B (term-bytes r)) (subst-term (by bs) r)
       term-marked (var y) v = subst (λ l. Marked rs l (bound-or-variable y (bound bs y))) (sym (append-nil (piece T B (128 + y)))) (variable-marked y v)
       term-marked (node f ts) v = visit (ap (λ z. z ++ pieces T B (terms-bytes ts)) (symbol-piece f (v .0))) (terms-marked ts (v .2))
 
-      terms-marked : (ts : Terms) → Wfs 16 tab ts → MarkedAll rs (pieces T B (terms-bytes ts)) (subst-terms (by bs) ts)
+      terms-marked : (ts : Terms) → Wfs most-variables tab ts → MarkedAll rs (pieces T B (terms-bytes ts)) (subst-terms (by bs) ts)
       terms-marked nil v = no-more refl
       terms-marked (cons t ts) v = more (pieces-append (term-bytes t) (terms-bytes ts)) (term-marked t (v .0)) (terms-marked ts (v .1))
 
-    pub instance-marked : (right : List ℕ) (r : Term) → Wf 16 tab r → right ≡ term-bytes r → Marked rs (pieces T B right) (instantiate bs r)
+    pub instance-marked : (right : List ℕ) (r : Term) → Wf most-variables tab r → right ≡ term-bytes r → Marked rs (pieces T B right) (instantiate bs r)
     unfolding instantiate
     instance-marked right r v d = subst (λ l. Marked rs (pieces T B l) (instantiate bs r)) (sym d) (term-marked r v)

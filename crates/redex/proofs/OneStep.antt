@@ -1,6 +1,7 @@
 -- `rewrite` by its returns: no rule, no unit left, too large, or the instance with what follows; the instance is well-formed. Assumes nothing.
--- Read first: specs/Step (FoundRule, Rewritten), matching/specs/Pieces (Put), proofs/Marking.
+-- Read first: specs/Step (FoundRule, RewritesRoot), matching/specs/Pieces (Put), proofs/Marking.
 use mathlib.Core.Path.{_≡_, refl, sym, _∙_, ap, ap₂, subst}
+use mathlib.Core.Bool.{Bool, true, false}
 use mathlib.Core.List.{List, _∷_, _++_}
 use mathlib.Core.Option.{Option, none, some}
 use Prim.Native.Nat.{ℕ, zero, suc, _+_, _-_, _*_, _%_, _<_, _≤_}
@@ -9,46 +10,45 @@ use lib.Dec.{ltb}
 use borrow.Author.Tests.{lt-ltb, le-ltb}
 use lib.ListN.{length, getD, drop, take, set, length-set, length-append}
 use lib.Seq.{drop-at, take-set-lt}
+use Rattle.limits.specs.Limits.{most-apart, most-variables}
 use Rattle.terms.specs.Term.{Term, size}
 use Rattle.terms.specs.Flat.{Wf}
 use Rattle.terms.proofs.Flats.{wf-subst-below}
+use Rattle.terms.proofs.Shape.{zero≢one}
 use Rattle.unify.specs.Unify.{Binding}
 use Rattle.rewriting.specs.Overlap.{Rule, sides-of}
-use Rattle.rewriting.specs.Rewrite.{bound, bound-or-variable, instantiate, root-step, end-number, spent, too-large, goes-on}
+use Rattle.rewriting.specs.Rewrite.{bound, bound-or-variable, instantiate, root-step}
 use Rattle.rewriting.proofs.Matching.{by}
 use Rattle.matching.specs.Cells.{cells, root-byte, cells-below, Stands}
 use Rattle.matching.specs.Held.{Slot, Rep, Within}
 use Rattle.matching.specs.Pieces.{Put, pieces, replaced}
 use Rattle.matching.proofs.Celled.{length-cells, cells-root, root-low}
+use Rattle.slots.specs.Slots.{slot, right-of, Stored}
 use Rattle.redex.specs.Marks.{Marked, ArgumentsNormal, open-cells}
-use Rattle.redex.specs.Stored.{Stored, right-side}
-use Rattle.redex.specs.Step.{Choice, FoundRule, out, rewritten, StepTested, Wrote, Rewritten}
+use Rattle.redex.specs.Step.{Choice, FoundRule, out, StepTested, Wrote, RewritesRoot}
 use Rattle.redex.specs.declared.Out.{Out}
+use Rattle.redex.specs.declared.Step.{Step}
+use Rattle.redex.specs.declared.Step.the-variants.{Normal, Rewritten, Spent, TooLarge}
 use Rattle.redex.proofs.Marking.{instance-marked, marked-length}
 use Rattle.redex.proofs.Choosing.{head-of}
 
 -- an instance is well-formed
-slot-wf : (tab T : List ℕ) (n x : ℕ) → x < 16 → (k : ℕ) (o : Option Term) → Slot tab T n k o → Wf 32 tab (bound-or-variable x o)
+slot-wf : (tab T : List ℕ) (n x : ℕ) → x < most-variables → (k : ℕ) (o : Option Term) → Slot tab T n k o → Wf most-apart tab (bound-or-variable x o)
 unfolding bound-or-variable Wf
 slot-wf tab T n x h zero none s = omega arith
 slot-wf tab T n x h zero (some u) s = absurd s
 slot-wf tab T n x h (suc k) none s = absurd s
 slot-wf tab T n x h (suc k) (some u) s = s .wf
 
-wf-instance : (tab T : List ℕ) (n : ℕ) (B : List ℕ) (bs : List Binding) → Rep tab T n B bs → (r : Term) → Wf 16 tab r → Wf 32 tab (instantiate bs r)
+wf-instance : (tab T : List ℕ) (n : ℕ) (B : List ℕ) (bs : List Binding) → Rep tab T n B bs → (r : Term) → Wf most-variables tab r →
+    Wf most-apart tab (instantiate bs r)
 unfolding instantiate
-wf-instance tab T n B bs rep r w = wf-subst-below 16 32 tab (by bs) (λ x h. slot-wf tab T n x h (getD B x 0) (bound bs x) (rep x h)) r w
-
--- the part of a slot that is its right side
-pub contracted-by : (rules lens t t′ B : List ℕ) (k len end most m w : ℕ) → m ≡ getD lens (2 * k + 1) 0 → Put t t′ 0 most w (replaced (take len t) B (take (240 * k + 120 + m - (240 * k + 120)) (drop (240 * k + 120) rules)) end) →
-    Put t t′ 0 most w (replaced (take len t) B (right-side rules lens k) end)
-unfolding right-side
-contracted-by rules lens t t′ B k len end most m w e p =
-    let g : 240 * k + 120 + m - (240 * k + 120) ≡ getD lens (2 * k + 1) 0 = omega arith in
-    subst (λ n. Put t t′ 0 most w (replaced (take len t) B (take n (drop (240 * k + 120) rules)) end)) g p
+wf-instance tab T n B bs rep r w =
+    wf-subst-below most-variables most-apart tab (by bs) (λ x h. slot-wf tab T n x h (getD B x 0) (bound bs x) (rep x h)) r w
 
 -- the root's cell with its size
-rooted : (tab t : List ℕ) (len end c : ℕ) (x : Term) (post : List ℕ) → 0 < len → c ≡ getD t 0 0 % 256 + 256 * end → Wf 32 tab x → take len t ≡ open-cells x ++ post → end ≡ size x → take len (set t 0 c) ≡ cells x ++ post
+rooted : (tab t : List ℕ) (len end c : ℕ) (x : Term) (post : List ℕ) → 0 < len → c ≡ getD t 0 0 % 256 + 256 * end → Wf most-apart tab x →
+    take len t ≡ open-cells x ++ post → end ≡ size x → take len (set t 0 c) ≡ cells x ++ post
 unfolding open-cells
 rooted tab t len end c x post h e w b d =
     let g : getD t 0 0 ≡ root-byte x = head-of t len 0 (root-byte x) (cells-below x ++ post) b in
@@ -56,109 +56,127 @@ rooted tab t len end c x post h e w b d =
     let q : c ≡ root-byte x + 256 * size x = omega arith in
     take-set-lt len t 0 c h ∙ ap (λ l. set l 0 c) b ∙ ap (λ z. z ∷ (cells-below x ++ post)) q ∙ ap (λ l. l ++ post) (sym (cells-root x))
 
-pub rewritten-as : (rules lens : List ℕ) (number : ℕ) (t t′ : List ℕ) (len end most units : ℕ) (o p : Out) → o ≡ p → Rewritten rules lens number t t′ len end most units p → Rewritten rules lens number t t′ len end most units o
-rewritten-as rules lens number t t′ len end most units o p e h = subst (λ z. Rewritten rules lens number t t′ len end most units z) (sym e) h
+-- the root's cell c has the size, and rule k was found
+pub record Tried (rules t : List ℕ) (number len end most k : ℕ) (B : List ℕ) (c : ℕ) : Type 0 where
+  pub cell : c ≡ getD t 0 0 % 256 + 256 * end
+  pub binds : List ℕ
+  pub found : FoundRule rules (take len (set t 0 c)) number k binds B
+  pub some-cell : 0 < end
+  pub ends : end ≤ len
+  pub small : len ≤ most
 
-module _ (rules lens t : List ℕ) (number len end most units k : ℕ) (B B′ T : List ℕ) (c : ℕ) (cv : c ≡ getD t 0 0 % 256 + 256 * end) (eT : T ≡ take len (set t 0 c)) (f : FoundRule rules lens T number k B B′) (z : 0 < end) (p : end ≤ len) (q : len ≤ most) where
-  text : (tab : List ℕ) (x : Term) (post : List ℕ) → Wf 32 tab x → take len t ≡ open-cells x ++ post → end ≡ size x → take len (set t 0 c) ≡ cells x ++ post
-  text tab x post w b d = rooted tab t len end c x post (omega arith) cv w b d
+pub tries : {rules t : List ℕ} {number len end most k : ℕ} {B₀ B T : List ℕ} {c : ℕ} → c ≡ getD t 0 0 % 256 + 256 * end → T ≡ take len (set t 0 c) →
+    FoundRule rules T number k B₀ B → 0 < end → end ≤ len → len ≤ most → Tried rules t number len end most k B c
+tries {rules} {number = number} {k = k} {B₀} {B} e q f z p s =
+    record { cell = e; binds = B₀; found = subst (λ l. FoundRule rules l number k B₀ B) q f; some-cell = z; ends = p; small = s }
 
-  stands : (tab : List ℕ) (x : Term) (post : List ℕ) → Wf 32 tab x → take len t ≡ open-cells x ++ post → end ≡ size x → Stands tab T (size x) 0 x
-  stands tab x post w b d = record { wf = w; rest = post; text = eT ∙ text tab x post w b d; inside = omega arith }
+module _ {rules t : List ℕ} {number len end most k : ℕ} {B : List ℕ} {c : ℕ} (g : Tried rules t number len end most k B c) where
+  abbrev T : List ℕ
+  T = take len (set t 0 c)
+
+  abbrev Answer : List ℕ → ℕ → Out → Type 0
+  Answer t′ units o =
+      (tab : List ℕ) (rs : List Rule) → Stored tab rules 0 (sides-of rs) → number ≡ length rs → (x : Term) (post : List ℕ) → Wf most-apart tab x →
+      take len t ≡ open-cells x ++ post → end ≡ size x → ArgumentsNormal rs x → Wrote tab rs t′ x post most units o (root-step rs x)
 
   -- no step: the length and the end stay
-  stays : (t′ : List ℕ) (v u : ℕ) → length t′ ≡ length t → (v ≡ rewritten → ⊥) → u ≤ units →
-      ((tab : List ℕ) (rs : List Rule) → Stored tab rules lens 0 (sides-of rs) → number ≡ length rs → (x : Term) (post : List ℕ) → Wf 32 tab x → take len t ≡ open-cells x ++ post → end ≡ size x → ArgumentsNormal rs x →
-      Wrote tab rs t′ x post most units (out v u len end) (root-step rs x)) → Rewritten rules lens number t t′ len end most units (out v u len end)
-  stays t′ v u s l h a = record { same = s; ends = p; small = q; left-over = h; paid = λ z. absurd (l z); place = λ z. (refl, refl); answer = a }
+  stays : {t′ : List ℕ} {v : Step} {u units : ℕ} {o : Out} → o ≡ out v u len end → length t′ ≡ length t → (v ≡ Rewritten → ⊥) → u ≤ units →
+      Answer t′ units (out v u len end) → RewritesRoot rules number t t′ len end most units o
+  stays {t′} {v} {u} {units} e s l h a = subst (λ o. RewritesRoot rules number t t′ len end most units o) (sym e) (record {
+    same = s;
+    ends = g .ends;
+    small = g .small;
+    left-over = h;
+    paid = λ z. absurd (l z);
+    place = λ z. (refl, refl);
+    answer = a;
+  })
 
-  pub step-none : k ≡ number → Rewritten rules lens number t (set t 0 c) len end most units (out goes-on units len end)
-  step-none e = stays (set t 0 c) goes-on units (length-set t 0 c) (λ z. omega arith) (omega arith) λ tab rs st n x post w b d nb.
-      subst (λ o. Wrote tab rs (set t 0 c) x post most units (out goes-on units len end) o) (sym (f .missing e tab rs st n x (stands tab x post w b d))) (refl, refl, text tab x post w b d)
+  pub found-within : (k ≡ number → ⊥) → Within T B
+  found-within ne = g .found .within (let i = g .found .bounded in omega arith)
+
+  module _
+      (tab : List ℕ) (rs : List Rule) (st : Stored tab rules 0 (sides-of rs)) (n : number ≡ length rs) (x : Term) (post : List ℕ)
+      (w : Wf most-apart tab x) (b : take len t ≡ open-cells x ++ post) (d : end ≡ size x) where
+    sized : T ≡ cells x ++ post
+    sized = rooted tab t len end c x post (let p = g .some-cell in let q = g .ends in omega arith) (g .cell) w b d
+
+    stands : Stands tab T (size x) 0 x
+    stands = record { wf = w; rest = post; text = sized; inside = omega arith }
+
+    chosen : (k ≡ number → ⊥) → Choice tab rules T B k x (root-step rs x)
+    chosen ne = g .found .lowest (let i = g .found .bounded in omega arith) tab rs st n x stands
+
+    -- the right side's instance is put in the redex's place
+    module _
+        (nb : ArgumentsNormal rs x) {v : ℕ} {t′ right : List ℕ} (er : right ≡ right-of (slot rules k))
+        (pt : Put (set t 0 c) t′ 0 most v (replaced T B right end)) (h : Choice tab rules T B k x (root-step rs x)) where
+      abbrev new : Term
+      new = instantiate (h .bindings) (h .rule .right)
+
+      marks : Marked rs (pieces T B right) new
+      marks =
+          let s = h .place .sides in
+          instance-marked rs tab T B x post w (sized) nb (h .bindings) (h .held) right (h .rule .right) (s .right-wf) (er ∙ s .right-bytes)
+
+      rest : drop end T ≡ post
+      rest = ap (drop end) (sized) ∙ drop-at (cells x) post end (length-cells x ∙ sym d)
+
+      put-length : length (replaced T B right end) ≡ size new + length post
+      put-length = length-append (pieces T B right) (drop end T) ∙ ap₂ _+_ (marked-length rs marks) (ap length rest)
+
+      tested : (m : ℕ) (o : Out) (a : Bool) → ltb most (size new + length post) ≡ a → StepTested tab rs t′ post m o new a →
+          Wrote tab rs t′ x post most (suc m) o (root-step rs x)
+      tested m o a e s =
+          subst (λ y. Wrote tab rs t′ x post most (suc m) o y) (sym (h .result)) (subst (λ a. StepTested tab rs t′ post m o new a) (sym e) s)
+
+      large : (m : ℕ) → most < v → Wrote tab rs t′ x post most (suc m) (out TooLarge m len end) (root-step rs x)
+      large m l = tested m _ true (lt-ltb most (size new + length post) (omega (arith, pt .over l, put-length))) (refl, refl)
+
+      done : (m : ℕ) → v ≤ most → Wrote tab rs t′ x post most (suc m) (out Rewritten m v 0) (root-step rs x)
+      done m l = tested m _ false (le-ltb most (size new + length post) (omega (arith, pt .next l, put-length))) (
+        refl,
+        refl,
+        record {
+          wf = wf-instance tab T (size x) B (h .bindings) (h .held) (h .rule .right) (h .place .sides .right-wf);
+          marks = pieces T B right;
+          marked = marks;
+          text = pt .cells l ∙ ap (λ z. pieces T B right ++ z) rest;
+        },
+      )
+
+  pub step-none : {units : ℕ} {o : Out} → o ≡ out Normal units len end → k ≡ number → RewritesRoot rules number t (set t 0 c) len end most units o
+  step-none {units} e q = stays e (length-set t 0 c) (λ z. zero≢one (cc)) (omega arith) λ tab rs st n x post w b d nb.
+      subst (λ y. Wrote tab rs (set t 0 c) x post most units (out Normal units len end) y)
+      (sym (g .found .missing q tab rs st n x (stands tab rs st n x post w b d))) (refl, refl, sized tab rs st n x post w b d)
 
   module _ (ne : k ≡ number → ⊥) where
-    chosen : (tab : List ℕ) (rs : List Rule) → Stored tab rules lens 0 (sides-of rs) → number ≡ length rs → (x : Term) (post : List ℕ) → Wf 32 tab x → take len t ≡ open-cells x ++ post → end ≡ size x → Choice tab rules lens T B′ k x (root-step rs x)
-    chosen tab rs st n x post w b d = f .lowest (let i = f .bounded in omega arith) tab rs st n x (stands tab x post w b d)
+    pub step-spent : {units : ℕ} {o : Out} → o ≡ out Spent 0 len end → units ≡ 0 → RewritesRoot rules number t (set t 0 c) len end most units o
+    step-spent {units} e u = stays e (length-set t 0 c) (λ z. zero≢one (cc)) (omega arith) λ tab rs st n x post w b d nb.
+        let h = chosen tab rs st n x post w b d ne in
+        subst (λ y. Wrote tab rs (set t 0 c) x post most units (out Spent 0 len end) y) (sym (h .result))
+        (subst (λ m. Wrote tab rs (set t 0 c) x post most m (out Spent 0 len end) (some (instantiate (h .bindings) (h .rule .right)))) (sym u) (refl, refl))
 
-    pub step-spent : units ≡ 0 → Rewritten rules lens number t (set t 0 c) len end most units (out (end-number spent) 0 len end)
-    unfolding end-number
-    step-spent u = stays (set t 0 c) (end-number spent) 0 (length-set t 0 c) (λ z. omega arith) (omega arith) λ tab rs st n x post w b d nb.
-        let h = chosen tab rs st n x post w b d in
-        subst (λ o. Wrote tab rs (set t 0 c) x post most units (out (end-number spent) 0 len end) o) (sym (h .result))
-        (subst (λ m. Wrote tab rs (set t 0 c) x post most m (out (end-number spent) 0 len end) (some (instantiate (h .bindings) (h .rule .right)))) (sym u) (refl, refl))
+    module _ {v : ℕ} {t′ right : List ℕ} (er : right ≡ right-of (slot rules k)) (pt : Put (set t 0 c) t′ 0 most v (replaced T B right end)) where
+      pub step-large : {units : ℕ} {o : Out} → o ≡ out TooLarge (units - 1) len end → (units ≡ 0 → ⊥) → most < v →
+          RewritesRoot rules number t t′ len end most units o
+      step-large {units = zero} e u l = absurd (u refl)
+      step-large {units = suc m} e u l =
+          let q : suc m - 1 ≡ m = omega arith in
+          stays (e ∙ ap (λ m. out TooLarge m len end) q) (pt .same ∙ length-set t 0 c) (λ z. zero≢one (cc)) (omega arith) λ tab rs st n x post w b d nb.
+          large tab rs st n x post w b d nb er pt (chosen tab rs st n x post w b d ne) m l
 
-    pub found-within : Within (take len (set t 0 c)) B′
-    found-within = subst (λ l. Within l B′) eT (f .within (let i = f .bounded in omega arith))
-
-    module _ (w : ℕ) (t′ : List ℕ) (pt : Put (set t 0 c) t′ 0 most w (replaced (take len (set t 0 c)) B′ (right-side rules lens k) end)) where
-      right : List ℕ
-      right = right-side rules lens k
-
-      put : Put (set t 0 c) t′ 0 most w (pieces T B′ right ++ drop end T)
-      unfolding right
-      put = subst (λ l. Put (set t 0 c) t′ 0 most w (replaced l B′ (right-side rules lens k) end)) (sym eT) pt
-
-      module _ (tab : List ℕ) (rs : List Rule) (x : Term) (post : List ℕ) (wf : Wf 32 tab x) (b : take len t ≡ open-cells x ++ post) (d : end ≡ size x) (nb : ArgumentsNormal rs x) (o : Option Term) (h : Choice tab rules lens T B′ k x o) where
-        new : Term
-        new = instantiate (h .bindings) (h .rule .right)
-
-        marks : Marked rs (pieces T B′ right) new
-        unfolding new right right-side
-        marks = instance-marked rs tab T B′ x post wf (eT ∙ text tab x post wf b d) nb (h .bindings) (h .held) right (h .rule .right) (h .place .right-wf) (h .place .right-bytes)
-
-        rest : drop end T ≡ post
-        rest = ap (drop end) (eT ∙ text tab x post wf b d) ∙ drop-at (cells x) post end (length-cells x ∙ sym d)
-
-        filled-length : length (pieces T B′ right ++ drop end T) ≡ size new + length post
-        filled-length = length-append (pieces T B′ right) (drop end T) ∙ ap₂ _+_ (marked-length rs marks) (ap length rest)
-
-        large-go : (n : ℕ) → most < w → StepTested tab rs t′ post n (out (end-number too-large) n len end) new (ltb most (size new + length post))
-        large-go n l = let g : most < size new + length post = omega (arith, put .over l, filled-length) in rw (lt-ltb most (size new + length post) g) (refl, refl)
-
-        done-go : (n : ℕ) → w ≤ most → StepTested tab rs t′ post n (out rewritten n w 0) new (ltb most (size new + length post))
-        unfolding new
-        done-go n l =
-            let g : size new + length post ≤ most = omega (arith, put .next l, filled-length) in
-            rw (le-ltb most (size new + length post) g) (
-              refl,
-              refl,
-              record {
-                wf = wf-instance tab T (size x) B′ (h .bindings) (h .held) (h .rule .right) (h .place .right-wf);
-                marks = pieces T B′ right;
-                marked = marks;
-                text = put .cells l ∙ ap (λ z. pieces T B′ right ++ z) rest;
-              },
-            )
-
-      module _ (u : units ≡ 0 → ⊥) where
-        wrote-large : (tab : List ℕ) (rs : List Rule) (x : Term) (post : List ℕ) → Wf 32 tab x → take len t ≡ open-cells x ++ post → end ≡ size x → ArgumentsNormal rs x → most < w → (o : Option Term) → Choice tab rules lens T B′ k x o →
-            (v : ℕ) → v ≡ units → Wrote tab rs t′ x post most v (out (end-number too-large) (v - 1) len end) o
-        unfolding new
-        wrote-large tab rs x post wf b d nb l o h zero e = absurd (u (sym e))
-        wrote-large tab rs x post wf b d nb l o h (suc n) e =
-            let g : suc n - 1 ≡ n = omega arith in
-            subst (λ z. Wrote tab rs t′ x post most (suc n) (out (end-number too-large) (suc n - 1) len end) z) (sym (h .result)) (rw g (large-go tab rs x post wf b d nb o h n l))
-
-        pub step-large : most < w → Rewritten rules lens number t t′ len end most units (out (end-number too-large) (units - 1) len end)
-        unfolding end-number
-        step-large l = stays t′ (end-number too-large) (units - 1) (pt .same ∙ length-set t 0 c) (λ z. omega arith) (omega arith) λ tab rs st n x post wf b d nb.
-            wrote-large tab rs x post wf b d nb l (root-step rs x) (chosen tab rs st n x post wf b d) units refl
-
-        wrote-done : (tab : List ℕ) (rs : List Rule) (x : Term) (post : List ℕ) → Wf 32 tab x → take len t ≡ open-cells x ++ post → end ≡ size x → ArgumentsNormal rs x → w ≤ most → (o : Option Term) → Choice tab rules lens T B′ k x o →
-            (v : ℕ) → v ≡ units → Wrote tab rs t′ x post most v (out rewritten (v - 1) w 0) o
-        unfolding new
-        wrote-done tab rs x post wf b d nb l o h zero e = absurd (u (sym e))
-        wrote-done tab rs x post wf b d nb l o h (suc n) e =
-            let g : suc n - 1 ≡ n = omega arith in
-            subst (λ z. Wrote tab rs t′ x post most (suc n) (out rewritten (suc n - 1) w 0) z) (sym (h .result)) (rw g (done-go tab rs x post wf b d nb o h n l))
-
-        pub step-done : w ≤ most → Rewritten rules lens number t t′ len end most units (out rewritten (units - 1) w 0)
-        step-done l = record {
-          same = pt .same ∙ length-set t 0 c;
-          ends = omega arith;
-          small = l;
-          left-over = omega arith;
-          paid = λ z. (let nz : 0 < units = omega arith in omega arith);
-          place = λ z. absurd (z refl);
-          answer = λ tab rs st n x post wf b d nb. wrote-done tab rs x post wf b d nb l (root-step rs x) (chosen tab rs st n x post wf b d) units refl;
-        }
+      pub step-done : {units : ℕ} {o : Out} → o ≡ out Rewritten (units - 1) v 0 → (units ≡ 0 → ⊥) → v ≤ most →
+          RewritesRoot rules number t t′ len end most units o
+      step-done {units = zero} e u l = absurd (u refl)
+      step-done {units = suc m} e u l =
+          let q : suc m - 1 ≡ m = omega arith in
+          subst (λ o. RewritesRoot rules number t t′ len end most (suc m) o) (sym (e ∙ ap (λ m. out Rewritten m v 0) q)) (record {
+            same = pt .same ∙ length-set t 0 c;
+            ends = omega arith;
+            small = l;
+            left-over = omega arith;
+            paid = λ z. omega arith;
+            place = λ z. absurd (z refl);
+            answer = λ tab rs st n x post w b d nb. done tab rs st n x post w b d nb er pt (chosen tab rs st n x post w b d ne) m l;
+          })

@@ -10,10 +10,10 @@ use Rattle.matching.proofs.size_of.Reads as size-of-reads
 use Rattle.redex.proofs.ended.Reads as ended-reads
 
 returns : tie.Need-returns
-returns c = leave-long _ _ _ _ _ (c .ended .ensures) (c .before .before .size-of .ensures .0) (c .before .if1 .taken)
+returns c = leave-long (c .ended .ensures) (c .before .before .size-of .ensures .0) (c .before .if1 .taken)
 
 returns-2 : tie.Need-returns-2
-returns-2 c = leave-done _ _ _ _ _ (c .ended2 .ensures) (c .before .before .size-of .ensures .0) (c .before .if1 .left) (search needs)
+returns-2 c = leave-done (c .ended2 .ensures) (c .before .before .size-of .ensures .0) (c .before .if1 .left) (search needs)
 
 pub leave-spec : {M : Type 1} → statement M
 leave-spec =

@@ -2,15 +2,13 @@
 -- Read first: specs/Settled (Normalised), proofs/Whole.
 use Rattle.normaliser.proofs.Whole.{whole}
 use Rattle.matching.proofs.Replacing.{take-less-zero}
-use lib.Seq.{length-take-le}
-use lib.ListN.{length}
-use native.Mathlib.Omega.{arith}
-use mathlib.Core.Path.{refl, _∙_, ap}
+use mathlib.Core.Path.{refl}
 use borrow.Author.Needs.{needs}
 use Rattle.normaliser.proofs.normalise.Statement.{statement}
 use Rattle.normaliser.proofs.normalise.Tie as tie
 use Rattle.normaliser.proofs.normalise.Reads as reads
 use Rattle.normaliser.proofs.normalise.Lts as lts
+use Rattle.normaliser.proofs.form_of.Reads as form-of-reads
 use Rattle.normaliser.proofs.load.Reads as load-reads
 use Rattle.normaliser.proofs.normalise_in.Reads as normalise-in-reads
 use Rattle.normaliser.proofs.unload.Reads as unload-reads
@@ -25,28 +23,23 @@ returns c =
     let at-normalise-in : tie.After-normalise-in = search depth 0 in
     let at-load : tie.After-load = search depth 0 in
     let entry = entry-of-load at-load in
-    let a = entry .args in
     let p = entry .pre .1 in
-    let e = take-less-zero (a .len) (a .t .now) in
-    whole _ _ _ _ _ _ _ _ _ _ _ (ap length e ∙ length-take-le (a .len) (a .t .now) (omega arith)) (omega arith) refl
-    (at-load .load .ensures) (at-normalise-in .normalise-in .ensures) _ _ _ e (omega arith)
-    (take-less-zero (at-normalise-in .normalise-in .result .len) (at-normalise-in .normalise-in .last .0))
-    (at-unload .unload .ensures)
+    whole (entry .args .t .now) _ (p .0) refl (at-load .load .ensures) (at-normalise-in .normalise-in .ensures) (entry .args .out .now) (p .1)
+    (take-less-zero (at-normalise-in .normalise-in .result .len) (at-normalise-in .normalise-in .last .0)) (at-unload .unload .ensures)
+    (c .before .form-of .ensures)
 
 pub normalise-spec : {M : Type 1} → statement M
 normalise-spec =
     tie.close
     (tie.spec
     (λ c. search needs)
-    (λ c. search needs)
-    (λ c. search needs)
-    (λ c. search needs)
     (λ c κs. search needs)
     (λ c. search needs)
     (λ c κs. search needs)
     (λ c. search needs)
     (λ c. search needs)
     (λ c. search needs)
+    (λ c κs. search needs)
     (λ c κs. search needs)
     (λ c. search needs)
     (λ c. search needs)
