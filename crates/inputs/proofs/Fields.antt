@@ -1,26 +1,29 @@
 -- The equation fields of a problem that is accepted stand one behind the other, and the loop puts the first k into slots 0 to k - 1. Assumes nothing.
--- Read first: specs/Inputs (PairAt, Filled), problem/proofs/Laid, store/proofs/Listing.
+-- Read first: specs/Inputs (SidesAt, InputsRead), problem/proofs/Laid, slots/proofs/Listing.
 use mathlib.Core.Path.{_≡_, refl, sym, ap, _∙_, subst}
-use mathlib.Core.List.{List, [], _∷_, _++_, map, map-map, map-append, append-assoc, append-nil}
-use Prim.Native.Nat.{ℕ, _+_, _-_, _*_, _<_, _≤_}
+use mathlib.Core.List.{List, [], _∷_, _++_, map, append-assoc, append-nil}
+use Prim.Native.Nat.{ℕ, zero, suc, _+_, _-_, _*_, _<_, _≤_}
 use native.Mathlib.Omega.{arith}
-use lib.ListN.{length, drop, take, length-append, length-map}
-use lib.Seq.{drop-at, drop-drop}
-use Rattle.terms.specs.Term.{Term, size, term-bytes, Pair, renamed}
+use lib.ListN.{length, getD, drop, take, replicate, length-append, length-replicate}
+use lib.Seq.{drop-at, drop-drop, getD-take, getD-drop}
+use Rattle.terms.specs.Term.{Term, size, term-bytes, renamed}
 use Rattle.terms.specs.Base.{Every, of-none, of-cons}
 use Rattle.terms.proofs.Bytes.{length-bytes}
-use Rattle.redex.specs.Stored.{Layout, Stored}
 use Rattle.problem.specs.Problem.{ok, due, Equation, Problem}
 use Rattle.problem.specs.Parser.{field-at, Table, ParsedAt}
 use Rattle.problem.proofs.Sides.{Both}
 use Rattle.problem.proofs.Laid.{Laid, parsed-laid}
-use Rattle.completion.proofs.Limits.{HeldPair}
+use Rattle.completion.specs.Turn.{waiting-input, candidates}
+use Rattle.completion.specs.Calls.{origin-bytes}
+use Rattle.completion.proofs.Limits.{HeldPair, length-candidates}
 use Rattle.completion.proofs.Accepts.{accepts}
-use Rattle.store.specs.Slots.{SlotRoom}
-use Rattle.store.proofs.Listing.{layout-of, layout-more, stored-none, stored-behind}
-use Rattle.inputs.specs.Inputs.{PairAt, PutEquation, Filled}
+use Rattle.slots.specs.Slots.{slot-width, slot, left-length, right-length, Short, Layout, AllFrom, MarkedAt, Holds}
+use Rattle.slots.proofs.Listing.{all-none, all-one, all-join, all-moved, marked-moved}
+use Rattle.slots.proofs.Layouts.{layout-put}
+use Rattle.inputs.specs.Inputs.{marked, SidesAt, PutsEquation, InputsRead}
 
-sides-at : (n : ℕ) (tab : List ℕ) (T : Table tab) (l : List ℕ) (at : ℕ) (q : Equation) → Both tab T l at q → HeldPair n 16 (q .sides) → PairAt tab l (at + 3) (q .sides)
+sides-at : (n : ℕ) (tab : List ℕ) (T : Table tab) (l : List ℕ) (at : ℕ) (q : Equation) → Both tab T l at q → HeldPair n 16 (q .sides) →
+    SidesAt tab l (at + 3) (q .sides)
 sides-at n tab T l at q b h =
     let x : Term = q .sides .left in
     let rest-is : b .left .rest ≡ drop (at + 3 + size x) l =
@@ -34,92 +37,120 @@ sides-at n tab T l at q b h =
       bytes = b .left .bytes ∙ ap (λ z. term-bytes x ++ z) (rest-is ∙ b .right .bytes);
     }
 
--- the sides of the equations from `at` on
-unfoldable pub InFields : List ℕ → List ℕ → ℕ → List Pair → Type 0
+-- the equations from `at` on
+unfoldable pub InFields : List ℕ → List ℕ → ℕ → List Equation → Type 0
 InFields tab l at [] = Unit {0}
-InFields tab l at (p ∷ ps) = (e : ℕ) × (due 0x03 at (drop at l) ≡ ok (field-at 0x03 l at e)) × PairAt tab l (at + 3) p × InFields tab l e ps
+InFields tab l at (q ∷ es) = (e : ℕ) × (due 0x03 at (drop at l) ≡ ok (field-at 0x03 l at e)) × SidesAt tab l (at + 3) (q .sides) × InFields tab l e es
 
 laid-fields : (n : ℕ) (tab : List ℕ) (T : Table tab) (l : List ℕ) (at : ℕ) (es : List Equation) →
-    Laid tab T l at es → Every (λ (e : Equation). HeldPair n 16 (e .sides)) es → InFields tab l at (map (λ (e : Equation). e .sides) es)
+    Laid tab T l at es → Every (λ (e : Equation). HeldPair n 16 (e .sides)) es → InFields tab l at es
 unfolding Laid InFields
 laid-fields n tab T l at [] h of-none = tt
 laid-fields n tab T l at (q ∷ es) h (of-cons k ks) =
     (h .0, h .1, sides-at n tab T l at q (h .4) k, laid-fields n tab T l (h .0) es (h .5) ks)
 
-pub parsed-fields : (l : List ℕ) (e b n : ℕ) (P : Problem) → ParsedAt l e b n P →
-    InFields (take (e - 3) (drop 3 l)) l (e + 7) (map (λ (q : Equation). q .sides) (P .equations))
-parsed-fields l e b n P A =
-    laid-fields (length (P .symbols)) (take (e - 3) (drop 3 l)) (A .table .table) l (e + 7) (P .equations) (parsed-laid l e b n P A) (accepts l P (A .is) .equations-fit)
-
 pub parsed-few : (l : List ℕ) (e b n : ℕ) (P : Problem) → ParsedAt l e b n P → n ≤ 16
 parsed-few l e b n P A = omega (arith, A .number, accepts l P (A .is) .equations-few)
 
+-- the equation is the candidate in slot k
+abbrev pub Input : List ℕ → List ℕ → ℕ → Equation → Type 0
+Input tab slots k q = MarkedAt tab slots k (marked (record { origin = waiting-input (k + 1); sides = renamed (q .sides) }))
+
+inputs-held : (tab slots : List ℕ) (k : ℕ) (es : List Equation) → AllFrom (Input tab slots) k es →
+    Holds tab slots k (map marked (candidates waiting-input (k + 1) es))
+unfolding AllFrom candidates
+inputs-held tab slots k [] h = tt
+inputs-held tab slots k (q ∷ es) h =
+    let e : suc k + 1 ≡ suc (k + 1) = omega arith in
+    (h .0, subst (λ z. Holds tab slots (suc k) (map marked (candidates waiting-input z es))) e (inputs-held tab slots (suc k) es (h .1)))
+
 -- the first k are in their slots, and the rest is laid out from i on
-pub record Split (tab l bytes lens : List ℕ) (k i : ℕ) (ps : List Pair) : Type 0 where
-  pub first : List Pair
-  pub rest : List Pair
-  pub is : ps ≡ first ++ rest
+pub record Split (tab l slots : List ℕ) (k i : ℕ) (es : List Equation) : Type 0 where
+  pub first : List Equation
+  pub rest : List Equation
+  pub is : es ≡ first ++ rest
   pub number : length first ≡ k
-  pub stored : Stored tab bytes lens 0 (map renamed first)
+  pub held : AllFrom (Input tab slots) 0 first
   pub more : InFields tab l i rest
 
-pub record SoFar (tab l : List ℕ) (at : ℕ) (b₀ l₀ bytes lens : List ℕ) (k i : ℕ) : Type 0 where
-  pub same-bytes : length bytes ≡ length b₀
-  pub same-lengths : length lens ≡ length l₀
-  pub layout : Layout tab bytes lens k
-  pub split : (ps : List Pair) → InFields tab l at ps → k ≤ length ps → Split tab l bytes lens k i ps
+pub record SoFar (l : List ℕ) (e count : ℕ) (slots : List ℕ) (k i : ℕ) : Type 0 where
+  pub layout : Layout slots count
+  pub split : (b : ℕ) (P : Problem) → ParsedAt l e b count P → Split (take (e - 3) (drop 3 l)) l slots k i (P .equations)
 
-pub fill-start : (tab l : List ℕ) (at : ℕ) (b₀ l₀ : List ℕ) → SoFar tab l at b₀ l₀ b₀ l₀ 0 at
-fill-start tab l at b₀ l₀ = record {
-  same-bytes = refl;
-  same-lengths = refl;
-  layout = layout-of tab b₀ l₀ 0 (omega arith) (omega arith) (omega arith) (λ k h. absurd (omega arith));
-  split = λ ps f h. record { first = []; rest = ps; is = refl; number = refl; stored = stored-none tab b₀ l₀ 0; more = f };
+zeros-at : (n i : ℕ) → _≡_ {A = ℕ} (getD (replicate n 0) i 0) 0
+zeros-at zero i = refl
+zeros-at (suc n) zero = refl
+zeros-at (suc n) (suc i) = zeros-at n i
+
+zeros-short : (n k : ℕ) → Short (slot (replicate n 0) k)
+unfolding slot left-length right-length
+zeros-short n k = record { left = omega (arith, byte 6 (omega arith)); right = omega (arith, byte 7 (omega arith)) }
+  where
+    byte : (a : ℕ) → a < slot-width → _≡_ {A = ℕ} (getD (take slot-width (drop (slot-width * k) (replicate n 0))) a 0) 0
+    byte a h =
+        getD-take slot-width (drop (slot-width * k) (replicate n 0)) a 0 h ∙ getD-drop (slot-width * k) (replicate n 0) a 0 ∙ zeros-at n (slot-width * k + a)
+
+pub read-start : (l : List ℕ) (e count n : ℕ) → slot-width * count ≤ n → SoFar l e count (replicate n 0) 0 (e + 7)
+read-start l e count n h = record {
+  layout = record { room = omega (arith, length-replicate {A = ℕ} n 0); short = λ k _. zeros-short n k };
+  split = λ b P A.
+      let fits = accepts l P (A .is) .equations-fit in
+      let tab : List ℕ = take (e - 3) (drop 3 l) in
+      record {
+        first = [];
+        rest = P .equations;
+        is = refl;
+        number = refl;
+        held = all-none (Input tab (replicate n 0)) 0;
+        more = laid-fields (length (P .symbols)) tab (A .table .table) l (e + 7) (P .equations) (parsed-laid l e b count P A) fits;
+      };
 }
 
-pub fill-room : (tab l : List ℕ) (at : ℕ) (b₀ l₀ bytes lens : List ℕ) (k i count : ℕ) → SoFar tab l at b₀ l₀ bytes lens k i → k < count → 240 * count ≤ length b₀ → 2 * count ≤ length l₀ → SlotRoom bytes lens k
-fill-room tab l at b₀ l₀ bytes lens k i count s h m n = record { slots = omega (arith, s .same-bytes); lengths = omega (arith, s .same-lengths) }
-
-module _ (tab l : List ℕ) (bytes lens bytes′ lens′ : List ℕ) (k i r : ℕ) (y : Layout tab bytes lens k) (q : PutEquation tab l i bytes lens k bytes′ lens′ r) where
-  next : (ps first rest : List Pair) → ps ≡ first ++ rest → length first ≡ k → Stored tab bytes lens 0 (map renamed first) → InFields tab l i rest → k + 1 ≤ length ps → Split tab l bytes′ lens′ (k + 1) r ps
-  unfolding InFields
-  next ps first [] e n s f h = absurd (omega (arith, ap length e, length-append first []))
-  next ps first (p ∷ rest) e n s f h =
-      let a = q .answer (f .0) p (f .1) (f .2) in
+module _ (tab l slots slots′ : List ℕ) (k i r : ℕ) (q : PutsEquation tab l i slots k slots′ r) where
+  next : (es first rest : List Equation) → es ≡ first ++ rest → length first ≡ k → AllFrom (Input tab slots) 0 first → InFields tab l i rest →
+      k < length es → Split tab l slots′ (k + 1) r es
+  unfolding InFields origin-bytes
+  next es first [] e n s f h = absurd (omega (arith, ap length e, length-append first []))
+  next es first (x ∷ rest) e n s f h =
+      let a = q .answer (f .0) (x .sides) (f .1) (f .2) in
+      let here : Input tab slots′ k x = record { mark = q .mark; pair = a .1 } in
       record {
-        first = first ++ (p ∷ []);
+        first = first ++ (x ∷ []);
         rest = rest;
-        is = e ∙ sym (append-assoc first (p ∷ []) rest);
-        number = length-append first (p ∷ []) ∙ omega (arith, n);
-        stored = subst (Stored tab bytes′ lens′ 0) (sym (map-append renamed first (p ∷ []))) (stored-behind tab bytes lens bytes′ lens′ k k (map renamed first) (renamed p) y (omega arith) (omega (arith, n, length-map first renamed)) (q .only) (a .1) s);
+        is = e ∙ sym (append-assoc first (x ∷ []) rest);
+        number = length-append first (x ∷ []) ∙ omega (arith, n);
+        held = all-join (Input tab slots′) 0 first (x ∷ [])
+            (all-moved (Input tab slots) (Input tab slots′) 0 0 first (λ j m y z. marked-moved (q .only .others (0 + j) (λ w. omega arith)) z) s)
+            (all-one (Input tab slots′) (0 + length first) x (let g : k ≡ 0 + length first = omega arith in subst (λ z. Input tab slots′ z x) g here));
         more = subst (λ z. InFields tab l z rest) (sym (a .0)) (f .3);
       }
 
-  pub next-split : (ps : List Pair) → Split tab l bytes lens k i ps → k + 1 ≤ length ps → Split tab l bytes′ lens′ (k + 1) r ps
-  next-split ps s h = next ps (s .first) (s .rest) (s .is) (s .number) (s .stored) (s .more) h
-
-pub fill-more : (tab l : List ℕ) (at : ℕ) (b₀ l₀ bytes lens bytes′ lens′ : List ℕ) (k i r : ℕ) → SoFar tab l at b₀ l₀ bytes lens k i → SlotRoom bytes lens k → k < 33 →
-    PutEquation tab l i bytes lens k bytes′ lens′ r → SoFar tab l at b₀ l₀ bytes′ lens′ (k + 1) r
-fill-more tab l at b₀ l₀ bytes lens bytes′ lens′ k i r s m h q = record {
-  same-bytes = q .only .same-bytes ∙ s .same-bytes;
-  same-lengths = q .only .same-lengths ∙ s .same-lengths;
-  layout = layout-more tab bytes lens bytes′ lens′ k (q .only) (q .short) k (s .layout) refl m h;
-  split = λ ps f n. next-split tab l bytes lens bytes′ lens′ k i r (s .layout) q ps (s .split ps f (omega arith)) n;
+pub read-more : (l : List ℕ) (e count : ℕ) (slots slots′ : List ℕ) (k i r : ℕ) → SoFar l e count slots k i → k < count →
+    PutsEquation (take (e - 3) (drop 3 l)) l i slots k slots′ r → SoFar l e count slots′ (k + 1) r
+read-more l e count slots slots′ k i r s h q = record {
+  layout = layout-put (s .layout) (q .only) (q .short (s .layout .short k h));
+  split = λ b P A.
+      let t = s .split b P A in
+      next (take (e - 3) (drop 3 l)) l slots slots′ k i r q (P .equations) (t .first) (t .rest) (t .is) (t .number) (t .held) (t .more)
+      (omega (arith, A .number));
 }
 
-whole : (tab l bytes lens : List ℕ) (i : ℕ) (ps first rest : List Pair) → ps ≡ first ++ rest → length first ≡ length ps → Stored tab bytes lens 0 (map renamed first) → Stored tab bytes lens 0 (map renamed ps)
-whole tab l bytes lens i ps first [] e n s = subst (λ z. Stored tab bytes lens 0 (map renamed z)) (sym (e ∙ append-nil first)) s
-whole tab l bytes lens i ps first (p ∷ rest) e n s = absurd (omega (arith, n, ap length e, length-append first (p ∷ rest)))
+whole : (tab slots : List ℕ) (es first rest : List Equation) → es ≡ first ++ rest → length first ≡ length es → AllFrom (Input tab slots) 0 first →
+    AllFrom (Input tab slots) 0 es
+whole tab slots es first [] e n s = subst (AllFrom (Input tab slots) 0) (sym (e ∙ append-nil first)) s
+whole tab slots es first (q ∷ rest) e n s = absurd (omega (arith, ap length e, length-append first (q ∷ rest)))
 
-pub fill-end : (l : List ℕ) (e count : ℕ) (b₀ l₀ bytes lens : List ℕ) (k i : ℕ) → SoFar (take (e - 3) (drop 3 l)) l (e + 7) b₀ l₀ bytes lens k i → k ≡ count → Filled l e count b₀ l₀ bytes lens
-fill-end l e count b₀ l₀ bytes lens k i s n = record {
-  same-bytes = s .same-bytes;
-  same-lengths = s .same-lengths;
-  layout = subst (Layout (take (e - 3) (drop 3 l)) bytes lens) n (s .layout);
-  stored = λ b P A.
-      let ps : List Pair = map (λ (q : Equation). q .sides) (P .equations) in
-      let m : length ps ≡ k = length-map (P .equations) (λ (q : Equation). q .sides) ∙ A .number ∙ sym n in
-      let t = s .split ps (parsed-fields l e b count P A) (omega (arith, m)) in
-      subst (Stored (take (e - 3) (drop 3 l)) bytes lens 0) (map-map renamed (λ (q : Equation). q .sides) (P .equations))
-      (whole (take (e - 3) (drop 3 l)) l bytes lens i ps (t .first) (t .rest) (t .is) (t .number ∙ sym m) (t .stored));
+pub read-end : (l : List ℕ) (e count : ℕ) (slots : List ℕ) (k i : ℕ) → SoFar l e count slots k i → k ≡ count →
+    InputsRead l e count (record { bytes = slots; count = count })
+read-end l e count slots k i s n = record {
+  layout = s .layout;
+  counted = refl;
+  held = λ b P A.
+      let t = s .split b P A in
+      let tab : List ℕ = take (e - 3) (drop 3 l) in
+      record {
+        holds = inputs-held tab slots 0 (P .equations)
+            (whole tab slots (P .equations) (t .first) (t .rest) (t .is) (t .number ∙ n ∙ sym (A .number)) (t .held));
+        counted = sym (length-candidates waiting-input 1 (P .equations) ∙ A .number);
+      };
 }

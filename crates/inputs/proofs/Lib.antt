@@ -1,3 +1,3 @@
 pub mod Ending
-pub mod Placing
+mod Placing
 pub mod Fields

@@ -50,7 +50,8 @@ fn put_sides(problem: &[u8], table: &[u8], at: usize, slots: &mut [u8], k: usize
     naming::rename_front(&mut held, e - at);
     let n = m - at;
     let end = e - at;
-    slots::put_sides(slots, k, &held[0..n], &held[n..end]);
+    let both = &held[..];
+    slots::put_sides(slots, k, &both[0..n], &both[n..end]);
 }
 
 // The equation field at `at`, into slot k: the place behind it. Where there is none, the slot keeps its sides.

@@ -1,3 +1,4 @@
 pub mod Bits
 pub mod Seeing
 pub mod Placing
+mod Orienting

@@ -83,7 +83,8 @@ fn placed(left: &[u8], right: &[u8], number: u16) -> [u8; SLOT]
     fields::paste(&mut out, n, right);
     naming::rename_front(&mut out, e);
     let mut one = [0u8; SLOT];
-    slots::put_sides(&mut one, 0, &out[0..n], &out[n..e]);
+    let both = &out[..];
+    slots::put_sides(&mut one, 0, &both[0..n], &both[n..e]);
     let mark = origins::numbered(origins::REMOVED_RULE, number);
     slots::put_mark(&mut one, 0, &mark);
     one

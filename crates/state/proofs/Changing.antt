@@ -1,342 +1,256 @@
--- What `take`, `orient`, `with_entry` and `collapse` make of the state that is stood for: the bytes change as the lists do. Assumes nothing.
--- Read first: specs/State (Represents, FineBut), specs/Steps, store/proofs/Listing, collapse/proofs/Lists.
-use mathlib.Core.Path.{_≡_, refl, sym, ap, ap₂, _∙_, subst}
-use mathlib.Core.List.{List, [], _∷_, _++_, append-nil, map, map-append, flatMap}
-use Prim.Native.Nat.{ℕ, suc, _+_, _-_, _*_, _/_, _%_, _<_, _≤_}
+-- What `initial`, `take`, `orient` and `collapse` make of the state that is stood for: the slots change as the lists do. Assumes nothing.
+-- Read first: specs/Run (Represents, FineBut), specs/Steps, Rows, slots/proofs/Changes.
+use mathlib.Core.Path.{_≡_, refl, sym, ap, _∙_, subst}
+use mathlib.Core.Logic.{inl, inr}
+use mathlib.Core.List.{List, [], _∷_, _++_, map, flatMap}
+use Prim.Native.Nat.{ℕ, suc, _+_, _-_, _*_, _<_, _≤_}
 use native.Mathlib.Omega.{arith}
-use lib.ListN.{length, getD, drop, take, set, length-append}
-use Rattle.terms.proofs.Lists.{flatMap-append, flatMap-one}
-use Rattle.terms.specs.Base.{number-bytes, field-bytes}
+use lib.ListN.{length, length-append}
+use Rattle.limits.specs.Limits.{most-equations, most-rules, most-variables}
 use Rattle.terms.specs.Term.{Pair}
-use Rattle.rewriting.specs.Overlap.{Rule, sides-of}
-use Rattle.redex.specs.Stored.{Layout, RuleAt, Stored}
-use Rattle.completion.specs.Turn.{Origin, waiting-input, removed-rule, scanned-input, overlapping, Candidate, Entry, State as RunState, kept, removed}
-use Rattle.completion.specs.Calls.{origin-bytes, entry-field}
-use Rattle.completion.proofs.Result.{origin-bytes-length}
-use Rattle.store.specs.Slots.{patched, SlotAs, OnlySlot, Dropped}
-use Rattle.store.proofs.Patching.{length-patched, front-more}
-use Rattle.store.proofs.Listing.{rule-as, short-as, short-at, layout-dropped, layout-more, stored-dropped, stored-none, stored-behind}
-use Rattle.collapse.specs.Sifting.{pairs-of, origins-bytes, Shelf, shelf, Sift, Sifted}
-use Rattle.engine.specs.State.{Whole, FineBut, Fine, Represents}
-use Rattle.engine.specs.Steps.{entry-bytes, TakenState, CollapsedState, OrientedState, LoggedState}
-use Rattle.redex.proofs.Choosing.{layout-front}
-use Rattle.collapse.proofs.Lists.{front-less, any-table, number-more}
+use Rattle.rewriting.specs.Overlap.{Rule}
+use Rattle.rewriting.specs.Rewrite.{Paid, done, stop}
+use Rattle.rewriting.specs.declared.End.{End}
+use Rattle.rewriting.specs.declared.Verdict.the-variants.{GoesOn, Ends}
+use Rattle.slots.specs.Slots.{slot-width, slot, Layout, PairAt, MarkedAt, Holds, Removed, Inserted}
+use Rattle.slots.specs.declared.Pairs.{Pairs}
+use Rattle.slots.proofs.Listing.{pair-moved}
+use Rattle.slots.proofs.Changes.{removed-layout, inserted-layout, removed-holds, inserted-holds}
+use Rattle.completion.specs.Turn.{removed-rule, Candidate, State as RunState, initial}
+use Rattle.completion.specs.Calls.{origin-bytes}
+use Rattle.inputs.specs.Inputs.{marked, Held}
+use Rattle.orient.specs.Orients.{oriented, OrientedIs, RuleOf}
+use Rattle.orient.specs.declared.Oriented.{Oriented}
+use Rattle.state.specs.declared.State.{State}
+use Rattle.state.specs.declared.Stepped.{Stepped}
+use Rattle.state.specs.Run.{as-removed, held, FineBut, Fine, Represents}
+use Rattle.state.specs.Sifting.{Sifted}
+use Rattle.state.specs.Steps.{Initial, behind-first, Takes, with-rule, NewRule, Orients, collapsed, Collapses}
+use Rattle.state.proofs.Rows.{row, held-rows, held-more, length-held, length-rows, length-marked, row-at}
 
--- an entry's bytes
-pub entry-is : (o : Origin) (n : ℕ) → field-bytes (entry-field (record { origin = o; made = n })) ≡ entry-bytes (origin-bytes o) n
-unfolding field-bytes entry-field origin-bytes number-bytes
-entry-is (waiting-input k) n = refl
-entry-is (removed-rule k) n = refl
-entry-is (scanned-input k) n = refl
-entry-is (overlapping i o p) n = refl
+-- `initial`
+pub initial-done : (inputs : Pairs) (budget : ℕ) (zeros : List ℕ) → Layout (inputs .bytes) (inputs .count) → inputs .count ≤ most-equations →
+    Initial inputs budget (record { pairs = inputs; live = 0; made = 0; log = record { bytes = zeros; count = 0 }; units = budget })
+unfolding initial flatMap
+initial-done inputs budget zeros y few = record {
+  fine = record { layout = y; within = omega arith; together = omega arith; live-few = omega arith; log-few = omega arith; made-few = omega arith };
+  units = refl;
+  empty = refl;
+  represents = λ tab P h. record { pairs = h; live = refl; made = refl; log = record { bytes = refl; counted = refl } };
+}
 
-six : (l : List ℕ) → length l ≡ 6 → getD l 0 0 ∷ getD l 1 0 ∷ getD l 2 0 ∷ getD l 3 0 ∷ getD l 4 0 ∷ getD l 5 0 ∷ [] ≡ l
-six [] h = absurd (omega arith)
-six (a ∷ []) h = absurd (omega arith)
-six (a ∷ b ∷ []) h = absurd (omega arith)
-six (a ∷ b ∷ c ∷ []) h = absurd (omega arith)
-six (a ∷ b ∷ c ∷ d ∷ []) h = absurd (omega arith)
-six (a ∷ b ∷ c ∷ d ∷ e ∷ []) h = absurd (omega arith)
-six (a ∷ b ∷ c ∷ d ∷ e ∷ f ∷ []) h = refl
-six (a ∷ b ∷ c ∷ d ∷ e ∷ f ∷ g ∷ l) h = absurd (omega arith)
+-- the rows of a state that is stood for
+module _ (tab : List ℕ) (st : State) (s : RunState) (r : Represents tab st s) where
+  rows : Holds tab (st .pairs .bytes) 0 (map row (s .rules) ++ map marked (s .waiting))
+  rows = subst (λ z. Holds tab (st .pairs .bytes) 0 z) (held-rows (s .rules) (s .waiting)) (r .pairs .holds)
 
-pub entry-list : (l : List ℕ) (n : ℕ) → length l ≡ 6 →
-    19 ∷ 0 ∷ 8 ∷ getD l 0 0 ∷ getD l 1 0 ∷ getD l 2 0 ∷ getD l 3 0 ∷ getD l 4 0 ∷ getD l 5 0 ∷ (n / 256 % 256) ∷ (n % 256) ∷ [] ≡ entry-bytes l n
-unfolding number-bytes
-entry-list l n h = ap (λ z. 19 ∷ 0 ∷ 8 ∷ (z ++ ((n / 256 % 256) ∷ (n % 256) ∷ []))) (six l h)
+  all-rows : st .pairs .count ≡ st .live + length (s .waiting)
+  all-rows = let l = r .live in r .pairs .counted ∙ length-held (s .rules) (s .waiting) ∙ omega arith
+
+  rules-rows : length (map row (s .rules)) ≡ st .live
+  rules-rows = length-rows (s .rules) ∙ sym (r .live)
 
 -- `take`
-module _ (st : Whole) (fine : Fine st) (some : 0 < st .waits) (long : length (st .origins) ≡ 198) (wb wl os : List ℕ) (d : Dropped (st .waiting) (st .lengths) wb wl)
-    (e : os ≡ drop 6 (st .origins) ++ drop (length (st .origins) - 6) (st .origins)) where
-  abbrev without-first : Whole
-  without-first = record {
-    rules = st .rules;
-    lens = st .lens;
-    numbers = st .numbers;
-    count = st .count;
-    made = st .made;
-    waiting = wb;
-    lengths = wl;
-    origins = os;
-    waits = st .waits - 1;
-    log = st .log;
-    entries = st .entries;
-    units = st .units;
-  }
+module _ (st : State) (fine : Fine st) where
+  module _ (some : st .live < st .pairs .count) (b : List ℕ) (d : Removed (st .pairs .bytes) (st .live) (st .pairs .count) b) where
+    abbrev without-first : State
+    without-first = record {
+      pairs = record { bytes = b; count = st .pairs .count - 1 };
+      live = st .live;
+      made = st .made;
+      log = st .log;
+      units = st .units;
+    }
 
-  suc-waits : st .waits ≡ suc (st .waits - 1)
-  suc-waits = omega arith
+    taken : (tab : List ℕ) (s : RunState) → Represents tab st s → (ws : List Candidate) → s .waiting ≡ ws →
+        Represents tab without-first (record { rules = s .rules; made = s .made; waiting = behind-first ws; log = s .log })
+    unfolding behind-first
+    taken tab s r [] e = absurd (omega (arith, all-rows tab st s r, ap length e))
+    taken tab s r (c ∷ cs) e =
+        let n : st .pairs .count ≡ st .live + suc (length cs) = all-rows tab st s r ∙ omega (arith, ap length e) in
+        let l = r .live in
+        record {
+          pairs = record {
+            holds =
+                subst (λ z. Holds tab b 0 z) (sym (held-rows (s .rules) cs))
+                (removed-holds tab (map row (s .rules)) (marked c) (map marked cs)
+                (subst (λ z. Holds tab (st .pairs .bytes) 0 (map row (s .rules) ++ map marked z)) e (rows tab st s r))
+                (rules-rows tab st s r)
+                (length-append (map row (s .rules)) (marked c ∷ map marked cs) ∙ omega (arith, n, rules-rows tab st s r, length-marked cs))
+                d);
+            counted = omega (arith, n, length-held (s .rules) cs);
+          };
+          live = l;
+          made = r .made;
+          log = r .log;
+        }
 
-  take-represents : (tab : List ℕ) (s : RunState) (c : Candidate) (cs : List Candidate) → Represents tab st s → s .waiting ≡ c ∷ cs → Represents tab without-first (record { rules = s .rules; made = s .made; waiting = cs; log = s .log })
-  unfolding flatMap
-  take-represents tab s c cs r q =
-      let n : st .waits ≡ suc (length cs) = r .waits ∙ ap length q in
-      let f = fine .together in
-      let h : take (6 * (st .waits)) (st .origins) ≡ origin-bytes (c .origin) ++ origins-bytes cs = r .origins ∙ ap origins-bytes q in
-      let m : 6 * (st .waits) ≡ 6 * (st .waits - 1) + 6 = omega arith in
-      record {
-        rules = r .rules;
-        numbers = r .numbers;
-        count = r .count;
-        made = r .made;
-        waiting = stored-dropped tab (st .waiting) (st .lengths) wb wl (st .waits) (c .sides) (pairs-of cs) (any-table tab [] _ _ _ (fine .waiting-fit)) (n ∙ ap suc (sym (lib.ListN.length-map cs (λ (c : Candidate). c .sides)))) d
-            (subst (λ z. Stored tab (st .waiting) (st .lengths) 0 z) (ap pairs-of q) (r .waiting));
-        origins = front-less 6 (6 * (st .waits - 1)) (st .origins) os (origin-bytes (c .origin)) (origins-bytes cs) e (omega arith) (ap (λ z. take z (st .origins)) (sym m) ∙ h) (origin-bytes-length (c .origin));
-        waits = omega arith;
-        log = r .log;
-        entries = r .entries;
-      }
+    pub take-done : Takes st without-first
+    take-done =
+        let t = fine .together in record {
+          fine = record {
+            layout = removed-layout d (fine .layout) (let e : suc (st .pairs .count - 1) ≡ st .pairs .count = omega arith in e) some;
+            within = omega arith;
+            together = omega arith;
+            live-few = fine .live-few;
+            log-few = fine .log-few;
+            made-few = fine .made-few;
+          };
+          same = record { log = refl; units = refl };
+          live = refl;
+          room = inl (omega arith);
+          represents = λ tab s r. taken tab s r (s .waiting) refl;
+        }
 
-  pub take-done : TakenState st without-first
-  take-done =
-      let f = fine .together in
-      let g = fine .made-few in
-      record {
-        fine = record {
-          rules-fit = fine .rules-fit;
-          waiting-fit = layout-dropped [] (st .waiting) (st .lengths) wb wl (st .waits - 1) (subst (λ z. Layout [] (st .waiting) (st .lengths) z) suc-waits (fine .waiting-fit)) d;
-          live = fine .live;
-          together = omega arith;
-          log-few = fine .log-few;
-          made-few = g;
-          rules-room = fine .rules-room;
-          waiting-room = d .same-bytes ∙ fine .waiting-room;
-          log-room = fine .log-room;
-        };
-        count = refl;
-        made = refl;
-        waits = omega arith;
-        entries = refl;
-        units = refl;
-        represents = take-represents;
-      }
+  module _ (none : st .pairs .count ≤ st .live) where
+    not-taken : (tab : List ℕ) (s : RunState) → Represents tab st s → (ws : List Candidate) → s .waiting ≡ ws →
+        Represents tab st (record { rules = s .rules; made = s .made; waiting = behind-first ws; log = s .log })
+    unfolding behind-first
+    not-taken tab s r [] e = record { pairs = subst (λ z. Held tab (st .pairs) (held (s .rules) z)) e (r .pairs); live = r .live; made = r .made; log = r .log }
+    not-taken tab s r (c ∷ cs) e = absurd (omega (arith, all-rows tab st s r, ap length e))
+
+    pub take-none : Takes st st
+    take-none =
+        let w = fine .within in record {
+          fine = fine;
+          same = record { log = refl; units = refl };
+          live = refl;
+          room = inr (omega arith);
+          represents = λ tab s r. not-taken tab s r (s .waiting) refl;
+        }
 
 -- `orient`
-module _ (st : Whole) (new sizes : List ℕ) (fine : Fine st) (one : Layout [] new sizes 1) (few : st .count ≤ 31) (room : st .count + st .waits ≤ 32) (log-room : st .entries < 512)
-    (long : length (st .numbers) ≡ 33) (long-lens : length (st .lens) ≡ 66)
-    (b l : List ℕ) (a : SlotAs new sizes 0 b l (st .count)) (o : OnlySlot (st .rules) (st .lens) (st .count) b l) where
-  abbrev with-rule : Whole
-  with-rule = record {
-    rules = b;
-    lens = l;
-    numbers = set (st .numbers) (st .count) (st .made + 1);
-    count = st .count + 1;
-    made = st .made + 1;
-    waiting = st .waiting;
-    lengths = st .lengths;
-    origins = st .origins;
-    waits = st .waits;
-    log = st .log;
-    entries = st .entries;
-    units = st .units;
-  }
+module _ (tab pair : List ℕ) (st : State) (o : Oriented) where
+  module _ (number : ℕ) (h : RuleOf tab pair number o) (e : End) (ends : o .verdict ≡ Ends e) where
+    no-rule : o .verdict ≡ GoesOn → ⊥
+    no-rule g = let q : Ends e ≡ GoesOn = sym ends ∙ g in let z : _≡_ {A = ℕ} 0 1 = cc in omega arith
 
-  orient-represents : (tab : List ℕ) (s : RunState) (p : Pair) → RuleAt tab new sizes 0 p → Represents tab st s →
-      Represents tab with-rule (record { rules = s .rules ++ (record { number = suc (s .made); sides = p } ∷ []); made = suc (s .made); waiting = s .waiting; log = s .log })
-  orient-represents tab s p h r =
-      let new-rule : Rule = record { number = suc (s .made); sides = p } in
-      let n = r .count in
-      let m = r .made in
-      let q : RuleAt tab b l (st .count) p = rule-as (short-at [] new sizes 1 0 one (omega arith)) a h in
-      let v : st .made + 1 ≡ suc (s .made) = omega arith in
-      record {
-        rules =
-            subst (λ z. Stored tab b l 0 z) (sym (map-append (λ (x : Rule). x .sides) (s .rules) (new-rule ∷ [])))
-            (stored-behind tab (st .rules) (st .lens) b l (st .count) (st .count) (sides-of (s .rules)) p (any-table tab [] _ _ _ (fine .rules-fit)) (omega arith) (n ∙ sym (lib.ListN.length-map (s .rules) (λ (x : Rule). x .sides))) o q (r .rules));
-        numbers =
-            number-more (st .numbers) (st .count) (st .made + 1) (omega arith)
-            ∙ ap₂ (λ x y. x ++ (y ∷ [])) (r .numbers) v
-            ∙ sym (map-append (λ (x : Rule). x .number) (s .rules) (new-rule ∷ []));
-        count = ap (λ z. z + 1) n ∙ sym (length-append (s .rules) (new-rule ∷ []));
-        made = v;
-        waiting = r .waiting;
-        origins = r .origins;
-        waits = r .waits;
-        log = r .log;
-        entries = r .entries;
-      }
+    abbrev as-it-was : Stepped
+    as-it-was = record { state = st; verdict = o .verdict }
 
-  pub orient-done : OrientedState new sizes st with-rule
-  orient-done =
-      let g = fine .made-few in
-      let long-rules = fine .rules-room in
-      record {
-        fine = record {
-          rules-fit = layout-more [] (st .rules) (st .lens) b l (st .count) o (short-as a (short-at [] new sizes 1 0 one (omega arith))) (st .count) (fine .rules-fit) refl (record { slots = omega arith; lengths = omega arith }) (omega arith);
-          waiting-fit = fine .waiting-fit;
-          live = omega arith;
-          together = omega arith;
-          log-few = fine .log-few;
-          made-few = omega arith;
-          rules-room = o .same-bytes ∙ fine .rules-room;
-          waiting-room = fine .waiting-room;
-          log-room = fine .log-room;
-        };
-        count = refl;
-        made = refl;
-        waits = refl;
-        entries = refl;
-        units = refl;
-        represents = orient-represents;
-      }
+    ended : (s : RunState) (p : Pair) (units : ℕ) (m : Paid Pair) → OrientedIs tab o p units m → NewRule tab s p units as-it-was m
+    ended s p units (done q left) a = absurd (no-rule (a .0))
+    ended s p units (stop f left) a = a
 
--- `with_entry`
-module _ (st : Whole) (origin : List ℕ) (n : ℕ) (fine : FineBut 1 st) (room : st .entries < 512) (long-origin : length origin ≡ 6)
-    (log : List ℕ) (e : log ≡ patched (11 * (st .entries)) (entry-bytes origin n) (st .log)) where
-  abbrev with-entry : Whole
-  with-entry = record {
-    rules = st .rules;
-    lens = st .lens;
-    numbers = st .numbers;
-    count = st .count;
-    made = st .made;
-    waiting = st .waiting;
-    lengths = st .lengths;
-    origins = st .origins;
-    waits = st .waits;
-    log = log;
-    entries = st .entries + 1;
-    units = st .units;
-  }
+    pub orient-ends : Orients tab pair st as-it-was
+    orient-ends = record {
+      fine = λ g. absurd (no-rule g);
+      live = λ g. absurd (no-rule g);
+      made = λ g. absurd (no-rule g);
+      same = record { log = refl; units = refl };
+      answer = λ P k s p r q units. ended s p units (oriented P p units) (h .answer P k p q units);
+    }
 
-  eleven : length (entry-bytes origin n) ≡ 11
-  unfolding number-bytes
-  eleven = omega (arith, length-append origin (number-bytes 2 n))
+  module _ (fine : Fine st) (h : RuleOf tab pair (st .made + 1) o) (goes : o .verdict ≡ GoesOn) (few : st .pairs .count ≤ most-rules)
+      (room : slot-width * (st .pairs .count + 1) ≤ length (st .pairs .bytes)) (b : List ℕ) (i : Inserted (st .pairs .bytes) (st .live) (st .pairs .count) (o .rule) b) where
+    abbrev with-new : Stepped
+    with-new = record {
+      state = record {
+        pairs = record { bytes = b; count = st .pairs .count + 1 };
+        live = st .live + 1;
+        made = st .made + 1;
+        log = st .log;
+        units = st .units;
+      };
+      verdict = o .verdict;
+    }
 
-  entry-represents : (tab : List ℕ) (s : RunState) (o : Origin) → origin ≡ origin-bytes o → Represents tab st s →
-      Represents tab with-entry (record { rules = s .rules; made = s .made; waiting = s .waiting; log = s .log ++ (record { origin = o; made = n } ∷ []) })
-  entry-represents tab s o q r =
-      let new : Entry = record { origin = o; made = n } in
-      let k = eleven in
-      let long = fine .log-room in
-      record {
-        rules = r .rules;
-        numbers = r .numbers;
-        count = r .count;
-        made = r .made;
-        waiting = r .waiting;
-        origins = r .origins;
-        waits = r .waits;
-        log =
-            ap (take (11 * (st .entries + 1))) e
-            ∙ front-more (11 * (st .entries)) (11 * (st .entries + 1)) (entry-bytes origin n) (st .log) (omega arith) (omega arith)
-            ∙ ap₂ _++_ (r .log) (ap (λ z. entry-bytes z n) q ∙ sym (entry-is o n) ∙ sym (flatMap-one (λ (x : Entry). field-bytes (entry-field x)) new))
-            ∙ sym (flatMap-append (λ (x : Entry). field-bytes (entry-field x)) (s .log) (new ∷ []));
-        entries = ap (λ z. z + 1) (r .entries) ∙ sym (length-append (s .log) (new ∷ []));
-      }
+    module _ (s : RunState) (r : Represents tab st s) (p : Pair) (a : PairAt most-variables tab (o .rule) 0 p) where
+      abbrev new : Rule
+      new = record { number = suc (s .made); sides = p }
 
-  pub entry-done : LoggedState st origin n with-entry
-  entry-done =
-      let g = fine .made-few in
-      let k = eleven in
-      let long = fine .log-room in
-      record {
-        fine = record {
-          rules-fit = fine .rules-fit;
-          waiting-fit = fine .waiting-fit;
-          live = fine .live;
-          together = fine .together;
-          log-few = omega arith;
-          made-few = omega arith;
-          rules-room = fine .rules-room;
-          waiting-room = fine .waiting-room;
-          log-room = ap length e ∙ length-patched (11 * (st .entries)) (entry-bytes origin n) (st .log) (omega arith) ∙ long;
-        };
-        count = refl;
-        made-same = refl;
-        waits = refl;
-        entries = refl;
-        units = refl;
-        represents = entry-represents;
-      }
+      more-made : st .made + 1 ≡ suc (s .made)
+      more-made = let m = r .made in omega arith
+
+      new-row : MarkedAt tab (o .rule) 0 (row new)
+      unfolding as-removed
+      new-row = record { mark = h .marked goes ∙ ap (λ n. origin-bytes (removed-rule n)) more-made; pair = a }
+
+      with-new-rule : Represents tab (with-new .state) (with-rule s p)
+      with-new-rule =
+          let l = r .live in
+          let one = length-append (s .rules) (new ∷ []) in
+          let n = all-rows tab st s r in
+          record {
+            pairs = record {
+              holds =
+                  subst (λ z. Holds tab b 0 z) (sym (held-more (s .rules) new (s .waiting)))
+                  (inserted-holds tab (map row (s .rules)) (row new) (map marked (s .waiting)) (rows tab st s r) (rules-rows tab st s r)
+                  (length-append (map row (s .rules)) (map marked (s .waiting)) ∙ omega (arith, n, rules-rows tab st s r, length-marked (s .waiting)))
+                  new-row i);
+              counted = omega (arith, n, one, length-held (s .rules ++ (new ∷ [])) (s .waiting));
+            };
+            live = omega arith;
+            made = more-made;
+            log = r .log;
+          }
+
+    made-rule : (s : RunState) → Represents tab st s → (p : Pair) (units : ℕ) (m : Paid Pair) → OrientedIs tab o p units m → NewRule tab s p units with-new m
+    made-rule s r p units (done q left) a = (a .0, a .1, with-new-rule s r q (a .2))
+    made-rule s r p units (stop f left) a = a
+
+    pub orient-done : Orients tab pair st with-new
+    orient-done =
+        let w = fine .within in
+        let l = fine .live-few in
+        let m = fine .made-few in record {
+          fine = λ g. record {
+            layout = inserted-layout i room (fine .layout) (h .layout .short 0 (omega arith)) w;
+            within = omega arith;
+            together = omega arith;
+            live-few = omega arith;
+            log-few = fine .log-few;
+            made-few = omega arith;
+          };
+          live = λ g. refl;
+          made = λ g. refl;
+          same = record { log = refl; units = refl };
+          answer = λ P k s p r q units. made-rule s r p units (oriented P p units) (h .answer P k p q units);
+        }
 
 -- `collapse`
-
-abbrev pub shelf-of : Whole → Shelf
-shelf-of st = shelf (st .rules) (st .lens) (st .numbers) (st .waiting) (st .lengths) (st .origins)
-
-module _ (tab new sizes : List ℕ) (st : Whole) (fine : Fine st) (a : Shelf) (k : ℕ) (g : Sifted tab new sizes (shelf-of st) (st .count) (st .waits) a k) where
-  abbrev after-collapse : Whole
+module _ (tab : List ℕ) (st : State) (fine : FineBut 1 st) (new b : List ℕ) (stay : ℕ) (some : 0 < st .live)
+    (copied : slot new 0 ≡ slot (st .pairs .bytes) (st .live - 1)) (g : Sifted tab new (st .pairs .bytes) (st .live) (st .pairs .count) b stay) where
+  abbrev after-collapse : State
   after-collapse = record {
-    rules = a .rules;
-    lens = a .lens;
-    numbers = a .numbers;
-    count = k;
+    pairs = record { bytes = b; count = st .pairs .count };
+    live = stay;
     made = st .made;
-    waiting = a .waiting;
-    lengths = a .lengths;
-    origins = a .origins;
-    waits = st .waits + (st .count - k);
     log = st .log;
-    entries = st .entries;
     units = st .units;
   }
 
-  start : (s : RunState) (n : Rule) → Represents tab st s → Sift tab n (s .rules) (s .waiting) (st .count) (shelf-of st) 0 0 (st .waits)
-  start s n r =
-      let e : s .waiting ≡ s .waiting ++ [] = sym (append-nil (s .waiting)) in
-      record {
-        ks = [];
-        rest = s .rules;
-        rm = [];
-        stored = stored-none tab (st .rules) (st .lens) 0;
-        to-come = r .rules;
-        numbers = refl;
-        numbers-come = ap (λ z. take z (st .numbers)) (sym (r .count)) ∙ r .numbers;
-        waits = subst (λ z. Stored tab (st .waiting) (st .lengths) 0 (pairs-of z)) e (r .waiting);
-        origins = r .origins ∙ ap origins-bytes e;
-        k-is = refl;
-        w-is = r .waits ∙ ap length e;
-        n-is = let c = r .count in omega arith;
-        kept-is = refl;
-        removed-is = refl;
-      }
+  collapse-represents : (s : RunState) (older : List Rule) (x : Rule) → s .rules ≡ older ++ (x ∷ []) → Represents tab st s →
+      Represents tab after-collapse (collapsed s older x)
+  unfolding as-removed
+  collapse-represents s older x e r =
+      let l = r .live in
+      let one = length-append older (x ∷ []) in
+      let h : Holds tab (st .pairs .bytes) 0 (map marked (held (older ++ (x ∷ [])) (s .waiting))) =
+      subst (λ z. Holds tab (st .pairs .bytes) 0 (map marked (held z (s .waiting)))) e (r .pairs .holds) in
+      let m : MarkedAt tab (st .pairs .bytes) (st .live - 1) (row x) =
+      row-at tab (st .pairs .bytes) (st .live - 1) (map row older) (row x) (map marked (s .waiting))
+      (subst (λ z. Holds tab (st .pairs .bytes) 0 z) (held-more older x (s .waiting)) h)
+      (length-rows older ∙ omega (arith, ap length e)) in
+      let f = g .sifted x older (s .waiting) (pair-moved copied (m .pair))
+      (record { holds = h; live-are = l ∙ ap length e; counted = r .pairs .counted ∙ ap (λ z. length (held z (s .waiting))) e }) in
+      record { pairs = record { holds = f .holds; counted = f .counted }; live = f .live-are; made = r .made; log = r .log }
 
-  no-rest : (n : Rule) (rest : List Rule) → st .count + length rest ≡ st .count → (kept n rest ≡ []) × (removed n rest ≡ [])
-  unfolding kept removed
-  no-rest n [] e = (refl, refl)
-  no-rest n (x ∷ rest) e = absurd (omega arith)
-
-  collapse-represents : (s : RunState) (n : Rule) → RuleAt tab new sizes 0 (n .sides) → Represents tab st s →
-      Represents tab after-collapse (record { rules = kept n (s .rules); made = s .made; waiting = s .waiting ++ removed n (s .rules); log = s .log })
-  collapse-represents s n h r =
-      let f = g .sifted n (s .rules) (s .waiting) h (start s n r) in
-      let z = no-rest n (f .rest) (f .n-is) in
-      let e : f .ks ≡ kept n (s .rules) = sym (append-nil (f .ks)) ∙ ap (λ y. f .ks ++ y) (sym (z .0)) ∙ f .kept-is in
-      let d : f .rm ≡ removed n (s .rules) = sym (append-nil (f .rm)) ∙ ap (λ y. f .rm ++ y) (sym (z .1)) ∙ f .removed-is in
-      record {
-        rules = subst (λ y. Stored tab (a .rules) (a .lens) 0 (sides-of y)) e (f .stored);
-        numbers = f .numbers ∙ ap (λ y. map (λ (x : Rule). x .number) y) e;
-        count = f .k-is ∙ ap length e;
-        made = r .made;
-        waiting = subst (λ y. Stored tab (a .waiting) (a .lengths) 0 (pairs-of (s .waiting ++ y))) d (f .waits);
-        origins = f .origins ∙ ap (λ y. origins-bytes (s .waiting ++ y)) d;
-        waits = f .w-is ∙ ap (λ y. length (s .waiting ++ y)) d;
-        log = r .log;
-        entries = r .entries;
-      }
-
-  pub collapse-done : CollapsedState tab new sizes st after-collapse
+  pub collapse-done : Collapses tab st after-collapse
   collapse-done =
-      let l = fine .live in
-      let t = fine .together in
-      let f = g .few in
-      record {
+      let f = g .fewer in
+      let w = fine .within in
+      let l = fine .live-few in record {
         fine = record {
-          rules-fit = layout-front [] [] (a .rules) (a .lens) k (st .count) (g .safe .rules-fit) f;
-          waiting-fit = g .safe .waiting-fit;
-          live = omega arith;
-          together = omega arith;
+          layout = g .layout;
+          within = omega arith;
+          together = fine .together;
+          live-few = omega arith;
           log-few = fine .log-few;
           made-few = fine .made-few;
-          rules-room = g .safe .rules-long;
-          waiting-room = g .safe .waiting-long;
-          log-room = fine .log-room;
         };
-        together = omega arith;
-        fewer = f;
+        some-live = g .some;
         made = refl;
-        entries = refl;
-        units = refl;
+        same = record { log = refl; units = refl };
         represents = collapse-represents;
       }

@@ -1,3 +1,4 @@
-pub mod Changing
-pub mod Beginning
-pub mod Paying
+mod Rows
+mod Siftings
+mod Changing
+mod Logging

@@ -2,8 +2,7 @@
 use mathlib.Core.Path.{_≡_}
 use mathlib.Core.Logic.{_⊎_}
 use mathlib.Core.List.{List, [], _∷_, _++_}
-use Prim.Native.Nat.{ℕ, suc, _+_, _<_, _≤_}
-use lib.ListN.{length}
+use Prim.Native.Nat.{ℕ, suc, _+_, _<_}
 use Rattle.limits.specs.Limits.{most-apart}
 use Rattle.terms.specs.Term.{Pair}
 use Rattle.order.specs.Walk.{rank}
@@ -12,7 +11,7 @@ use Rattle.rewriting.specs.Rewrite.{neither-above, Paid, done, stop}
 use Rattle.rewriting.specs.Ends.{ending}
 use Rattle.rewriting.specs.declared.Verdict.the-variants.{GoesOn, Ends}
 use Rattle.problem.specs.Problem.{rank-of, Problem}
-use Rattle.slots.specs.Slots.{Layout, PairAt}
+use Rattle.slots.specs.Slots.{PairAt}
 use Rattle.slots.specs.declared.Pairs.{Pairs}
 use Rattle.completion.specs.Turn.{Origin, Candidate, State as RunState, initial, kept, removed}
 use Rattle.completion.specs.Calls.{origin-bytes}
@@ -67,8 +66,8 @@ pub record Orients (tab pair : List ℕ) (st : State) (o : Stepped) : Type 0 whe
   pub live : o .verdict ≡ GoesOn → o .state .live ≡ st .live + 1
   pub made : o .verdict ≡ GoesOn → o .state .made ≡ st .made + 1
   pub same : SameLog st (o .state)
-  pub answer : (P : Problem) → rank-of (P .symbols) ≡ rank tab → (s : RunState) (e : Pair) → Represents tab st s → PairAt most-apart tab pair 0 e → (units : ℕ) →
-      NewRule tab s e units o (oriented P e units)
+  pub answer : (P : Problem) → rank-of (P .symbols) ≡ rank tab → (s : RunState) (e : Pair) → Represents tab st s →
+      PairAt most-apart tab pair 0 e → (units : ℕ) → NewRule tab s e units o (oriented P e units)
 
 -- `collapse`: the older rules that the newest one rewrites wait behind the others
 abbrev pub collapsed : RunState → List Rule → Rule → RunState
@@ -84,7 +83,8 @@ pub record Collapses (tab : List ℕ) (st r : State) : Type 0 where
   pub some-live : 0 < r .live
   pub made : r .made ≡ st .made
   pub same : SameLog st r
-  pub represents : (s : RunState) (older : List Rule) (new : Rule) → s .rules ≡ older ++ (new ∷ []) → Represents tab st s → Represents tab r (collapsed s older new)
+  pub represents : (s : RunState) (older : List Rule) (new : Rule) → s .rules ≡ older ++ (new ∷ []) → Represents tab st s →
+      Represents tab r (collapsed s older new)
 
 -- `log`: one entry more
 abbrev pub with-entry : RunState → Origin → ℕ → RunState

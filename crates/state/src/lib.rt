@@ -6,8 +6,9 @@ ghost use lib.ListN.{length};
 ghost use Rattle.limits.specs.Limits.{most-equations, most-rules, most-entries};
 ghost use Rattle.terms.specs.Base.{number-bytes};
 ghost use Rattle.fields.specs.Puts.{patched};
-ghost use Rattle.slots.specs.Slots.{slot-width, Layout, Removed, Inserted, MovedLast};
+ghost use Rattle.slots.specs.Slots.{slot-width, Layout, Removed, Inserted};
 ghost use Rattle.state.specs.Run.{logged-width, with-units, Fine, FineBut};
+ghost use Rattle.state.specs.Sifting.{SiftedOne, Sifted};
 ghost use Rattle.state.specs.Steps.{Initial, Takes, Orients, Collapses, Logs};
 use rewriting::Verdict;
 use slots::Pairs;
@@ -116,18 +117,9 @@ impl State {
         ensures { λ r. ⌜ Collapses (now (table .entry)) self r ⌝ }
     {
         let n = self.pairs.count;
-        let mut live = self.live;
-        let new = slots::copy(&self.pairs.bytes, live - 1);
-        let mut i = 0;
-        while i + 1 < live {
-            let one = slots::copy(&self.pairs.bytes, i);
-            if normaliser::reducible(slots::left(&one, 0), table, &new, 1) {
-                move_last(&mut self.pairs.bytes, i, n);
-                live -= 1;
-            } else {
-                i += 1;
-            }
-        }
+        let k = self.live;
+        let new = slots::copy(&self.pairs.bytes, k - 1);
+        let live = sift(&mut self.pairs.bytes, &new, k, n, table);
         self.live = live;
         self
     }
@@ -168,16 +160,39 @@ fn add_pair(pairs: &mut [u8; ROOM], k: usize, count: usize, one: &[u8])
     slots::insert(pairs, k, count, one);
 }
 
-fn move_last(pairs: &mut [u8; ROOM], k: usize, count: usize)
-    requires { ⌜ (k < count) × (slot-width * count ≤ length (now pairs)) ⌝ }
-    ensures { λ _. ⌜ MovedLast (now (pairs .entry)) k count (now (pairs .exit)) ⌝ }
+// Of `count` pairs the first `live` are the rules, `new` the last of them: the others that it rewrites go behind all pairs. How many rules stay.
+fn sift(pairs: &mut [u8; ROOM], new: &[u8], live: usize, count: usize, table: &[u8]) -> usize
+    requires { ⌜ Layout (now pairs) count × (0 < live) × (live ≤ count) × Layout (now new) 1 ⌝ }
+    ensures { λ r. ⌜ Sifted (now (table .entry)) (now (new .entry)) (now (pairs .entry)) live count (now (pairs .exit)) r ⌝ }
 {
-    slots::move_last(pairs, k, count);
+    let mut stay = live;
+    let mut i = 0;
+    while i + 1 < stay {
+        if sift_one(pairs, i, new, count, table) {
+            stay -= 1;
+        } else {
+            i += 1;
+        }
+    }
+    stay
+}
+
+// Whether the rule `new` rewrites the pair at i, which then goes behind all others.
+fn sift_one(pairs: &mut [u8], i: usize, new: &[u8], count: usize, table: &[u8]) -> bool
+    requires { ⌜ Layout (now pairs) count × (i < count) × Layout (now new) 1 ⌝ }
+    ensures { λ r. ⌜ SiftedOne (now (table .entry)) (now (new .entry)) (now (pairs .entry)) i count (now (pairs .exit)) r ⌝ }
+{
+    let one = slots::copy(pairs, i);
+    let rewrites = normaliser::reducible(slots::left(&one, 0), table, new, 1);
+    if rewrites {
+        slots::move_last(pairs, i, count);
+    }
+    rewrites
 }
 
 // The n-th entry: an origin, and the number of the rule made.
 fn add_entry(log: &mut [u8; LOG], n: usize, origin: [u8; limits::ORIGIN], made: u16)
-    requires { ⌜ (logged-width * (n + 1) ≤ length (now log)) ⌝ }
+    requires { ⌜ (n < most-entries) × (logged-width * (n + 1) ≤ length (now log)) ⌝ }
     ensures { λ _. ⌜ now (log .exit) ≡ patched (logged-width * n) (origin ++ number-bytes 2 made) (now (log .entry)) ⌝ }
 {
     let a = ENTRY * n;

@@ -1,21 +1,24 @@
--- `add_entry`: the eleven bytes that are pasted are those of the entry's field 13, by `entry-list`. Assumes nothing.
--- Read first: specs/Steps (entry-bytes), proofs/Changing.
-use Rattle.engine.proofs.Changing.{entry-list}
-use Rattle.store.specs.Slots.{patched}
-use mathlib.Core.Path.{_∙_, ap}
-use Prim.Native.Nat.{_*_}
+-- `add_entry`: the number is put behind the origin, by `entry-put`. Assumes nothing.
+-- Read first: fields/specs/Puts, proofs/Logging.
+use mathlib.Core.Path.{_≡_}
+use native.Mathlib.Omega.{arith}
+use lib.ListN.{length}
+use Rattle.state.proofs.Logging.{entry-put}
 use borrow.Author.Needs.{needs}
-use Rattle.engine.proofs.add_entry.Statement.{statement}
-use Rattle.engine.proofs.add_entry.Tie as tie
-use Rattle.engine.proofs.add_entry.Reads as reads
-use Rattle.engine.proofs.add_entry.Lts as lts
-use Rattle.store.proofs.paste.Reads as paste-reads
+use Rattle.state.proofs.add_entry.Statement.{statement}
+use Rattle.state.proofs.add_entry.Tie as tie
+use Rattle.state.proofs.add_entry.Reads as reads
+use Rattle.state.proofs.add_entry.Lts as lts
+use Rattle.fields.proofs.paste.Reads as paste-reads
+use Rattle.fields.proofs.put_number.Reads as put-number-reads
 
 returns : tie.Need-returns
 returns c =
+    let at-paste : tie.After-paste = search depth 0 in
     let entry : tie.Start = search depth 0 in
-    c .before .before .paste .ensures ∙ ap (λ z. patched (11 * (entry .args .n)) z (entry .args .log .now))
-    (entry-list (entry .args .origin .now) (entry .args .made) (entry .pre .1))
+    let six : length (entry .args .t3) ≡ 6 = search needs in
+    let r = entry .pre .1 in
+    entry-put _ _ _ _ _ _ _ (omega arith) six (at-paste .paste .ensures) (c .put-number .ensures)
 
 pub add-entry-spec : {M : Type 1} → statement M
 add-entry-spec =
@@ -23,14 +26,7 @@ add-entry-spec =
     (tie.spec
     (λ c. search needs)
     (λ c. search needs)
-    (λ c. search needs)
-    (λ c. search needs)
-    (λ c. search needs)
-    (λ c. search needs)
-    (λ c. search needs)
-    (λ c. search needs)
-    (λ c. search needs)
-    (λ c. search needs)
     (λ c κs. search needs)
     (λ c. search needs)
+    (λ c κs. search needs)
     returns)

@@ -1,66 +1,65 @@
--- `State::orient`: the new rule's slot is copied behind the live ones, its number beside it, by `orient-done`. Assumes nothing.
--- Read first: specs/Steps (OrientedState), proofs/Changing.
+-- `State::orient`: the new rule's slot is inserted behind the live ones, or the turn ends, by `orient-done` and `orient-ends`. Assumes nothing.
+-- Read first: specs/Steps (Orients), orient/specs/Orients (RuleOf), proofs/Changing.
 use mathlib.Core.Path.{_≡_}
+use Prim.Native.Nat.{_+_, _*_, _≤_}
 use native.Mathlib.Omega.{arith}
 use lib.ListN.{length}
-use Rattle.engine.proofs.Changing.{orient-done}
+use Rattle.limits.specs.Limits.{most-pairs}
+use Rattle.slots.specs.Slots.{slot-width}
+use Rattle.state.proofs.Changing.{orient-ends, orient-done}
 use borrow.Author.Needs.{needs}
-use Rattle.engine.proofs.State.orient.Statement.{statement}
-use Rattle.engine.proofs.State.orient.Tie as tie
-use Rattle.engine.proofs.State.orient.Reads as reads
-use Rattle.engine.proofs.State.orient.Lts as lts
-use Rattle.store.proofs.copy_slot.Reads as copy-slot-reads
+use Rattle.state.proofs.State.orient.Statement.{statement}
+use Rattle.state.proofs.State.orient.Tie as tie
+use Rattle.state.proofs.State.orient.Reads as reads
+use Rattle.state.proofs.State.orient.Lts as lts
+use Rattle.orient.proofs.rule_of.Reads as rule-of-reads
+use Rattle.state.proofs.add_pair.Reads as add-pair-reads
 
-add-made : tie.Need-add-made
-add-made c = search needs
+-- Places, found by their types: the only field of a type is the place itself.
+abbrev entry-of-rule-of : tie.After-rule-of → tie.Start
+entry-of-rule-of at = search depth 0
 
-slice-aggregate-copy-slot : tie.Need-slice-aggregate-copy-slot
-slice-aggregate-copy-slot c = search needs
-
-copy-slot-requires : tie.Need-copy-slot-requires
-copy-slot-requires c κs =
-    let entry : tie.Start = search depth 0 in
-    let e = entry .pre .0 .1 in
-    let f : length (entry .args .self .lens) ≡ 66 = search needs in
-    let g = entry .pre .1 .0 in
-    (search needs, record { slots = omega arith; lengths = omega arith })
-
-cast-numbers : tie.Need-cast-numbers
-cast-numbers c = search needs
-
-mul-numbers : tie.Need-mul-numbers
-mul-numbers c = search needs
-
-array-write-numbers : tie.Need-array-write-numbers
-array-write-numbers c = search needs
-
-add-self : tie.Need-add-self
-add-self c = search needs
-
-same-length : tie.Need-same-length
-same-length c = search needs
+-- there is room for one pair more
+one-more : (at : tie.Start) → slot-width * (at .args .t1 .pairs .count + 1) ≤ length (at .args .t1 .pairs .bytes)
+one-more at =
+    let l : length (at .args .t1 .pairs .bytes) ≡ slot-width * most-pairs = search needs in
+    let n = at .pre .1 in
+    omega arith
 
 returns : tie.Need-returns
 returns c =
-    let at-copy-slot : tie.After-copy-slot = search depth 0 in
-    let entry : tie.Start = search depth 0 in
-    let f : length (entry .args .self .lens) ≡ 66 = search needs in
-    let g : length (entry .args .self .numbers) ≡ 33 = search needs in
-    record {
-      oriented = λ waiting log fine room. orient-done _ _ _ fine (entry .pre .0 .0) (entry .pre .1 .0) room
-          (entry .pre .1 .2) g f _ _ (at-copy-slot .copy-slot .ensures .0) (at-copy-slot .copy-slot .ensures .1);
-    }
+    let at-rule-of : tie.After-rule-of = search depth 0 in
+    orient-ends _ _ _ _ _ (at-rule-of .rule-of .ensures) _ (c .enum-told2 .given .1)
+
+add-pair-requires : tie.Need-add-pair-requires
+add-pair-requires c κs =
+    let at-rule-of : tie.After-rule-of = search depth 0 in
+    let entry = entry-of-rule-of at-rule-of in
+    let w = entry .pre .0 .within in
+    let m = one-more entry in
+    (omega arith, omega arith, search needs)
+
+returns-2 : tie.Need-returns-2
+returns-2 c =
+    let at-add-pair : tie.After-add-pair = search depth 0 in
+    let at-enum-told : tie.After-enum-told = search depth 0 in
+    let at-rule-of : tie.After-rule-of = search depth 0 in
+    let entry = entry-of-rule-of at-rule-of in
+    orient-done _ _ _ _ (entry .pre .0) (at-rule-of .rule-of .ensures) (at-enum-told .enum-told .given .1) (entry .pre .1) (one-more entry) _
+    (at-add-pair .add-pair .ensures)
 
 pub orient-spec : {M : Type 1} → statement M
 orient-spec =
     tie.close
     (tie.spec
-    add-made
-    slice-aggregate-copy-slot
-    copy-slot-requires
-    cast-numbers
-    mul-numbers
-    array-write-numbers
-    add-self
-    same-length
-    returns)
+    (λ c. search needs)
+    (λ c. search needs)
+    (λ c κs. search needs)
+    (λ c. search needs)
+    (λ c. search needs)
+    returns
+    (λ c. search needs)
+    add-pair-requires
+    (λ c. search needs)
+    (λ c. search needs)
+    returns-2)

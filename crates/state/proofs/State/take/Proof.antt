@@ -1,61 +1,24 @@
--- `State::take`: slots and origins move down by one, so the waiting list loses its oldest, by `take-done`. Assumes nothing.
--- Read first: specs/Steps (TakenState), proofs/Changing.
-use mathlib.Core.Path.{_≡_, refl}
-use native.Mathlib.Omega.{arith}
-use lib.ListN.{length}
-use Rattle.engine.proofs.Changing.{take-done}
+-- `State::take`: the first slot behind the rules is removed, if there is one, by `take-done` and `take-none`. Assumes nothing.
+-- Read first: specs/Steps (Takes), proofs/Changing.
+use Rattle.state.proofs.Changing.{take-done, take-none}
 use borrow.Author.Needs.{needs}
-use Rattle.engine.proofs.State.take.Statement.{statement}
-use Rattle.engine.proofs.State.take.Tie as tie
-use Rattle.engine.proofs.State.take.Reads as reads
-use Rattle.engine.proofs.State.take.Lts as lts
-use Rattle.store.proofs.drop_first.Reads as drop-first-reads
-use Rattle.store.proofs.shift.Reads as shift-reads
-
-slice-aggregate-drop-first : tie.Need-slice-aggregate-drop-first
-slice-aggregate-drop-first c = search needs
-
-drop-first-requires : tie.Need-drop-first-requires
-drop-first-requires c κs =
-    let entry : tie.Start = search depth 0 in
-    let p = entry .pre .1 in
-    let e : length (entry .args .self .lengths) ≡ 66 = search needs in
-    record { slots = omega arith; lengths = omega arith }
-
-slice-aggregate-shift : tie.Need-slice-aggregate-shift
-slice-aggregate-shift c = search needs
-
-shift-requires : tie.Need-shift-requires
-shift-requires c κs =
-    let entry : tie.Start = search depth 0 in
-    let e : length (entry .args .self .origins) ≡ 198 = search needs in
-    omega arith
-
-sub-self : tie.Need-sub-self
-sub-self c = search needs
-
-same-length : tie.Need-same-length
-same-length c = search needs
+use Rattle.state.proofs.State.take.Statement.{statement}
+use Rattle.state.proofs.State.take.Tie as tie
+use Rattle.state.proofs.State.take.Reads as reads
+use Rattle.state.proofs.State.take.Lts as lts
+use Rattle.state.proofs.drop_pair.Reads as drop-pair-reads
 
 returns : tie.Need-returns
 returns c =
-    let at-drop-first : tie.After-drop-first = search depth 0 in
+    let at-drop-pair : tie.After-drop-pair = search depth 0 in
+    let in-then1 : tie.Then1 = search depth 0 in
     let entry : tie.Start = search depth 0 in
-    let e : length (entry .args .self .origins) ≡ 198 = search needs in
-    record {
-      entries = refl;
-      taken = λ rules log fine. take-done _ fine (entry .pre .0) e _ _ _ (at-drop-first .drop-first .ensures)
-          (c .before .before .shift .ensures);
-    }
+    take-done _ (entry .pre) (in-then1 .if1 .taken) _ (at-drop-pair .drop-pair .ensures)
+
+returns-2 : tie.Need-returns-2
+returns-2 c =
+    let entry : tie.Start = search depth 0 in
+    take-none _ (entry .pre) (c .if1 .left)
 
 pub take-spec : {M : Type 1} → statement M
-take-spec =
-    tie.close
-    (tie.spec
-    slice-aggregate-drop-first
-    drop-first-requires
-    slice-aggregate-shift
-    shift-requires
-    sub-self
-    same-length
-    returns)
+take-spec = tie.close (tie.spec (λ c κs. search needs) (λ c. search needs) returns returns-2)
