@@ -142,7 +142,8 @@ module _ (tab pair : List ℕ) (st : State) (o : Oriented) where
     }
 
   module _ (fine : Fine st) (h : RuleOf tab pair (st .made + 1) o) (goes : o .verdict ≡ GoesOn) (few : st .pairs .count ≤ most-rules)
-      (room : slot-width * (st .pairs .count + 1) ≤ length (st .pairs .bytes)) (b : List ℕ) (i : Inserted (st .pairs .bytes) (st .live) (st .pairs .count) (o .rule) b) where
+      (room : slot-width * (st .pairs .count + 1) ≤ length (st .pairs .bytes)) (b : List ℕ)
+      (i : Inserted (st .pairs .bytes) (st .live) (st .pairs .count) (o .rule) b) where
     abbrev with-new : Stepped
     with-new = record {
       state = record {
