@@ -32,17 +32,20 @@ side-more l at e i g h j n b =
     let a : suc (i - at) ≡ i + 1 - at = omega arith in
     let c : at + (i - at) ≡ i = omega arith in
     let v : getD l i 0 ≡ getD (drop at l) (i - at) 0 = sym (getD-drop at l (i - at) 0 ∙ ap (λ z. getD l z 0) c) in
-    let k : KnownBytes (take (i - at) (drop at l) ++ (getD (drop at l) (i - at) 0 ∷ [])) = every-append (g .known) (every-one (let u : getD (drop at l) (i - at) 0 < 144 = omega (arith, v) in u)) in
+    let k : KnownBytes (take (i - at) (drop at l) ++ (getD (drop at l) (i - at) 0 ∷ [])) =
+    every-append (g .known) (every-one (let u : getD (drop at l) (i - at) 0 < 144 = omega (arith, v) in u)) in
     record {
       low = omega arith;
       high = omega arith;
       below = omega arith;
-      known = subst (λ z. KnownBytes (take z (drop at l))) a (subst (λ z. KnownBytes z) (sym (take-suc (drop at l) (i - at) 0 (omega (arith, length-drop at l)))) k);
+      known = subst (λ z. KnownBytes (take z (drop at l))) a
+          (subst (λ z. KnownBytes z) (sym (take-suc (drop at l) (i - at) 0 (omega (arith, length-drop at l)))) k);
     }
 
 -- the walk of `term_end` ends at e
 module _ (tab l : List ℕ) (at e : ℕ) (within : e ≤ length l) (ends : (x : Term) → Starts tab (drop at l) x → e ≡ at + size x) where
-  stop : (i : ℕ) → SideWalk l at e i → ((x : Term) (rest : List ℕ) → Wf 16 tab x → size x ≤ 120 → drop at l ≡ term-bytes x ++ rest → e ≡ at + size x → i ≡ at + size x) → SideEnd tab l at i
+  stop : (i : ℕ) → SideWalk l at e i →
+      ((x : Term) (rest : List ℕ) → Wf 16 tab x → size x ≤ 120 → drop at l ≡ term-bytes x ++ rest → e ≡ at + size x → i ≡ at + size x) → SideEnd tab l at i
   stop i g f =
       let b = g .below in
       record {
@@ -64,7 +67,8 @@ module _ (tab l : List ℕ) (at e : ℕ) (within : e ≤ length l) (ends : (x : 
       (λ x rest w s q k.
       let m = length-bytes x in
       let v : getD l i 0 ≡ getD (term-bytes x) (i - at) 0 =
-      sym (getD-drop at l (i - at) 0 ∙ ap (λ z. getD l z 0) c) ∙ ap (λ z. getD z (i - at) 0) q ∙ List·getD-append (term-bytes x) rest 0 (i - at) (omega arith) in
+      sym (getD-drop at l (i - at) 0 ∙ ap (λ z. getD l z 0) c) ∙ ap (λ z. getD z (i - at) 0) q
+      ∙ List·getD-append (term-bytes x) rest 0 (i - at) (omega arith) in
       let u = every-at (wf-bytes 16 tab x w) (i - at) 0 (omega arith) in
       absurd (omega arith))
 

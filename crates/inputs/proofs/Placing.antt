@@ -34,7 +34,8 @@ module _ (tab l : List ℕ) (at m e : ℕ) (a : SideEnd tab l at m) (b : SideEnd
       ∙ ap (λ z. take (m - at) (drop at l) ++ take (e - m) z) (drop-drop (m - at) at l ∙ ap (λ z. drop z l) d) in
       subst (λ z. KnownBytes z) (sym f) (every-append (a .known) (b .known))
 
-  module _ (h h₁ : List ℕ) (c : h₁ ≡ take (length (take (e - at) (drop at l))) (take (e - at) (drop at l)) ++ drop (length (take (e - at) (drop at l))) h) where
+  module _ (h h₁ : List ℕ)
+      (c : h₁ ≡ take (length (take (e - at) (drop at l))) (take (e - at) (drop at l)) ++ drop (length (take (e - at) (drop at l))) h) where
     copied : take (e - at) h₁ ≡ take (e - at) (drop at l)
     copied =
         let p = a .low in
@@ -91,7 +92,8 @@ same-end : (l : List ℕ) (at e f : ℕ) → field-at 0x03 l at e ≡ field-at 0
 unfolding field-at
 same-end l at e f q = ap (λ (x : ReadField). x .end) q
 
-module _ (tab l : List ℕ) (at : ℕ) (slots : List ℕ) (k : ℕ) (mark slots′ : List ℕ) (m : mark ≡ numbered-bytes 1 (k + 1)) (p : PutMark slots k mark slots′) where
+module _ (tab l : List ℕ) (at : ℕ) (slots : List ℕ) (k : ℕ) (mark slots′ : List ℕ) (m : mark ≡ numbered-bytes 1 (k + 1))
+    (p : PutMark slots k mark slots′) where
   pub field-none : (n place : ℕ) → due 0x03 at (drop at l) ≡ refused n place → PutsEquation tab l at slots k slots′ at
   field-none n place d = record { only = p .only; mark = p .mark-is ∙ m; short = p .short; answer = λ e p q S. absurd (no-ok (sym d ∙ q)) }
 

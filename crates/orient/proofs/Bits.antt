@@ -74,7 +74,8 @@ length-pick (suc (suc c)) k l h = absurd (omega arith)
 length-positions : (w k m : ℕ) → length (positions w k m) ≡ onesIn w m
 unfolding positions onesIn
 length-positions zero k m = refl
-length-positions (suc w) k m = length-pick (m % 2) k (positions w (suc k) (m / 2)) (mod-lt m two-pos) ∙ ap (λ z. m % 2 + z) (length-positions w (suc k) (m / 2))
+length-positions (suc w) k m = length-pick (m % 2) k (positions w (suc k) (m / 2)) (mod-lt m two-pos)
+    ∙ ap (λ z. m % 2 + z) (length-positions w (suc k) (m / 2))
 
 record PlaceOf (w k m x : ℕ) : Type 0 where
   at : ℕ
@@ -92,8 +93,18 @@ unfolding positions bit
 positions-in zero k m x i = absurd (List·Memᴰ·not-nil i)
 positions-in (suc w) k m x i =
     ⊎-elim
-    (λ (h : (0 < m % 2) × (x ≡ k)). record { at = 0; within = omega arith; is = let e = h .1 in omega arith; set = let f = h .0 in omega (arith, mod-lt m two-pos) })
-    (λ j. let r = positions-in w (suc k) (m / 2) x j in record { at = suc (r .at); within = let q = r .within in omega arith; is = let q = r .is in omega arith; set = r .set })
+    (λ (h : (0 < m % 2) × (x ≡ k)). record {
+      at = 0;
+      within = omega arith;
+      is = let e = h .1 in omega arith;
+      set = let f = h .0 in omega (arith, mod-lt m two-pos);
+    })
+    (λ j. let r = positions-in w (suc k) (m / 2) x j in record {
+      at = suc (r .at);
+      within = let q = r .within in omega arith;
+      is = let q = r .is in omega arith;
+      set = r .set;
+    })
     (in-pick (m % 2) k x (positions w (suc k) (m / 2)) i)
 
 pick-head : (c k x : ℕ) (l : List ℕ) → c ≡ 1 → x ≡ k → In x (pick c k l)
@@ -122,7 +133,8 @@ distinct-positions : (w k m : ℕ) → Distinct (positions w k m)
 unfolding positions
 distinct-positions zero k m = tt
 distinct-positions (suc w) k m =
-    distinct-pick (m % 2) k (positions w (suc k) (m / 2)) (λ i. let r = positions-in w (suc k) (m / 2) k i in let q = r .is in omega arith) (distinct-positions w (suc k) (m / 2))
+    distinct-pick (m % 2) k (positions w (suc k) (m / 2)) (λ i. let r = positions-in w (suc k) (m / 2) k i in let q = r .is in omega arith)
+    (distinct-positions w (suc k) (m / 2))
 
 ones-in : (w m : ℕ) → m < 2 ^ w → ones m ≡ onesIn w m
 unfolding onesIn ones

@@ -2,7 +2,8 @@
 -- Read first: specs/Seen (Seen, Counted), proofs/Bits.
 use mathlib.Core.Path.{_≡_, refl, sym, ap, _∙_, subst}
 use mathlib.Core.Logic.{_⊎_, inl, inr, ⊎-elim}
-use mathlib.Core.List.{List, [], _∷_, _++_, List·Memᴰ·head, List·Memᴰ·tail, List·Memᴰ·not-nil, List·Memᴰ·cases-cons, Memᴰ·append-left, Memᴰ·append-right, List·Memᴰ·append-cases}
+use mathlib.Core.List.{List, [], _∷_, _++_}
+use mathlib.Core.List.{List·Memᴰ·head, List·Memᴰ·tail, List·Memᴰ·not-nil, List·Memᴰ·cases-cons, Memᴰ·append-left, Memᴰ·append-right, List·Memᴰ·append-cases}
 use Prim.Native.Nat.{ℕ, zero, suc, _+_, _*_, _-_, _%_, _^_, _<_, _≤_, max}
 use native.Mathlib.Omega.{arith}
 use native.Mathlib.Decide.{decLt, ℕ-discrete}
@@ -53,7 +54,8 @@ see-variable m b r s h k e =
     let p : 2 ^ x < 2 ^ 32 = pow-lt (let l : x < 32 = omega arith in l) in
     let q : r ≡ bitOr m (2 ^ x) = e ∙ ap (λ z. bitOr m (z % 2 ^ 32)) (one-mul (2 ^ x)) ∙ ap (bitOr m) (mod-eq-of-lt p) in
     let bits : (i : ℕ) → bit i r ≡ max (bit i m) (bit i (2 ^ x)) = λ i. ap (bit i) q ∙ bit-or i m (2 ^ x) in
-    let sets : (i : ℕ) → 128 + i ≡ b → Has r i = λ i f. let g : x ≡ i = omega arith in let y : bit i (2 ^ x) ≡ 1 = subst (λ z. bit z (2 ^ x) ≡ 1) g (bit-power x) in omega (arith, bits i, bit-lt i m) in
+    let sets : (i : ℕ) → 128 + i ≡ b → Has r i = λ i f. let g : x ≡ i = omega arith in
+    let y : bit i (2 ^ x) ≡ 1 = subst (λ z. bit z (2 ^ x) ≡ 1) g (bit-power x) in omega (arith, bits i, bit-lt i m) in
     record {
       small = rw q (or-lt 32 m (2 ^ x) s p);
       kept = λ i l j. omega (arith, bits i, bit-lt i (2 ^ x));
@@ -109,7 +111,8 @@ mutual
   bytes-in-all : (n : ℕ) (tab : List ℕ) (ts : Terms) → Wfs n tab ts → (x : ℕ) → In (128 + x) (terms-bytes ts) → In x (variables-of ts)
   bytes-in-all n tab nil w x i = absurd (List·Memᴰ·not-nil i)
   bytes-in-all n tab (cons t ts) w x i =
-      ⊎-elim (λ j. Memᴰ·append-left (variables-of ts) (bytes-in n tab t (w .0) x j)) (λ j. Memᴰ·append-right (variables t) (bytes-in-all n tab ts (w .1) x j)) (List·Memᴰ·append-cases (term-bytes t) i)
+      ⊎-elim (λ j. Memᴰ·append-left (variables-of ts) (bytes-in n tab t (w .0) x j))
+      (λ j. Memᴰ·append-right (variables t) (bytes-in-all n tab ts (w .1) x j)) (List·Memᴰ·append-cases (term-bytes t) i)
 
 mutual
   unfolding term-bytes terms-bytes variables variables-of
@@ -121,7 +124,8 @@ mutual
   in-bytes-all : (ts : Terms) (x : ℕ) → In x (variables-of ts) → In (128 + x) (terms-bytes ts)
   in-bytes-all nil x i = absurd (List·Memᴰ·not-nil i)
   in-bytes-all (cons t ts) x i =
-      ⊎-elim (λ j. Memᴰ·append-left (terms-bytes ts) (in-bytes t x j)) (λ j. Memᴰ·append-right (term-bytes t) (in-bytes-all ts x j)) (List·Memᴰ·append-cases (variables t) i)
+      ⊎-elim (λ j. Memᴰ·append-left (terms-bytes ts) (in-bytes t x j))
+      (λ j. Memᴰ·append-right (term-bytes t) (in-bytes-all ts x j)) (List·Memᴰ·append-cases (variables t) i)
 
 -- `variable_count`
 has-none : (i : ℕ) → Has 0 i → ⊥
@@ -143,19 +147,24 @@ module _ (left right : List ℕ) (m : ℕ) (s : Seen (left ++ right) 0 m) where
       low h b i (yes l) = l
       low h b i (no l) = let f = full b (omega arith) i in absurd (omega arith)
 
-      go : (tab : List ℕ) (e : Pair) → Wf 32 tab (e .left) → Wf 32 tab (e .right) → left ≡ term-bytes (e .left) → right ≡ term-bytes (e .right) → ones m ≡ length (pair-variables e)
+      go : (tab : List ℕ) (e : Pair) → Wf 32 tab (e .left) → Wf 32 tab (e .right) → left ≡ term-bytes (e .left) → right ≡ term-bytes (e .right) →
+          ones m ≡ length (pair-variables e)
       go tab e v w p q =
           let all-low : (b : ℕ) → In b (left ++ right) → b < 160 =
-          λ b i. ⊎-elim (λ j. every-in (wf-bytes 32 tab (e .left) v) (subst (λ z. In b z) p j)) (λ j. every-in (wf-bytes 32 tab (e .right) w) (subst (λ z. In b z) q j)) (List·Memᴰ·append-cases left i) in
+          λ b i. ⊎-elim (λ j. every-in (wf-bytes 32 tab (e .left) v) (subst (λ z. In b z) p j))
+          (λ j. every-in (wf-bytes 32 tab (e .right) w) (subst (λ z. In b z) q j)) (List·Memᴰ·append-cases left i) in
           le-antisymm
           (ones-most 32 m (s .small) (pair-variables e)
           (λ x l h.
           ⊎-elim (λ z. absurd (has-none x z))
-          (λ i. ⊎-elim (λ j. in-pair-left e x (bytes-in 32 tab (e .left) v x (subst (λ z. In (128 + x) z) p j))) (λ j. in-pair-right e x (bytes-in 32 tab (e .right) w x (subst (λ z. In (128 + x) z) q j))) (List·Memᴰ·append-cases left i))
+          (λ i. ⊎-elim (λ j. in-pair-left e x (bytes-in 32 tab (e .left) v x (subst (λ z. In (128 + x) z) p j)))
+          (λ j. in-pair-right e x (bytes-in 32 tab (e .right) w x (subst (λ z. In (128 + x) z) q j))) (List·Memᴰ·append-cases left i))
           (s .only all-low x l h)))
           (ones-least 32 m (s .small) (pair-variables e) (pair-distinct e)
           (λ x i.
           ⊎-elim
-          (λ j. let l = wf-below 32 tab (e .left) v x j in (l, s .seen x l (Memᴰ·append-left right (subst (λ z. In (128 + x) z) (sym p) (in-bytes (e .left) x j)))))
-          (λ j. let l = wf-below 32 tab (e .right) w x j in (l, s .seen x l (Memᴰ·append-right left (subst (λ z. In (128 + x) z) (sym q) (in-bytes (e .right) x j)))))
+          (λ j. let l = wf-below 32 tab (e .left) v x j in
+          (l, s .seen x l (Memᴰ·append-left right (subst (λ z. In (128 + x) z) (sym p) (in-bytes (e .left) x j)))))
+          (λ j. let l = wf-below 32 tab (e .right) w x j in
+          (l, s .seen x l (Memᴰ·append-right left (subst (λ z. In (128 + x) z) (sym q) (in-bytes (e .right) x j)))))
           (pair-in e x i)))

@@ -41,7 +41,8 @@ loop-again c =
     let at-put-equation : tie.After-put-equation Inv-loop μ-loop = search depth 0 in
     let in-loop : tie.In-loop Inv-loop μ-loop = search depth 0 in
     let at-loop : tie.At-loop Inv-loop μ-loop = search depth 0 in
-    (search needs, at-put-equation .put-equation .ensures .only .same ∙ at-loop .loop .inv .1, read-more _ _ _ _ _ _ _ _ (at-loop .loop .inv .2) (in-loop .loop-test .taken) (at-put-equation .put-equation .ensures))
+    let q = at-put-equation .put-equation .ensures in
+    (search needs, q .only .same ∙ at-loop .loop .inv .1, read-more _ _ _ _ _ _ _ _ (at-loop .loop .inv .2) (in-loop .loop-test .taken) q)
 
 returns : tie.Need-returns Inv-loop μ-loop
 returns c =
@@ -52,16 +53,9 @@ pub read-spec : {M : Type 1} → statement M
 read-spec =
     tie.close
     (tie.spec
-    Inv-loop
-    μ-loop
+    Inv-loop μ-loop
     (λ c. search needs)
     loop-holds
-    (λ c. search needs)
-    (λ c. search needs)
-    (λ c. search needs)
-    (λ c. search needs)
-    put-equation-requires
-    (λ c. search needs)
-    (λ c. search needs)
-    loop-again
+    (λ c. search needs) (λ c. search needs) (λ c. search needs) (λ c. search needs) put-equation-requires
+    (λ c. search needs) (λ c. search needs) loop-again
     returns)

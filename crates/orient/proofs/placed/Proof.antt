@@ -10,16 +10,10 @@ use Rattle.orient.proofs.placed.Tie as tie
 abbrev entry-of-paste : tie.After-paste → tie.Start
 entry-of-paste at = search depth 0
 
-abbrev paste-of-paste2 : tie.After-paste2 → tie.After-paste
-paste-of-paste2 at = search depth 0
-
-abbrev paste2-of-rename-front : tie.After-rename-front → tie.After-paste2
-paste2-of-rename-front at = search depth 0
-
 rename-front-requires : tie.Need-rename-front-requires
 rename-front-requires c κs =
     let at-paste2 : tie.After-paste2 = search depth 0 in
-    let at-paste = paste-of-paste2 at-paste2 in
+    let at-paste = at-paste2 .before .before .before in
     let entry = entry-of-paste at-paste in (
       search needs,
       search needs,
@@ -30,8 +24,8 @@ returns : tie.Need-returns
 returns c =
     let at-put-sides : tie.After-put-sides = search depth 0 in
     let at-rename-front : tie.After-rename-front = search depth 0 in
-    let at-paste2 = paste2-of-rename-front at-rename-front in
-    let at-paste = paste-of-paste2 at-paste2 in
+    let at-paste2 = at-rename-front .before .before .before in
+    let at-paste = at-paste2 .before .before .before in
     let entry = entry-of-paste at-paste in
     in-slot (entry .args .left .now) (entry .args .right .now) _ _ _ (at-paste .paste .ensures) (at-paste2 .paste2 .ensures) _
     (at-rename-front .rename-front .ensures) _ _ _ _ (c .before .before .before .before .numbered .ensures) (at-put-sides .put-sides .ensures)
@@ -42,23 +36,12 @@ placed-spec =
     tie.close
     (tie.spec
     (λ c. search needs)
+    (λ c. search needs) (λ c κs. search needs)
+    (λ c. search needs) (λ c κs. search needs)
+    (λ c. search needs) rename-front-requires
     (λ c. search needs)
+    (λ c. search needs) (λ c. search needs) (λ c. search needs) (λ c. search needs)
+    (λ c. search needs) (λ c. search needs) (λ c. search needs) (λ c κs. search needs)
     (λ c κs. search needs)
-    (λ c. search needs)
-    (λ c κs. search needs)
-    (λ c. search needs)
-    rename-front-requires
-    (λ c. search needs)
-    (λ c. search needs)
-    (λ c. search needs)
-    (λ c. search needs)
-    (λ c. search needs)
-    (λ c. search needs)
-    (λ c. search needs)
-    (λ c. search needs)
-    (λ c κs. search needs)
-    (λ c κs. search needs)
-    (λ c. search needs)
-    (λ c. search needs)
-    (λ c κs. search needs)
+    (λ c. search needs) (λ c. search needs) (λ c κs. search needs)
     returns)
