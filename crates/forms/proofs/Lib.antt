@@ -1,3 +1,2 @@
-pub mod Rooms
+pub mod Walking
 pub mod Pairs
-pub mod SlotPairs

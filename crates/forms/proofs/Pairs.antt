@@ -1,130 +1,185 @@
--- `join_pair` by its returns: a side that does not come to a normal form, equal forms, different forms. Assumes nothing.
--- Read first: specs/Joins (PairWalk, compared), normaliser/specs/Settled (Normalised), proofs/Rooms (bare-room).
+-- `join_right` and `join` by their returns: a side that does not come to a normal form, equal forms, different forms. Assumes nothing.
+-- Read first: specs/Forms (RightWalk, PairWalk, compared), normaliser/specs/Settled (Normalised), proofs/Walking.
 use mathlib.Core.Path.{_≡_, refl, sym, _∙_, ap, subst}
 use mathlib.Core.Bool.{Bool, true, false}
 use mathlib.Core.List.{List, [], append-nil}
-use Prim.Native.Nat.{ℕ, _+_, _-_}
+use Prim.Native.Nat.{ℕ, _-_, _≤_}
 use native.Mathlib.Omega.{arith}
-use lib.ListN.{length, take}
+use lib.ListN.{length, take, length-take}
 use Rattle.terms.specs.Base.{if_then_else_}
-use Rattle.terms.specs.Term.{Term, Pair, same, term-bytes}
+use Rattle.terms.specs.Term.{Term, Pair, same, size, term-bytes}
 use Rattle.terms.specs.Flat.{Wf}
-use Rattle.terms.proofs.Flats.{unique}
+use Rattle.terms.proofs.Flats.{unique, widen}
 use Rattle.terms.proofs.Shape.{same-dec}
-use Rattle.rewriting.specs.Overlap.{Rule, sides-of}
-use Rattle.rewriting.specs.Rewrite.{End, complete, neither-above, spent, too-large, rules-full, log-full, end-number, goes-on, Paid, done, stop, Paying, return, and-then, _>>=_, normalise, normalise-pair}
-use Rattle.rewriting.proofs.Holds.{Holds, NormalEnd, normalise-ends, goes-on≢end}
+use Rattle.rewriting.specs.Overlap.{Rule}
+use Rattle.rewriting.specs.Rewrite.{End, complete, neither-above, spent, too-large, rules-full, log-full, Paid, done, stop, Paying, return, and-then, _>>=_, normalise, normalise-pair}
+use Rattle.rewriting.specs.declared.End.the-variants.{Spent, TooLarge}
 use Rattle.completion.specs.Turn.{Origin, Candidate, if-different}
-use Rattle.completion.specs.Calls.{origin-bytes}
 use Rattle.matching.proofs.Replacing.{take-less-zero}
-use Rattle.redex.specs.Stored.{Stored}
-use Rattle.normaliser.specs.Settled.{NormalIs, Normalised}
-use Rattle.normaliser.specs.declared.Normal.{Normal}
-use Rattle.joining.specs.declared.Walk.{Walk}
-use Rattle.joining.specs.Joins.{ScanPart, compared, Walked, found, short, large, on, FormsRoom, Bare, PairWalk}
-use Rattle.joining.proofs.Rooms.{bare-room}
+use Rattle.slots.specs.Slots.{PairAt, slot, mark-of, left-of, right-of, Layout, PutSides, PutMark}
+use Rattle.slots.proofs.Layouts.{kept-none, kept-put, layout-put, pair-put}
+use Rattle.normaliser.specs.Settled.{FormStops, SmallForm, NormalIs, Normalised}
+use Rattle.normaliser.specs.declared.Reached.{Reached}
+use Rattle.normaliser.specs.declared.Form.{Form}
+use Rattle.normaliser.specs.declared.Form.the-variants.{Normal as NormalForm, Spent as SpentForm, TooLarge as TooLargeForm}
+use Rattle.forms.specs.declared.Walk.{Walk}
+use Rattle.forms.specs.declared.Taken.{Taken}
+use Rattle.forms.specs.declared.Found.{Found}
+use Rattle.forms.specs.declared.Found.the-variants.{Equal, Different, Ends}
+use Rattle.forms.specs.Forms.{ScanPart, compared, compared-right, Walked, found, short, large, on, RightWalk, PairWalk, OldestIs}
+use Rattle.forms.proofs.Walking.{found-is, units-is, bare-room, room-from, walked-from}
 
 -- what the definition does with a pair, by what its sides come to
-module _ (rs : List Rule) (o : Origin) (e : Pair) (next : Paying Candidate) (u : ℕ) where
-  left-stops : (x : End) (v : ℕ) → normalise rs (e .left) u ≡ stop x v → compared rs o e next u ≡ stop x v
+module _ (rs : List Rule) (o : Origin) (next : Paying Candidate) (u : ℕ) where
+  left-stops : (e : Pair) (x : End) (v : ℕ) → normalise rs (e .left) u ≡ stop x v → compared rs o e next u ≡ stop x v
   unfolding compared normalise-pair _>>=_ and-then
-  left-stops x v q = rw q
+  left-stops e x v q = rw q
 
-  right-stops : (y : Term) (v : ℕ) (x : End) (z : ℕ) → normalise rs (e .left) u ≡ done y v → normalise rs (e .right) v ≡ stop x z → compared rs o e next u ≡ stop x z
-  unfolding compared normalise-pair _>>=_ and-then
-  right-stops y v x z q r = rw (q, r)
+  regroup : (y : Term) (p : Paid Term) → and-then (and-then p (λ r. return (record { left = y; right = r }))) (λ f. if-different o f next)
+      ≡ and-then p (λ r. if-different o (record { left = y; right = r }) next)
+  unfolding and-then return
+  regroup y (done r k) = refl
+  regroup y (stop x k) = refl
 
-  forms-agree : (y : Term) (v : ℕ) (y′ : Term) (z : ℕ) → normalise rs (e .left) u ≡ done y v → normalise rs (e .right) v ≡ done y′ z → same y y′ ≡ true → compared rs o e next u ≡ next z
-  unfolding compared normalise-pair _>>=_ and-then return if-different if_then_else_
-  forms-agree y v y′ z q r s = rw (q, r, s)
+  left-done : (e : Pair) (y : Term) (v : ℕ) → normalise rs (e .left) u ≡ done y v → compared rs o e next u ≡ compared-right rs o y (e .right) next v
+  unfolding compared compared-right normalise-pair _>>=_ and-then
+  left-done e y v q = rw q (regroup y (normalise rs (e .right) v))
 
-  forms-differ : (y : Term) (v : ℕ) (y′ : Term) (z : ℕ) → normalise rs (e .left) u ≡ done y v → normalise rs (e .right) v ≡ done y′ z → same y y′ ≡ false →
-      compared rs o e next u ≡ done (record { origin = o; sides = record { left = y; right = y′ } }) z
-  unfolding compared normalise-pair _>>=_ and-then return if-different if_then_else_
-  forms-differ y v y′ z q r s = rw (q, r, s)
+  module _ (l t : Term) where
+    right-stops : (x : End) (v : ℕ) → normalise rs t u ≡ stop x v → compared-right rs o l t next u ≡ stop x v
+    unfolding compared-right _>>=_ and-then
+    right-stops x v q = rw q
 
-normal-end : (rs : List Rule) (t : Term) (u : ℕ) (x : End) (v : ℕ) → normalise rs t u ≡ stop x v → NormalEnd x
-normal-end rs t u x v q = subst (Holds _ (λ e left. NormalEnd e)) q (normalise-ends rs t .out u)
+    forms-agree : (y : Term) (v : ℕ) → normalise rs t u ≡ done y v → same l y ≡ true → compared-right rs o l t next u ≡ next v
+    unfolding compared-right _>>=_ and-then if-different if_then_else_
+    forms-agree y v q s = rw (q, s)
 
--- a part that stops because normalising does
-ends : {tab L R : List ℕ} {d : ScanPart} {u v : ℕ} {w : Walk} (l : Normal) (x : End) (k : ℕ) → NormalEnd x → Bare (l .verdict) (v - l .paid) w →
-    (l .verdict ≡ end-number x) × (l .paid + k ≡ v) → ((next : Paying Candidate) → d next u ≡ stop x k) → Walked tab L R d u w
-ends l complete k only b h e = absurd only
-ends l (neither-above p) k only b h e = absurd only
-ends {tab} {L} {R} {d} {u} {v} {w} l spent k only b h e = let q : w .units ≡ k = b .units ∙ (let z = h .1 in omega arith) in short (b .verdict ∙ h .0) (λ next. e next ∙ ap (stop spent) (sym q))
-ends {tab} {L} {R} {d} {u} {v} {w} l too-large k only b h e = let q : w .units ≡ k = b .units ∙ (let z = h .1 in omega arith) in large (b .verdict ∙ h .0) (λ next. e next ∙ ap (stop too-large) (sym q))
-ends l rules-full k only b h e = absurd only
-ends l log-full k only b h e = absurd only
+    forms-differ : (y : Term) (v : ℕ) → normalise rs t u ≡ done y v → same l y ≡ false →
+        compared-right rs o l t next u ≡ done (record { origin = o; sides = record { left = l; right = y } }) v
+    unfolding compared-right _>>=_ and-then return if-different if_then_else_
+    forms-differ y v q s = rw (q, s)
 
-module _ (tab rules lens : List ℕ) (count : ℕ) (L : List ℕ) (m : ℕ) (R : List ℕ) (n : ℕ) (L′ from : List ℕ) (units : ℕ) (l : Normal) (hl : Normalised tab rules lens count L L′ m units l) (w : Walk) where
-  pub pair-left : (l .verdict ≡ goes-on → ⊥) → Bare (l .verdict) (units - l .paid) w → PairWalk tab rules lens count L m R n L′ R from units w
-  pair-left bad b = record { room = bare-room b (hl .same) refl (omega arith); answer = λ rs st ct o e fr wl wr bl br. go rs o e (normalise rs (e .left) units) refl (hl .answer rs st ct (e .left) wl bl) }
-    where
-      go : (rs : List Rule) (o : Origin) (e : Pair) (p : Paid Term) → normalise rs (e .left) units ≡ p → NormalIs tab L′ units l p → Walked tab L′ R (compared rs o e) units w
-      go rs o e (done y k) q h = absurd (bad (h .0))
-      go rs o e (stop x k) q h = ends l x k (normal-end rs (e .left) units x k q) b h (λ next. left-stops rs o e next units x k q)
+-- what a walk finds where a side comes to no normal form
+abbrev pub Stopped : Form → Type 0
+Stopped (NormalForm n) = ⊥
+Stopped SpentForm = Unit {0}
+Stopped TooLargeForm = Unit {0}
 
-  module _ (R′ : List ℕ) (r : Normal) (hr : Normalised tab rules lens count R R′ n (units - l .paid) r) where
-    -- both sides, where the left one came to a normal form
-    abbrev Rest : List Rule → Origin → Pair → Type 0
-    Rest rs o e = (y : Term) (k : ℕ) → normalise rs (e .left) units ≡ done y k → (k ≡ units - l .paid) → take (l .len) L′ ≡ term-bytes y → Wf 32 tab y →
-        (p : Paid Term) → normalise rs (e .right) k ≡ p → NormalIs tab R′ k r p → Walked tab L′ R′ (compared rs o e) units w
+abbrev pub found-of : Form → Found
+found-of (NormalForm n) = Equal
+found-of SpentForm = Ends Spent
+found-of TooLargeForm = Ends TooLarge
 
-    after-left : (ok : l .verdict ≡ goes-on) (rs : List Rule) → Stored tab rules lens 0 (sides-of rs) → count ≡ length rs → (o : Origin) (e : Pair) →
-        Wf 32 tab (e .right) → take n R ≡ term-bytes (e .right) → Rest rs o e → (p : Paid Term) → normalise rs (e .left) units ≡ p → NormalIs tab L′ units l p → Walked tab L′ R′ (compared rs o e) units w
-    after-left ok rs st ct o e wr br rest (done y k) q h =
-        let z : k ≡ units - l .paid = let s = h .1 in omega arith in
-        let a : NormalIs tab R′ k r (normalise rs (e .right) k) = subst (λ j. NormalIs tab R′ j r (normalise rs (e .right) j)) (sym z) (hr .answer rs st ct (e .right) wr br) in
-        rest y k q z (h .3) (h .4) (normalise rs (e .right) k) refl a
-    after-left ok rs st ct o e wr br rest (stop x k) q h = absurd (goes-on≢end x (sym ok ∙ h .0))
+stops : (x : End) (f : Form) → FormStops x f → Stopped f
+stops complete f h = absurd h
+stops (neither-above p) f h = absurd h
+stops spent f h = subst Stopped (sym h) tt
+stops too-large f h = subst Stopped (sym h) tt
+stops rules-full f h = absurd h
+stops log-full f h = absurd h
 
-    both : (l .verdict ≡ goes-on) → FormsRoom L R L′ R′ units w → ((rs : List Rule) (o : Origin) (e : Pair) → from ≡ origin-bytes o → Rest rs o e) → PairWalk tab rules lens count L m R n L′ R′ from units w
-    both ok room rest =
-        record {
-          room = room;
-          answer = λ rs st ct o e fr wl wr bl br.
-              after-left ok rs st ct o e wr br (rest rs o e fr) (normalise rs (e .left) units) refl (hl .answer rs st ct (e .left) wl bl);
-        }
+-- the part d stops with x
+ends : {tab one : List ℕ} {d : ScanPart} {u k : ℕ} {w : Walk} (f : Form) (x : End) → FormStops x f → w .found ≡ found-of f → w .units ≡ k →
+    ((next : Paying Candidate) → d next u ≡ stop x k) → Walked tab one d u w
+ends f complete h q z e = absurd h
+ends f (neither-above p) h q z e = absurd h
+ends f spent h q z e = short (q ∙ ap found-of h) (λ next. e next ∙ ap (stop spent) (sym z))
+ends f too-large h q z e = large (q ∙ ap found-of h) (λ next. e next ∙ ap (stop too-large) (sym z))
+ends f rules-full h q z e = absurd h
+ends f log-full h q z e = absurd h
 
-    pub pair-right : (l .verdict ≡ goes-on) → (r .verdict ≡ goes-on → ⊥) → Bare (r .verdict) ((units - l .paid) - r .paid) w → PairWalk tab rules lens count L m R n L′ R′ from units w
-    pair-right ok bad b = both ok (bare-room b (hl .same) (hr .same) (omega arith)) (λ rs o e fr. go rs o e)
-      where
-        go : (rs : List Rule) (o : Origin) (e : Pair) → Rest rs o e
-        go rs o e y k q z by wy (done y′ k′) q′ h = absurd (bad (h .0))
-        go rs o e y k q z by wy (stop x k′) q′ h = ends r x k′ (normal-end rs (e .right) k x k′ q′) (subst (λ j. Bare (r .verdict) (j - r .paid) w) (sym z) b) h (λ next. right-stops rs o e next units y k x k′ q q′)
+-- a side that was normalised
+module _ {tab rules : List ℕ} {count : ℕ} {t out out′ : List ℕ} {units : ℕ} {r : Reached} (hr : Normalised tab rules count t out out′ units r) where
+  -- it came to no normal form
+  module _ (f : Form) (s : Stopped f) (g : r .form ≡ f) {w : Walk} (e : w ≡ record { found = found-of f; units = units - r .paid }) where
+    side-ends : {one : List ℕ} {d : ScanPart} (p : Paid Term) → NormalIs tab out′ units r p →
+        ((x : End) (k : ℕ) → p ≡ stop x k → (next : Paying Candidate) → d next units ≡ stop x k) → Walked tab one d units w
+    side-ends (done y k) h q = absurd (subst Stopped (sym g ∙ h .0) s)
+    side-ends (stop x k) h q = ends f x (subst (FormStops x) g (h .0)) (found-is e) (let a = h .1 in units-is e ∙ omega arith) (q x k refl)
 
-    uncut : take (l .len - 0) L′ ≡ take (r .len - 0) R′ → take (l .len) L′ ≡ take (r .len) R′
-    uncut e = sym (take-less-zero (l .len) L′) ∙ e ∙ take-less-zero (r .len) R′
+    pub right-ends : {first one : List ℕ} → RightWalk tab rules count first t one one units w
+    right-ends = record {
+      room = bare-room e (omega arith);
+      answer = λ rs st ct o l x mk wl wx bl bx. side-ends _ (hr .answer rs st ct x wx bx) (λ y k q next. right-stops rs o next units l x y k q);
+    }
 
-    uncut⁻¹ : take (l .len) L′ ≡ take (r .len) R′ → take (l .len - 0) L′ ≡ take (r .len - 0) R′
-    uncut⁻¹ e = take-less-zero (l .len) L′ ∙ e ∙ sym (take-less-zero (r .len) R′)
+    pub left-ends : {list : List ℕ} {k : ℕ} {one : List ℕ} → t ≡ left-of (slot list k) → PairWalk tab list k rules count one one units w
+    left-ends q = record {
+      room = bare-room e (omega arith);
+      answer = λ rs st ct o p mk at.
+          side-ends _ (hr .answer rs st ct (p .left) (at .sides .left-wf) (q ∙ at .sides .left-bytes)) (λ x j z next. left-stops rs o next units p x j z);
+    }
 
-    -- the two forms are compared as bytes
-    forms : (y y′ : Term) → take (l .len) L′ ≡ term-bytes y → take (r .len) R′ ≡ term-bytes y′ → Wf 32 tab y → Wf 32 tab y′ → take (l .len) L′ ≡ take (r .len) R′ → y ≡ y′
-    forms y y′ a b wy wy′ e = unique 32 tab y y′ [] [] wy wy′ (append-nil (term-bytes y) ∙ sym a ∙ e ∙ b ∙ sym (append-nil (term-bytes y′))) .0
+  -- it came to a normal form of n bytes
+  module _ {n : ℕ} (g : r .form ≡ NormalForm n) where
+    pub few-bytes : n ≤ 120
+    few-bytes = subst SmallForm g (hr .small)
 
-    pub pair-same : (l .verdict ≡ goes-on) → (r .verdict ≡ goes-on) → take (l .len - 0) L′ ≡ take (r .len - 0) R′ → Bare (end-number complete) ((units - l .paid) - r .paid) w → PairWalk tab rules lens count L m R n L′ R′ from units w
-    pair-same ok ok′ cut b = both ok (bare-room b (hl .same) (hr .same) (omega arith)) (λ rs o e fr. go rs o e)
-      where
-        go : (rs : List Rule) (o : Origin) (e : Pair) → Rest rs o e
-        go rs o e y k q z by wy (done y′ k′) q′ h =
-            let u : w .units ≡ k′ = b .units ∙ (let s = h .1 in omega arith) in
-            on (b .verdict) (λ next. forms-agree rs o e next units y k y′ k′ q q′ (same-dec y y′ .1 (forms y y′ by (h .3) wy (h .4) (uncut cut))) ∙ ap next (sym u))
-        go rs o e y k q z by wy (stop x k′) q′ h = absurd (goes-on≢end x (sym ok′ ∙ h .0))
+    pub few-taken : length (take (n - 0) out′) ≤ 120
+    few-taken = let a = few-bytes in omega (arith, length-take (n - 0) out′)
 
-    pub pair-found : (l .verdict ≡ goes-on) → (r .verdict ≡ goes-on) → (t : Bool) → t ≡ false → (take (l .len - 0) L′ ≡ take (r .len - 0) R′ → t ≡ true) →
-        w .verdict ≡ goes-on → w .units ≡ (units - l .paid) - r .paid → w .m ≡ l .len → w .n ≡ r .len → w .origin ≡ from → PairWalk tab rules lens count L m R n L′ R′ from units w
-    pair-found ok ok′ t differs agrees wv wu wm wn wo =
-        both ok (record { left-kept = hl .same; right-kept = hr .same; left-few = let a = hl .small in omega arith; right-few = let a = hr .small in omega arith; left-over = omega arith }) go
-      where
-        apart : (y y′ : Term) → take (l .len) L′ ≡ term-bytes y → take (r .len) R′ ≡ term-bytes y′ → (b : Bool) → same y y′ ≡ b → same y y′ ≡ false
-        apart y y′ a c true s = let k : t ≡ true = agrees (uncut⁻¹ (a ∙ ap term-bytes (same-dec y y′ .0 s) ∙ sym c)) in cc
-        apart y y′ a c false s = s
+    normal-form : {A : Type 0} (p : Paid Term) → NormalIs tab out′ units r p →
+        ((y : Term) (k : ℕ) → p ≡ done y k → k ≡ units - r .paid → take (n - 0) out′ ≡ term-bytes y → Wf 32 tab y → A) → A
+    normal-form (done y k) h f =
+        let a : NormalForm n ≡ NormalForm (size y) = sym g ∙ h .0 in
+        let z : n ≡ size y = cc in
+        f y k refl (let b = h .1 in omega arith) (take-less-zero n out′ ∙ ap (λ j. take j out′) z ∙ h .2) (h .3)
+    normal-form (stop x k) h f = absurd (subst Stopped g (stops x (r .form) (h .0)))
 
-        go : (rs : List Rule) (o : Origin) (e : Pair) → from ≡ origin-bytes o → Rest rs o e
-        go rs o e fr y k q z by wy (done y′ k′) q′ h =
-            let u : w .units ≡ k′ = wu ∙ (let s = h .1 in omega arith) in
-            found (record { origin = o; sides = record { left = y; right = y′ } }) wv
-            (λ next. forms-differ rs o e next units y k y′ k′ q q′ (apart y y′ by (h .3) (same y y′) refl) ∙ ap (done (record { origin = o; sides = record { left = y; right = y′ } })) (sym u))
-            (record { sides = record { left-bytes = rw wm by; right-bytes = rw wn (h .3); left-wf = wy; right-wf = h .4 }; from = wo ∙ fr })
-        go rs o e fr y k q z by wy (stop x k′) q′ h = absurd (goes-on≢end x (sym ok′ ∙ h .0))
+    module _ {first one : List ℕ} where
+      pub right-same : {w : Walk} → first ≡ take (n - 0) out′ → w ≡ record { found = Equal; units = units - r .paid } →
+          RightWalk tab rules count first t one one units w
+      right-same b e = record {
+        room = bare-room e (omega arith);
+        answer = λ rs st ct o l x mk wl wx bl bx.
+            normal-form _ (hr .answer rs st ct x wx bx) λ y k q z by wy.
+            let s : l ≡ y = unique 32 tab l y [] [] wl wy (append-nil (term-bytes l) ∙ sym bl ∙ b ∙ by ∙ sym (append-nil (term-bytes y))) .0 in
+            on (found-is e) (λ next. forms-agree rs o next units l x y k q (same-dec l y .1 s) ∙ ap next (z ∙ sym (units-is e)));
+      }
+
+      pub right-differs : {one′ : List ℕ} {w : Walk} (b : Bool) → b ≡ false → (first ≡ take (n - 0) out′ → b ≡ true) →
+          PutSides one 0 first (take (n - 0) out′) one′ → w ≡ record { found = Different; units = units - r .paid } →
+          RightWalk tab rules count first t one one′ units w
+      right-differs b differs agrees put e = record {
+        room = record { kept = kept-put put; left-over = let q = units-is e in omega arith };
+        answer = λ rs st ct o l x mk wl wx bl bx.
+            normal-form _ (hr .answer rs st ct x wx bx) λ y k q z by wy.
+            let c : Candidate = record { origin = o; sides = record { left = l; right = y } } in
+            found c (found-is e) (λ next. forms-differ rs o next units l x y k q (apart l y bl by (same l y) refl) ∙ ap (done c) (z ∙ sym (units-is e)))
+            (record { sides = pair-put put (record { left-wf = wl; right-wf = wy; left-bytes = bl; right-bytes = by }); from = put .mark ∙ mk });
+      }
+        where
+          apart : (l y : Term) → first ≡ term-bytes l → take (n - 0) out′ ≡ term-bytes y → (s : Bool) → same l y ≡ s → same l y ≡ false
+          apart l y bl by true s = let k : b ≡ true = agrees (bl ∙ ap term-bytes (same-dec l y .0 s) ∙ sym by) in cc
+          apart l y bl by false s = s
+
+    pub left-form : {list : List ℕ} {k : ℕ} {one one′ u : List ℕ} {w : Walk} → t ≡ left-of (slot list k) → u ≡ right-of (slot list k) →
+        RightWalk tab rules count (take (n - 0) out′) u one one′ (units - r .paid) w → PairWalk tab list k rules count one one′ units w
+    left-form {one = one} ql qr R = record {
+      room = room-from (kept-none one) (omega arith) (R .room);
+      answer = λ rs st ct o p mk at.
+          normal-form _ (hr .answer rs st ct (p .left) (at .sides .left-wf) (ql ∙ at .sides .left-bytes)) λ y j e z by wy.
+          walked-from (λ next. left-done rs o next units p y j e ∙ ap (compared-right rs o y (p .right) next) z)
+          (R .answer rs st ct o y (p .right) mk wy (at .sides .right-wf) by (qr ∙ at .sides .right-bytes));
+    }
+
+-- `oldest`: a slot of zeros with the mark of the pair behind the live rules
+pub marked-one : {zeros mark one : List ℕ} → Layout zeros 1 → PutMark zeros 0 mark one → Layout one 1
+marked-one lay put = layout-put lay (put .only) (put .short (lay .short 0 (omega arith)))
+
+pub pair-wider : {tab slots : List ℕ} {k : ℕ} {e : Pair} → PairAt 16 tab slots k e → PairAt 32 tab slots k e
+pair-wider {tab} {e = e} at =
+    let S = at .sides in
+    let l = widen 16 32 tab (e .left) (omega arith) (S .left-wf) in
+    let r = widen 16 32 tab (e .right) (omega arith) (S .right-wf) in
+    record { sides = record { left-wf = l; right-wf = r; left-bytes = S .left-bytes; right-bytes = S .right-bytes } }
+
+pub oldest-walk : {tab pairs : List ℕ} {live units : ℕ} {zeros mark one one′ : List ℕ} {w : Walk} {t : Taken} → Layout zeros 1 →
+    mark ≡ mark-of (slot pairs live) → PutMark zeros 0 mark one → PairWalk tab pairs live pairs live one one′ units w →
+    t ≡ record { found = w .found; units = w .units; pair = one′ } → OldestIs tab pairs live units t
+oldest-walk {tab} {pairs} {live} {units} lay m put P e = subst (OldestIs tab pairs live units) (sym e) (record {
+  layout = P .room .kept .layout (marked-one lay put);
+  left-over = P .room .left-over;
+  mark = P .room .kept .mark ∙ put .mark-is ∙ m;
+  answer = λ rs st ct o p mk at. P .answer rs st ct o p (put .mark-is ∙ m ∙ mk) (pair-wider at);
+})

@@ -1,21 +1,34 @@
 -- A walk on its way: the whole part from the start comes to the same as the part still to come with the units left. Assumes nothing. So loops and
 -- sequences of walks compose.
--- Read first: joining/specs/Joins (ScanPart, Walked), specs/Walk (Walks), joining/proofs/Rooms.
-use mathlib.Core.Path.{_≡_, refl, _∙_, ap}
+-- Read first: forms/specs/Forms (ScanPart, Walked), specs/Walk (Walks), forms/proofs/Walking.
+use mathlib.Core.Path.{_≡_, refl, sym, _∙_, ap}
 use mathlib.Core.List.{List}
+use mathlib.Core.Logic.{_⊎_, ⊎-elim}
 use Prim.Native.Nat.{ℕ, _≤_}
 use native.Mathlib.Omega.{arith}
-use lib.ListN.{length}
-use Rattle.rewriting.specs.Rewrite.{Paying, complete, end-number}
+use Rattle.terms.proofs.Shape.{zero≢one}
+use Rattle.rewriting.specs.Rewrite.{Paying}
 use Rattle.completion.specs.Turn.{Candidate}
-use Rattle.joining.specs.declared.Walk.{Walk}
-use Rattle.joining.specs.Joins.{ScanPart, Walked, found, short, large, on, Bare}
-use Rattle.joining.proofs.Rooms.{bare-room, room-from}
-use Rattle.scan.specs.Walk.{Walks}
+use Rattle.slots.specs.Slots.{PutMark, KeptSlot}
+use Rattle.forms.specs.declared.Walk.{Walk}
+use Rattle.forms.specs.declared.Found.the-variants.{Equal}
+use Rattle.forms.specs.Forms.{ScanPart, Walked, found, short, large, on}
+use Rattle.forms.proofs.Walking.{found-is, units-is, walked-from}
+use Rattle.forms.proofs.Pairs.{marked-one}
+use Rattle.scanning.specs.Walk.{Lent, Walks}
 
-pub record Going {W : Type 0} (H : W → Type 0) (d : W → ScanPart) (L R L′ R′ : List ℕ) (units : ℕ) (d′ : W → ScanPart) (u : ℕ) : Type 0 where
-  pub left-kept : length L′ ≡ length L
-  pub right-kept : length R′ ≡ length R
+-- a slot that was lent, and one that got a mark before
+pub lent-none : (one : List ℕ) → Lent one one
+lent-none one = record { same = refl; layout = λ y. y }
+
+pub lent-trans : {one one₁ one₂ : List ℕ} → Lent one one₁ → Lent one₁ one₂ → Lent one one₂
+lent-trans p q = record { same = q .same ∙ p .same; layout = λ y. q .layout (p .layout y) }
+
+pub lent-mark : {one mark one₁ one₂ : List ℕ} → PutMark one 0 mark one₁ → KeptSlot one₁ one₂ → Lent one one₂
+lent-mark p k = record { same = k .same ∙ p .only .same; layout = λ y. k .layout (marked-one y p) }
+
+pub record Going {W : Type 0} (H : W → Type 0) (d : W → ScanPart) (one one′ : List ℕ) (units : ℕ) (d′ : W → ScanPart) (u : ℕ) : Type 0 where
+  pub kept : Lent one one′
   pub within : u ≤ units
   pub reaches : (x : W) → H x → (next : Paying Candidate) → d x next units ≡ d′ x next u
 
@@ -27,56 +40,55 @@ pub record Unrolls {W : Type 0} (H : W → Type 0) (e d₁ d₂ : W → ScanPart
 pub record Over {W : Type 0} (H : W → Type 0) (e : W → ScanPart) : Type 0 where
   pub is : (x : W) → H x → (next : Paying Candidate) → e x next ≡ next
 
-pub walked-from : {tab L R : List ℕ} {d e : ScanPart} {u v : ℕ} {w : Walk} → ((next : Paying Candidate) → d next u ≡ e next v) → Walked tab L R e v w → Walked tab L R d u w
-walked-from q (found c z f s) = found c z (λ next. q next ∙ f next) s
-walked-from q (short z f) = short z (λ next. q next ∙ f next)
-walked-from q (large z f) = large z (λ next. q next ∙ f next)
-walked-from q (on z f) = on z (λ next. q next ∙ f next)
-
 -- a part that stops, and what would follow it
-walked-stop : {tab L R : List ℕ} {d₁ d₂ : ScanPart} {u : ℕ} {w : Walk} → Walked tab L R d₁ u w → (w .verdict ≡ end-number complete → ⊥) → Walked tab L R (λ next. d₁ (d₂ next)) u w
+walked-stop : {tab one : List ℕ} {d₁ d₂ : ScanPart} {u : ℕ} {w : Walk} → Walked tab one d₁ u w → (w .found ≡ Equal → ⊥) → Walked tab one (λ next. d₁ (d₂ next)) u w
 walked-stop {d₂ = d₂} (found c z f s) n = found c z (λ next. f (d₂ next)) s
 walked-stop {d₂ = d₂} (short z f) n = short z (λ next. f (d₂ next))
 walked-stop {d₂ = d₂} (large z f) n = large z (λ next. f (d₂ next))
 walked-stop {d₂ = d₂} (on z f) n = absurd (n z)
 
-walked-on : {tab L R : List ℕ} {d : ScanPart} {u : ℕ} {w : Walk} → Walked tab L R d u w → w .verdict ≡ end-number complete → (next : Paying Candidate) → d next u ≡ next (w .units)
-unfolding end-number
-walked-on (found c z f s) n next = absurd (omega arith)
-walked-on (short z f) n next = absurd (omega arith)
-walked-on (large z f) n next = absurd (omega arith)
+-- a walk that did not come to its end
+pub not-equal : (_≡_ {A = ℕ} 0 1) ⊎ (_≡_ {A = ℕ} 0 2) → ⊥
+not-equal h = ⊎-elim (λ z. omega arith) (λ z. omega arith) h
+
+walked-on : {tab one : List ℕ} {d : ScanPart} {u : ℕ} {w : Walk} → Walked tab one d u w → w .found ≡ Equal → (next : Paying Candidate) → d next u ≡ next (w .units)
+walked-on (found c z f s) n next = absurd (zero≢one (cc))
+walked-on (short z f) n next = absurd (zero≢one (cc))
+walked-on (large z f) n next = absurd (zero≢one (cc))
 walked-on (on z f) n next = f next
 
-pub going-start : {W : Type 0} {H : W → Type 0} {d : W → ScanPart} {L R : List ℕ} {units : ℕ} → Going H d L R L R units d units
-going-start = record { left-kept = refl; right-kept = refl; within = omega arith; reaches = λ x h next. refl }
+pub going-start : {W : Type 0} {H : W → Type 0} {d : W → ScanPart} {one : List ℕ} {units : ℕ} → Going H d one one units d units
+going-start {one = one} = record { kept = lent-none one; within = omega arith; reaches = λ x h next. refl }
 
-module _ {W : Type 0} {H : W → Type 0} {d : W → ScanPart} {tab L R L′ R′ : List ℕ} {units : ℕ} {e : W → ScanPart} {u : ℕ} (g : Going H d L R L′ R′ units e u) where
-  pub going-then : {L″ R″ : List ℕ} {w : Walk} → Walks H e tab L′ R′ L″ R″ u w → Walks H d tab L R L″ R″ units w
-  going-then k = record { room = room-from (g .left-kept) (g .right-kept) (g .within) (k .room); answer = λ x h. walked-from (g .reaches x h) (k .answer x h) }
+module _ {W : Type 0} {H : W → Type 0} {d : W → ScanPart} {tab one one′ : List ℕ} {units : ℕ} {e : W → ScanPart} {u : ℕ} (g : Going H d one one′ units e u) where
+  pub going-then : {one″ : List ℕ} {w : Walk} → Walks H e tab one′ one″ u w → Walks H d tab one one″ units w
+  going-then k = record {
+    kept = lent-trans (g .kept) (k .kept);
+    left-over = let a = k .left-over in let b = g .within in omega arith;
+    answer = λ x h. walked-from (g .reaches x h) (k .answer x h);
+  }
 
-  pub going-on : {d₁ d₂ : W → ScanPart} {L″ R″ : List ℕ} {w : Walk} → Unrolls H e d₁ d₂ → Walks H d₁ tab L′ R′ L″ R″ u w → w .verdict ≡ end-number complete → Going H d L R L″ R″ units d₂ (w .units)
-  going-on {d₁} {d₂} r k z =
-      record {
-        left-kept = k .room .left-kept ∙ g .left-kept;
-        right-kept = k .room .right-kept ∙ g .right-kept;
-        within = let a = k .room .left-over in let b = g .within in omega arith;
-        reaches = λ x h next. g .reaches x h next ∙ ap (λ (f : Paying Candidate). f u) (r .is x h next) ∙ walked-on (k .answer x h) z (d₂ x next);
-      }
+  module _ {d₁ d₂ : W → ScanPart} {one″ : List ℕ} {w : Walk} (r : Unrolls H e d₁ d₂) (k : Walks H d₁ tab one′ one″ u w) where
+    unrolled : (x : W) → H x → (next : Paying Candidate) → d x next units ≡ d₁ x (d₂ x next) u
+    unrolled x h next = g .reaches x h next ∙ ap (λ (f : Paying Candidate). f u) (r .is x h next)
 
-  pub going-stop : {d₁ d₂ : W → ScanPart} {L″ R″ : List ℕ} {w : Walk} → Unrolls H e d₁ d₂ → Walks H d₁ tab L′ R′ L″ R″ u w → (w .verdict ≡ end-number complete → ⊥) → Walks H d tab L R L″ R″ units w
-  going-stop {d₁} {d₂} r k n =
-      record {
-        room = room-from (g .left-kept) (g .right-kept) (g .within) (k .room);
-        answer = λ x h. walked-from (λ next. g .reaches x h next ∙ ap (λ (f : Paying Candidate). f u) (r .is x h next)) (walked-stop {d₂ = d₂ x} (k .answer x h) n);
-      }
+    pub going-on : w .found ≡ Equal → Going H d one one″ units d₂ (w .units)
+    going-on z = record {
+      kept = lent-trans (g .kept) (k .kept);
+      within = let a = k .left-over in let b = g .within in omega arith;
+      reaches = λ x h next. unrolled x h next ∙ walked-on (k .answer x h) z (d₂ x next);
+    }
 
-  pub going-end : {w : Walk} → Over H e → Bare (end-number complete) u w → Walks H d tab L R L′ R′ units w
-  going-end {w} o b =
-      record {
-        room = bare-room b (g .left-kept) (g .right-kept) (g .within);
-        answer = λ x h. on (b .verdict) (λ next. g .reaches x h next ∙ ap (λ (f : Paying Candidate). f u) (o .is x h next) ∙ ap next (let z = b .units in omega arith));
-      }
+    pub going-stop : (w .found ≡ Equal → ⊥) → Walks H d tab one one″ units w
+    going-stop n = record {
+      kept = lent-trans (g .kept) (k .kept);
+      left-over = let a = k .left-over in let b = g .within in omega arith;
+      answer = λ x h. walked-from (unrolled x h) (walked-stop {d₂ = d₂ x} (k .answer x h) n);
+    }
 
--- a buffer keeps its length
-pub still-fits : {a b : ℕ} → a ≡ b → 120 ≤ b → 120 ≤ a
-still-fits e l = omega arith
+  pub going-end : {w : Walk} → Over H e → w ≡ record { found = Equal; units = u } → Walks H d tab one one′ units w
+  going-end o q = record {
+    kept = g .kept;
+    left-over = let a = units-is q in let b = g .within in omega arith;
+    answer = λ x h. on (found-is q) (λ next. g .reaches x h next ∙ ap (λ (f : Paying Candidate). f u) (o .is x h next) ∙ ap next (sym (units-is q)));
+  }

@@ -1,6 +1,6 @@
-pub mod WellFormed
-pub mod Going
-pub mod Placing
-pub mod Places
-pub mod Reaching
-pub mod Inputs
+mod WellFormed
+mod Going
+mod Placing
+mod Places
+mod Reaching
+mod Inputs

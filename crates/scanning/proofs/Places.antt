@@ -3,12 +3,12 @@
 use mathlib.Core.Path.{_≡_, refl, sym, _∙_, ap, subst}
 use mathlib.Core.Bool.{Bool, true, false}
 use mathlib.Core.List.{List, [], _∷_, _++_}
-use Prim.Native.Nat.{ℕ, suc, _+_, _-_, _*_, _<_, _≤_}
+use Prim.Native.Nat.{ℕ, suc, _+_, _-_, _<_, _≤_}
 use native.Mathlib.Nat.{sub-zero}
 use native.Mathlib.Omega.{arith}
 use native.Mathlib.Numerals.{add-one}
 use lib.Dec.{ltb}
-use lib.ListN.{length, getD, take, drop, drop-of-length-le}
+use lib.ListN.{length, take, drop, drop-of-length-le}
 use lib.Seq.{length-take-le, take-suc, drop-cons, getD-take}
 use borrow.Author.Tests.{ltb-true, ltb-false, lt-ltb, le-ltb}
 use Rattle.terms.specs.Base.{count-from, if_then_else_}
@@ -17,10 +17,11 @@ use Rattle.rewriting.specs.Overlap.{Rule, Place, places, positions, places-with
 use Rattle.rewriting.specs.Rewrite.{Paying}
 use Rattle.overlaps.proofs.Meeting.{overlap-behind}
 use Rattle.completion.specs.Turn.{Candidate, scan, scan-inputs}
-use Rattle.scan.specs.declared.spots.Spot.{Spot}
-use Rattle.scan.specs.Walk.{visit, visits, rule-at, no-rule, at-place, of-rules}
-use Rattle.scan.specs.Order.{at-positions, with-earlier, behind, to-come, place-rank, Follows}
-use Rattle.scan.proofs.Placing.{visit-none}
+use Rattle.slots.specs.Slots.{slot, left-length, Layout}
+use Rattle.scanning.specs.declared.spots.Spot.{Spot}
+use Rattle.scanning.specs.Walk.{visit, visits, rule-at, no-rule, at-place, of-rules}
+use Rattle.scanning.specs.Order.{at-positions, with-earlier, behind, to-come, place-rank, Follows}
+use Rattle.scanning.proofs.Placing.{visit-none}
 
 visits-append : (rs : List Rule) (ps qs : List Place) (next : Paying Candidate) → visits rs (ps ++ qs) next ≡ visits rs ps (visits rs qs next)
 unfolding visits
@@ -63,7 +64,7 @@ module _ (rs : List Rule) where
           let l : left-size o ≤ p = ltb-false _ _ e in
           let n : left-size o - p ≡ 0 = omega arith in
           let m : left-size o - (p + 1) ≡ 0 = omega arith in
-          rw (n, m) (sym (visit-none rs place next (overlap-behind _ _ p l)))
+          rw (n, m) (sym (visit-none rs place (overlap-behind _ _ p l) next))
 
   all-positions : (i o : ℕ) (next : Paying Candidate) → visits rs (places (rule-at rs i) (rule-at rs o) (positions (rule-at rs o))) next ≡ at-positions i o 0 rs next
   unfolding at-positions positions
@@ -162,47 +163,47 @@ module _ (rs : List Rule) where
   past i o p r next m l e = on i o p next m ∙ ap (at-place (spot i o p) rs) (positions-over i o (p + 1) (behind i o rs next) l ∙ e)
 
 -- the returns of `next`
-module _ (lens : List ℕ) (i o p : ℕ) (r : Spot) (n : ℕ) (low : (i < 33) × (o < 33) × (p < 256) × (2 * o < length lens)) (z : (n ≡ getD lens (2 * o) 0) × (n < 256)) where
-  pub next-position : p + 1 < n → r ≡ spot i o (p + 1) → Follows lens (spot i o p) r
+module _ (rules : List ℕ) (i o p : ℕ) (r : Spot) (n : ℕ) (low : (i < 33) × (o < 33) × (p < 256) × Layout rules (o + 1)) (z : n ≡ left-length (slot rules o)) where
+  pub next-position : p + 1 < n → r ≡ spot i o (p + 1) → Follows rules (spot i o p) r
   unfolding place-rank
-  next-position l e = subst (Follows lens (spot i o p)) (sym e) (record {
-    low = omega arith;
+  next-position l e = subst (Follows rules (spot i o p)) (sym e) (record {
+    low = let few = low .3 .short o (omega arith) .left in omega arith;
     within = λ count a b c. omega arith;
     rises = omega arith;
     leads = λ rs s a b next. on rs i o p next b ∙ ap (at-place (spot i o p) rs) (sym (come-in rs i o (p + 1) next b));
   })
 
   module _ (l : n ≤ p + 1) where
-    pub next-back : i < o → r ≡ spot o i 0 → Follows lens (spot i o p) r
+    pub next-back : i < o → r ≡ spot o i 0 → Follows rules (spot i o p) r
     unfolding place-rank
-    next-back h e = subst (Follows lens (spot i o p)) (sym e) (record {
+    next-back h e = subst (Follows rules (spot i o p)) (sym e) (record {
       low = omega arith;
       within = λ count a b c. omega arith;
       rises = omega arith;
       leads = λ rs s a b next. past rs i o p (spot o i 0) next b (omega (arith, s o b)) (back rs i o next h b);
     })
 
-    pub next-earlier : o + 1 < i → r ≡ spot (o + 1) i 0 → Follows lens (spot i o p) r
+    pub next-earlier : o + 1 < i → r ≡ spot (o + 1) i 0 → Follows rules (spot i o p) r
     unfolding place-rank
-    next-earlier h e = subst (Follows lens (spot i o p)) (sym e) (record {
+    next-earlier h e = subst (Follows rules (spot i o p)) (sym e) (record {
       low = omega arith;
       within = λ count a b c. omega arith;
       rises = omega arith;
       leads = λ rs s a b next. past rs i o p (spot (o + 1) i 0) next b (omega (arith, s o b)) (behind-later rs i o next (omega arith) ∙ fresh rs (o + 1) i next h a);
     })
 
-    pub next-itself : o < i → i ≤ o + 1 → r ≡ spot i i 1 → Follows lens (spot i o p) r
+    pub next-itself : o < i → i ≤ o + 1 → r ≡ spot i i 1 → Follows rules (spot i o p) r
     unfolding place-rank
-    next-itself f g e = subst (Follows lens (spot i o p)) (sym e) (record {
+    next-itself f g e = subst (Follows rules (spot i o p)) (sym e) (record {
       low = omega arith;
       within = λ count a b c. omega arith;
       rises = omega arith;
       leads = λ rs s a b next. past rs i o p (spot i i 1) next b (omega (arith, s o b)) (behind-later rs i o next f ∙ ap (λ k. with-earlier k i rs next) (omega arith) ∙ itself rs i next a);
     })
 
-    pub next-later : o ≤ i → i ≤ o → r ≡ spot 0 (o + 1) 0 → Follows lens (spot i o p) r
+    pub next-later : o ≤ i → i ≤ o → r ≡ spot 0 (o + 1) 0 → Follows rules (spot i o p) r
     unfolding place-rank
-    next-later f g e = subst (Follows lens (spot i o p)) (sym e) (record {
+    next-later f g e = subst (Follows rules (spot i o p)) (sym e) (record {
       low = omega arith;
       within = λ count a b c. omega arith;
       rises = omega arith;

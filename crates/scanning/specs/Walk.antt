@@ -16,7 +16,7 @@ use Rattle.forms.specs.declared.Found.{Found}
 use Rattle.forms.specs.declared.Found.the-variants.{Equal, Different, Ends}
 use Rattle.rewriting.specs.declared.End.the-variants.{Spent, TooLarge}
 use Rattle.overlaps.specs.Answer.{AtSymbol}
-use Rattle.forms.specs.Forms.{ScanPart, compared, Shows, Walked, WalkRoom, walk-of}
+use Rattle.forms.specs.Forms.{ScanPart, compared, Shows, Walked}
 use Rattle.scanning.specs.declared.spots.Spot.{Spot}
 
 -- one place, places, and inputs
@@ -33,9 +33,15 @@ unfoldable pub visit-inputs : List Rule → List Candidate → ScanPart
 visit-inputs rules [] next = next
 visit-inputs rules (c ∷ cs) next = compared rules (c .origin) (c .sides) (visit-inputs rules cs next)
 
+-- a slot that was lent: it has the mark of the last pair that was compared, and what stands in it stays short
+pub record Lent (one one′ : List ℕ) : Type 0 where
+  pub same : length one′ ≡ length one
+  pub layout : Layout one 1 → Layout one′ 1
+
 -- A function that walks over the part d, of whatever it is handed that is as H says.
 pub record Walks {W : Type 0} (H : W → Type 0) (d : W → ScanPart) (tab one one′ : List ℕ) (units : ℕ) (w : Walk) : Type 0 where
-  pub room : WalkRoom one one′ units w
+  pub kept : Lent one one′
+  pub left-over : w .units ≤ units
   pub answer : (x : W) → H x → Walked tab one′ (d x) units w
 
 -- a rule by its place

@@ -1,2 +1,7 @@
-pub mod Taking
-pub mod Whole
+mod Holding
+pub mod Steady
+mod Taking
+mod Making
+mod Parts
+mod Entries
+mod Whole

@@ -1,126 +1,157 @@
--- Step 1 of a turn: what a pair's walk says of what the definition takes, for the oldest waiting equation and for the scan. Assumes nothing.
--- Read first: completion/specs/Turn (take-pair), joining/specs/Joins (Walked), scan/specs/Walk (Finds), making/specs/Made (TakenBy), completion/proofs/Scanning.
-use mathlib.Core.Path.{_≡_, sym, ap, _∙_, subst}
-use mathlib.Core.Bool.{true, false}
-use mathlib.Core.List.{List, [], _∷_}
-use Prim.Native.Nat.{ℕ, suc}
+-- Step 1 of a turn: what the walk over the oldest waiting equation and the scan say of what the definition takes. Assumes nothing.
+-- Read first: specs/Turns (LookIs), completion/specs/Turn (take-pair), forms/specs/Forms (Walked), scanning/specs/Walk (Finds), completion/proofs/Comparing.
+use mathlib.Core.Path.{_≡_, refl, sym, ap, _∙_, subst}
+use mathlib.Core.Bool.{Bool, true, false}
+use mathlib.Core.List.{List, [], _∷_, map}
+use Prim.Native.Nat.{ℕ}
 use native.Mathlib.Omega.{arith}
+use lib.ListN.{length}
+use Rattle.limits.specs.Limits.{most-apart}
 use Rattle.terms.specs.Term.{Pair, same}
+use Rattle.terms.proofs.Shape.{zero≢one}
 use Rattle.problem.specs.Problem.{Problem}
 use Rattle.rewriting.specs.Overlap.{all-places}
-use Rattle.rewriting.specs.Rewrite.{End, complete, spent, too-large, end-number, goes-on, Paid, done, stop, _>>=_, normalise-pair}
-use Rattle.rewriting.proofs.Holds.{goes-on≢end}
-use Rattle.completion.specs.Turn.{scanned-input, Candidate, State as RunState, Taken, candidates, scan, take-pair, turn}
-use Rattle.completion.proofs.Scanning.{ScanEnd, scan-ends, scan-different}
-use Rattle.completion.proofs.Turning.{turn-stops, take-scan-stops, take-scan, take-waiting-stops, take-waiting}
+use Rattle.rewriting.specs.Rewrite.{End, complete, neither-above, spent, too-large, rules-full, log-full, Paid, done, stop, _>>=_, normalise-pair}
+use Rattle.completion.specs.Turn.{scanned-input, waiting-input, Candidate, State as RunState, Taken as TakenPair, candidates, scan, take-pair}
+use Rattle.completion.specs.Calls.{origin-bytes}
+use Rattle.completion.proofs.Limits.{candidates-sides}
+use Rattle.completion.proofs.Scanning.{scan-different}
+use Rattle.completion.proofs.Turning.{take-scan-stops, take-scan, take-waiting-stops, take-waiting}
 use Rattle.completion.proofs.Comparing.{found-forms, equal-forms, stop-forms}
-use Rattle.engine.specs.State.{Whole, Represents}
-use Rattle.joining.specs.declared.Walk.{Walk}
-use Rattle.joining.specs.Joins.{compared, Walked, found, short, large, on, Shows}
-use Rattle.scan.specs.Walk.{Finds}
-use Rattle.making.specs.Made.{Outcome, Stops, TakenBy}
-use Rattle.turn.specs.Turns.{Shown, TurnedIs}
-use Rattle.making.proofs.Keeping.{held-of}
-
--- a stop of step 1 is a stop of the turn
-module _ (tab L R : List ℕ) (P : Problem) (s : RunState) (u i j : ℕ) (st : Whole) (w : Walk) (o : Outcome) where
-  stops-turn : (e : End) → take-pair P (s .rules) (s .waiting) u ≡ stop e (w .units) → w .verdict ≡ end-number e → ScanEnd e → Represents tab st s →
-      Stops st (w .verdict) (w .units) i j o → TurnedIs tab s L R o (turn P s (suc u))
-  stops-turn e h v n R′ y =
-      subst (TurnedIs tab s L R o) (sym (turn-stops P s u e (w .units) h))
-      (y .verdict-is ∙ v, y .units-are, held-of R′ (y .kept), λ g z. absurd (subst ScanEnd z n))
+use Rattle.slots.specs.Slots.{slot, mark-of, PairAt, MarkedAt, Stored, Holds}
+use Rattle.slots.proofs.Listing.{all-first}
+use Rattle.inputs.specs.Inputs.{marked}
+use Rattle.forms.specs.declared.Taken.{Taken}
+use Rattle.forms.specs.Forms.{compared, walk-of, Walked, found, short, large, on, OldestIs}
+use Rattle.scanning.specs.Walk.{StopsWith, Finds, ScanIs, InSlots}
+use Rattle.state.specs.Steps.{behind-first}
+use Rattle.turn.specs.Turns.{Given, some-wait, PairsOf, FormsIn, LookStops, LookIs, Looks}
+use Rattle.turn.proofs.Holding.{rules-stored, rules-numbered, waiting-held}
 
 -- The oldest waiting equation.
-module _ (tab L R : List ℕ) (P : Problem) (s : RunState) (c : Candidate) (cs : List Candidate) (waits : s .waiting ≡ c ∷ cs) (u : ℕ) (w : Walk)
-    (W : Walked tab L R (compared (s .rules) (c .origin) (c .sides)) u w) where
+module _ (tab : List ℕ) (P : Problem) (s : RunState) (c : Candidate) (cs : List Candidate) (waits : s .waiting ≡ c ∷ cs) (u : ℕ) (t : Taken)
+    (mark : mark-of (slot (t .pair) 0) ≡ origin-bytes (c .origin)) where
   abbrev forms-of : Paid Pair
   forms-of = normalise-pair (s .rules) (c .sides) u
 
-  abbrev taken-as : Pair → Taken
+  abbrev Is : Paid TakenPair → Type 0
+  Is p = LookIs tab t true s p
+
+  abbrev taken-as : Pair → TakenPair
   taken-as f = record { pair = record { origin = c .origin; sides = f }; waiting = cs }
 
-  taken-by : (f : Pair) → forms-of ≡ done f (w .units) → TakenBy P s u (taken-as f) (w .units)
-  taken-by f h = record { is = ap (λ q. take-pair P (s .rules) q u) waits ∙ take-waiting P (s .rules) u c cs f (w .units) h }
+  abbrev taken : Paid TakenPair
+  taken = take-pair P (s .rules) (s .waiting) u
 
-  pub record Settled : Type 0 where
-    pub forms : Pair
-    pub taken : TakenBy P s u (taken-as forms) (w .units)
-    pub equal : same (forms .left) (forms .right) ≡ true
+  takes : (f : Pair) → forms-of ≡ done f (t .units) → FormsIn tab t true (taken-as f .pair) (same (f .left) (f .right)) → Is taken
+  unfolding behind-first
+  takes f h a =
+      let e : taken ≡ done (taken-as f) (t .units) = ap (λ q. take-pair P (s .rules) q u) waits ∙ take-waiting P (s .rules) u c cs f (t .units) h in
+      subst Is (sym e) (refl, ap behind-first (sym waits), mark, a)
 
-  pub waiting-settles : w .verdict ≡ end-number complete → Settled
-  unfolding compared _>>=_ end-number
-  waiting-settles v = go W
-    where
-      go : Walked tab L R (compared (s .rules) (c .origin) (c .sides)) u w → Settled
-      go (found d z h y) = absurd (omega arith)
-      go (short z h) = absurd (omega arith)
-      go (large z h) = absurd (omega arith)
-      go (on z h) = let e = equal-forms (c .origin) forms-of (w .units) c h in record { forms = e .forms; taken = taken-by (e .forms) (e .is); equal = e .equal }
+  stops : (e : End) → forms-of ≡ stop e (t .units) → LookStops e t true → Is taken
+  stops e h a =
+      let q : taken ≡ stop e (t .units) = ap (λ q. take-pair P (s .rules) q u) waits ∙ take-waiting-stops P (s .rules) u c cs e (t .units) h in
+      subst Is (sym q) (refl, a)
 
-  pub record Differing : Type 0 where
-    pub forms : Pair
-    pub taken : TakenBy P s u (taken-as forms) (w .units)
-    pub differ : same (forms .left) (forms .right) ≡ false
-    pub shown : Shown tab L R (w .m) (w .n) forms
-
-  pub waiting-differs : w .verdict ≡ goes-on → Differing
+  oldest-taken : Walked tab (t .pair) (compared (s .rules) (c .origin) (c .sides)) u (walk-of t) → Is taken
   unfolding compared _>>=_
-  waiting-differs v = go W
-    where
-      go : Walked tab L R (compared (s .rules) (c .origin) (c .sides)) u w → Differing
-      go (found d z h y) =
-          let e = found-forms (c .origin) forms-of d (w .units) h in
-          let q : d .sides ≡ e .forms = ap (λ (x : Candidate). x .sides) (e .candidate) in
-          record {
-            forms = e .forms;
-            taken = taken-by (e .forms) (e .is);
-            differ = e .differ;
-            shown = subst (Shown tab L R (w .m) (w .n)) q (y .sides);
-          }
-      go (short z h) = absurd (goes-on≢end spent (sym v ∙ z))
-      go (large z h) = absurd (goes-on≢end too-large (sym v ∙ z))
-      go (on z h) = absurd (goes-on≢end complete (sym v ∙ z))
-
-  stop-taken : (e : End) → forms-of ≡ stop e (w .units) → take-pair P (s .rules) (s .waiting) u ≡ stop e (w .units)
-  stop-taken e h = ap (λ q. take-pair P (s .rules) q u) waits ∙ take-waiting-stops P (s .rules) u c cs e (w .units) h
-
-  pub waiting-stops : (w .verdict ≡ goes-on → ⊥) → (w .verdict ≡ end-number complete → ⊥) → (st : Whole) → Represents tab st s → (i j : ℕ) (o : Outcome) → Stops st (w .verdict) (w .units) i j o →
-      TurnedIs tab s L R o (turn P s (suc u))
-  unfolding compared _>>=_
-  waiting-stops n m st R′ i j o y = go W
-    where
-      go : Walked tab L R (compared (s .rules) (c .origin) (c .sides)) u w → TurnedIs tab s L R o (turn P s (suc u))
-      go (found d z h x) = absurd (n z)
-      go (short z h) = stops-turn tab L R P s u i j st w o spent (stop-taken spent (stop-forms (c .origin) forms-of spent (w .units) c h)) z tt R′ y
-      go (large z h) = stops-turn tab L R P s u i j st w o too-large (stop-taken too-large (stop-forms (c .origin) forms-of too-large (w .units) c h)) z tt R′ y
-      go (on z h) = absurd (m z)
+  oldest-taken (found d z h y) =
+      let e = found-forms (c .origin) forms-of d (t .units) h in
+      let q : d .sides ≡ e .forms = ap (λ (x : Candidate). x .sides) (e .candidate) in
+      takes (e .forms) (e .is)
+      (subst (FormsIn tab t true (taken-as (e .forms) .pair)) (sym (e .differ)) (z, subst (PairAt most-apart tab (t .pair) 0) q (y .sides)))
+  oldest-taken (short z h) = stops spent (stop-forms (c .origin) forms-of spent (t .units) c h) z
+  oldest-taken (large z h) = stops too-large (stop-forms (c .origin) forms-of too-large (t .units) c h) z
+  oldest-taken (on z h) =
+      let e = equal-forms (c .origin) forms-of (t .units) c h in
+      takes (e .forms) (e .is) (subst (FormsIn tab t true (taken-as (e .forms) .pair)) (sym (e .equal)) (z, refl))
 
 -- The scan.
-module _ (tab L R : List ℕ) (P : Problem) (s : RunState) (waits : s .waiting ≡ []) (u : ℕ) (w : Walk) where
+module _ (tab : List ℕ) (P : Problem) (s : RunState) (waits : s .waiting ≡ []) (u : ℕ) (t : Taken) where
+  abbrev IsScan : Paid TakenPair → Type 0
+  IsScan p = LookIs tab t false s p
+
   abbrev scanned : Paid Candidate
   scanned = scan (s .rules) (candidates scanned-input 1 (P .equations)) (all-places [] (s .rules)) u
 
-  pub record ScanFound : Type 0 where
-    pub pair : Candidate
-    pub taken : TakenBy P s u (record { pair = pair; waiting = [] }) (w .units)
-    pub differ : same (pair .sides .left) (pair .sides .right) ≡ false
-    pub shows : Shows tab L R w pair
+  scan-stop : (e : End) → StopsWith e (t .found) → LookStops e t false
+  scan-stop complete h = (h, refl)
+  scan-stop (neither-above e) h = h
+  scan-stop spent h = h
+  scan-stop too-large h = h
+  scan-stop rules-full h = h
+  scan-stop log-full h = h
 
-  pub scan-found : (p : Paid Candidate) → scanned ≡ p → Finds tab L R w p → w .verdict ≡ goes-on → ScanFound
-  scan-found (done c left) h f v =
-      let q : scanned ≡ done c (w .units) = h ∙ ap (done c) (sym (f .1)) in
-      record {
-        pair = c;
-        taken = record { is = ap (λ q. take-pair P (s .rules) q u) waits ∙ take-scan P (s .rules) u c (w .units) q };
-        differ = scan-different (s .rules) (candidates scanned-input 1 (P .equations)) (all-places [] (s .rules)) u (w .units) c q;
-        shows = f .2;
-      }
-  scan-found (stop e left) h f v = absurd (goes-on≢end e (sym v ∙ f .0))
+  scan-taken : (p : Paid Candidate) → scanned ≡ p → Finds tab t p → IsScan (take-pair P (s .rules) (s .waiting) u)
+  unfolding behind-first
+  scan-taken (done c left) h f =
+      let e : take-pair P (s .rules) (s .waiting) u ≡ done (record { pair = c; waiting = [] }) left =
+      ap (λ q. take-pair P (s .rules) q u) waits ∙ take-scan P (s .rules) u c left h in
+      let d = scan-different (s .rules) (candidates scanned-input 1 (P .equations)) (all-places [] (s .rules)) u left c h in
+      subst IsScan (sym e) (f .1, ap behind-first (sym waits), f .2 .from, subst (FormsIn tab t false c) (sym d) (f .0, f .2 .sides))
+  scan-taken (stop e left) h f =
+      let q : take-pair P (s .rules) (s .waiting) u ≡ stop e left = ap (λ q. take-pair P (s .rules) q u) waits ∙ take-scan-stops P (s .rules) u e left h in
+      subst IsScan (sym q) (f .1, scan-stop e (f .0))
 
-  pub scan-stops : (p : Paid Candidate) → scanned ≡ p → Finds tab L R w p → (w .verdict ≡ goes-on → ⊥) → (st : Whole) → Represents tab st s → (i j : ℕ) (o : Outcome) →
-      Stops st (w .verdict) (w .units) i j o → TurnedIs tab s L R o (turn P s (suc u))
-  scan-stops (done c left) h f v st R′ i j o y = absurd (v (f .0))
-  scan-stops (stop e left) h f v st R′ i j o y =
-      let q : scanned ≡ stop e (w .units) = h ∙ ap (stop e) (sym (f .1)) in
-      let k = scan-ends (s .rules) (candidates scanned-input 1 (P .equations)) (all-places [] (s .rules)) u left e h in
-      stops-turn tab L R P s u i j st w o e (ap (λ q. take-pair P (s .rules) q u) waits ∙ take-scan-stops P (s .rules) u e (w .units) q) (f .0) k R′ y
+none-waits : true ≡ some-wait [] → ⊥
+unfolding some-wait
+none-waits e = zero≢one (cc)
+
+one-waits : (c : Candidate) (cs : List Candidate) → false ≡ some-wait (c ∷ cs) → ⊥
+unfolding some-wait
+one-waits c cs e = zero≢one (cc)
+
+-- `look`
+pub look-oldest : {tab pairs inputs : List ℕ} {live count units : ℕ} {waits : Bool} {t : Taken} → waits ≡ true → OldestIs tab pairs live units t →
+    Looks tab pairs live waits inputs count units t
+look-oldest {tab} {pairs} {inputs} {live} {count} {units} {waits} {t} w O =
+    record {
+      layout = O .layout;
+      left-over = O .left-over;
+      answer = λ P G s A. subst (λ b. LookIs tab t b s (take-pair P (s .rules) (s .waiting) units)) (sym w) (go P s A (s .waiting) refl);
+    }
+  where
+    go : (P : Problem) (s : RunState) → PairsOf tab pairs live waits s → (l : List Candidate) → s .waiting ≡ l →
+        LookIs tab t true s (take-pair P (s .rules) (s .waiting) units)
+    go P s A [] e = absurd (none-waits (sym w ∙ A .waits-is ∙ ap some-wait e))
+    go P s A (c ∷ cs) e =
+        let h : Holds tab pairs (length (s .rules)) (map marked (c ∷ cs)) =
+        subst (λ l. Holds tab pairs (length (s .rules)) (map marked l)) e (waiting-held tab pairs (s .rules) (s .waiting) (A .holds)) in
+        let m : MarkedAt tab pairs live (marked c) =
+        subst (λ k. MarkedAt tab pairs k (marked c)) (sym (A .live-is)) (all-first (MarkedAt tab pairs) (length (s .rules)) (marked c) (map marked cs) h) in
+        oldest-taken tab P s c cs e units t (O .mark ∙ m .mark)
+        (O .answer (s .rules) (rules-stored tab pairs (s .rules) (s .waiting) (A .holds)) (A .live-is) (c .origin) (c .sides) (m .mark) (m .pair))
+
+-- the scan knows the input equations by other origins
+inputs-stored : (tab inputs : List ℕ) (count : ℕ) (P : Problem) → Given tab inputs count P →
+    Stored tab inputs 0 (map (λ c. c .sides) (candidates scanned-input 1 (P .equations)))
+inputs-stored tab inputs count P G =
+    subst (Stored tab inputs 0) (sym (candidates-sides waiting-input 1 (P .equations)) ∙ candidates-sides scanned-input 1 (P .equations)) (G .stored)
+
+pub look-scan : {tab pairs inputs : List ℕ} {live count units : ℕ} {waits : Bool} {t : Taken} → waits ≡ false → ScanIs tab inputs count pairs live units t →
+    Looks tab pairs live waits inputs count units t
+look-scan {tab} {pairs} {inputs} {live} {count} {units} {waits} {t} w O =
+    record {
+      layout = O .layout;
+      left-over = O .left-over;
+      answer = λ P G s A. subst (λ b. LookIs tab t b s (take-pair P (s .rules) (s .waiting) units)) (sym w) (go P G s A (s .waiting) refl);
+    }
+  where
+    slots-are : (P : Problem) → Given tab inputs count P → (s : RunState) → PairsOf tab pairs live waits s →
+        InSlots tab pairs live inputs count (record { rules = s .rules; equations = P .equations })
+    slots-are P G s A =
+        record {
+          rules-are = record {
+            stored = rules-stored tab pairs (s .rules) (s .waiting) (A .holds);
+            counted = A .live-is;
+            numbered = λ k l. rules-numbered tab pairs (s .rules) (s .waiting) (A .holds) k (let n = A .live-is in omega arith);
+          };
+          inputs = inputs-stored tab inputs count P G;
+          number-is = G .counted;
+        }
+
+    go : (P : Problem) → Given tab inputs count P → (s : RunState) → PairsOf tab pairs live waits s → (l : List Candidate) → s .waiting ≡ l →
+        LookIs tab t false s (take-pair P (s .rules) (s .waiting) units)
+    go P G s A [] e = scan-taken tab P s e units t _ refl (O .answer _ (slots-are P G s A))
+    go P G s A (c ∷ cs) e = absurd (one-waits c cs (sym w ∙ A .waits-is ∙ ap some-wait e))

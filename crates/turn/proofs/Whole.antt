@@ -1,230 +1,229 @@
--- The whole turn: `turn_waiting`, `turn_scan` and `turn`, from what their callees promise. Assumes nothing.
--- Read first: specs/Turns (WaitingTurn, ScanTurn, WholeTurn), making/specs/Made, proofs/Taking.
-use mathlib.Core.Path.{_≡_, refl, sym, ap, _∙_, subst}
-use mathlib.Core.List.{List, [], _∷_, _++_, map, flatMap}
-use Prim.Native.Nat.{ℕ, suc, _-_, _*_, _<_, _≤_}
+-- The whole turn: what is due, from what was found, and what the definition's turn then comes to. Assumes nothing.
+-- Read first: specs/Turns (due-after, LookIs, Turns), completion/proofs/Turning (turn-stops, ..), proofs/Steady.
+use mathlib.Core.Path.{_≡_, refl, sym, ap, ap₂, _∙_, subst}
+use mathlib.Core.Bool.{Bool, true, false}
+use mathlib.Core.List.{List, [], _∷_, _++_}
+use Prim.Native.Nat.{ℕ, zero, suc, _+_, _-_, _<_, _≤_}
 use native.Mathlib.Omega.{arith}
-use lib.ListN.{length, getD, take, List·getD-map}
-use lib.Seq.{length-take-le, take-at, take-take, getD-take}
-use Rattle.terms.proofs.Lists.{nothing}
+use lib.Dec.{ltb}
+use lib.ListN.{length}
+use borrow.Author.Tests.{ltb-true, lt-ltb, le-ltb}
+use Rattle.limits.specs.Limits.{most-apart, most-pairs, most-entries}
+use Rattle.terms.specs.Term.{Pair, same}
 use Rattle.terms.proofs.Shape.{zero≢one}
-use Rattle.terms.specs.Term.{Pair}
 use Rattle.problem.specs.Problem.{Problem}
-use Rattle.rewriting.specs.Overlap.{Rule, all-places}
-use Rattle.rewriting.specs.Rewrite.{complete, spent, end-number, goes-on, Paid, done, stop}
-use Rattle.rewriting.proofs.Holds.{goes-on≢end}
-use Rattle.redex.specs.Stored.{Sides, Stored}
-use Rattle.matching.proofs.Replacing.{take-less-zero}
-use Rattle.store.proofs.Listing.{stored-first}
-use Rattle.completion.specs.Turn.{scanned-input, Candidate, State as RunState, candidates, scan, turn}
+use Rattle.rewriting.specs.Rewrite.{End, complete, neither-above, spent, too-large, rules-full, log-full, Paid, done, stop}
+use Rattle.rewriting.specs.Ends.{ending}
+use Rattle.rewriting.specs.declared.End.{End as Ending}
+use Rattle.rewriting.specs.declared.End.the-variants.{Spent, LogFull}
+use Rattle.rewriting.specs.declared.Verdict.the-variants.{Ends}
+use Rattle.completion.specs.Turn.{Candidate, State as RunState, Taken as TakenPair, take-pair, settled, turn}
 use Rattle.completion.specs.Calls.{origin-bytes}
-use Rattle.completion.proofs.Limits.{candidates-sides}
-use Rattle.completion.proofs.Turning.{turn-unpaid}
-use Rattle.completion.proofs.Result.{origin-bytes-length}
-use Rattle.collapse.specs.Sifting.{origins-bytes}
-use Rattle.engine.specs.State.{with-units, Whole, whole, Fine, Represents}
-use Rattle.engine.specs.declared.State.{State}
-use Rattle.engine.specs.Steps.{TakenState}
-use Rattle.joining.specs.declared.Walk.{Walk}
-use Rattle.joining.specs.Joins.{compared, Walked, FormsRoom, SlotWalk}
-use Rattle.scan.specs.Walk.{rule-at, no-rule, Finds, ScanIs}
-use Rattle.making.specs.Made.{Outcome, RulesKept, Stops, without-taken, TurnWith, SettledTurn, MakesTurn}
-use Rattle.turn.specs.Turns.{Shown, TurnedIs, Buffers, WaitingTurn, Given, ScanTurn, WholeTurn}
-use Rattle.engine.proofs.Paying.{paying, units-represent, units-fine}
-use Rattle.making.proofs.Keeping.{held-of}
-use Rattle.making.proofs.Parts.{stop-safe}
-use Rattle.turn.proofs.Taking.{waiting-settles, waiting-differs, waiting-stops, scan-found, scan-stops}
+use Rattle.completion.proofs.Turning.{turn-unpaid, turn-stops, turn-log-full, turn-settles, turn-makes}
+use Rattle.slots.specs.Slots.{slot, mark-of, Layout, PairAt}
+use Rattle.slots.proofs.Layouts.{layout-less}
+use Rattle.forms.specs.declared.Taken.{Taken}
+use Rattle.state.specs.declared.State.{State}
+use Rattle.state.specs.Run.{Fine, Represents, with-units}
+use Rattle.state.specs.Steps.{behind-first, without-oldest, with-entry}
+use Rattle.turn.specs.declared.Turned.{Turned}
+use Rattle.turn.specs.declared.Due.{Due}
+use Rattle.turn.specs.declared.Due.the-variants.{Stop, Settle, Make}
+use Rattle.turn.specs.Turns.{Given, ended-as, due-after, some-wait, PairsOf, FormsIn, LookStops, LookIs, Looks, TurnSafe, Settles, TurnedIs, Makes, Turns}
+use Rattle.turn.proofs.Holding.{held-length}
+use Rattle.turn.proofs.Entries.{Room, none-left, some-left, room}
+use Rattle.turn.proofs.Steady.{units-fine, units-represent, stop-safe, begun-safe}
 
-turn-map : (Q Q′ : Pair → Type 0) (tab : List ℕ) (s : RunState) (o : Outcome) → ((g : Pair) → Q g → Q′ g) → (p : Paid RunState) → TurnWith Q tab s o p → TurnWith Q′ tab s o p
-turn-map Q Q′ tab s o f (done s′ left) a = a
-turn-map Q Q′ tab s o f (stop e left) a = (a .0, a .1, a .2, λ g z. f g (a .3 g z))
+-- Step 1 stopped
+look-stop : (e : End) (t : Taken) (waits : Bool) (n : ℕ) → LookStops e t waits → due-after (t .found) waits n ≡ Stop (ending e)
+unfolding due-after ending
+look-stop complete t waits n h = ap₂ (λ f w. due-after f w n) (h .0) (h .1)
+look-stop (neither-above e) t waits n h = absurd h
+look-stop spent t waits n h = ap (λ f. due-after f waits n) h
+look-stop too-large t waits n h = ap (λ f. due-after f waits n) h
+look-stop rules-full t waits n h = absurd h
+look-stop log-full t waits n h = absurd h
 
--- the first six of a list
-pub six-front : (l : List ℕ) → 6 ≤ length l → getD l 0 0 ∷ getD l 1 0 ∷ getD l 2 0 ∷ getD l 3 0 ∷ getD l 4 0 ∷ getD l 5 0 ∷ [] ≡ take 6 l
-six-front [] h = absurd (omega arith)
-six-front (a ∷ []) h = absurd (omega arith)
-six-front (a ∷ b ∷ []) h = absurd (omega arith)
-six-front (a ∷ b ∷ c ∷ []) h = absurd (omega arith)
-six-front (a ∷ b ∷ c ∷ d ∷ []) h = absurd (omega arith)
-six-front (a ∷ b ∷ c ∷ d ∷ e ∷ []) h = absurd (omega arith)
-six-front (a ∷ b ∷ c ∷ d ∷ e ∷ f ∷ l) h = refl
+-- what the definition takes, by what is due
+data Step (tab : List ℕ) (P : Problem) (s : RunState) (u : ℕ) (t : Taken) (n : ℕ) (d : Due) : Type 0 where
+  stops : (e : End) → take-pair P (s .rules) (s .waiting) u ≡ stop e (t .units) → ((g : Pair) → e ≡ neither-above g → ⊥) →
+      d ≡ Stop (ending e) → Step tab P s u t n d
+  full : (k : TakenPair) → take-pair P (s .rules) (s .waiting) u ≡ done k (t .units) → most-entries ≤ n → d ≡ Stop LogFull → Step tab P s u t n d
+  settles : (k : TakenPair) → take-pair P (s .rules) (s .waiting) u ≡ done k (t .units) → n < most-entries → k .waiting ≡ behind-first (s .waiting) →
+      mark-of (slot (t .pair) 0) ≡ origin-bytes (k .pair .origin) → same (k .pair .sides .left) (k .pair .sides .right) ≡ true → d ≡ Settle →
+      Step tab P s u t n d
+  makes : (k : TakenPair) → take-pair P (s .rules) (s .waiting) u ≡ done k (t .units) → n < most-entries → k .waiting ≡ behind-first (s .waiting) →
+      mark-of (slot (t .pair) 0) ≡ origin-bytes (k .pair .origin) → same (k .pair .sides .left) (k .pair .sides .right) ≡ false →
+      PairAt most-apart tab (t .pair) 0 (k .pair .sides) → d ≡ Make → Step tab P s u t n d
 
--- something waits
-record Oldest (s : RunState) : Type 0 where
-  first : Candidate
-  later : List Candidate
-  is : s .waiting ≡ first ∷ later
+module _ (tab : List ℕ) (P : Problem) (s : RunState) (u : ℕ) (t : Taken) (waits : Bool) (n : ℕ) where
+  abbrev Steps : Type 0
+  Steps = Step tab P s u t n (due-after (t .found) waits n)
 
-oldest-of : (s : RunState) → 0 < length (s .waiting) → Oldest s
-oldest-of s h = go (s .waiting) refl
-  where
-    go : (l : List Candidate) → s .waiting ≡ l → Oldest s
-    go [] e = absurd (let k : 0 < length {A = Candidate} [] = subst (λ (x : List Candidate). 0 < length x) e h in omega arith)
-    go (c ∷ cs) e = record { first = c; later = cs; is = e }
+  step-of : (p : Paid TakenPair) → take-pair P (s .rules) (s .waiting) u ≡ p → LookIs tab t waits s p → Steps
+  unfolding due-after
+  step-of (stop e left) q a =
+      stops e (q ∙ ap (stop e) (sym (a .0))) (λ g z. subst (λ x. LookStops x t waits) z (a .1)) (look-stop e t waits n (a .1))
+  step-of (done k left) q a = go (same (k .pair .sides .left) (k .pair .sides .right)) refl (a .3)
+    where
+      r : take-pair P (s .rules) (s .waiting) u ≡ done k (t .units)
+      r = q ∙ ap (done k) (sym (a .0))
 
--- its origin stands in front
-front-of : (l a r : List ℕ) (n : ℕ) → length a ≤ n → take n l ≡ a ++ r → take (length a) l ≡ a
-front-of l a r n h e = sym (take-take (length a) n l h) ∙ ap (take (length a)) e ∙ take-at a r (length a) refl
+      equal : same (k .pair .sides .left) (k .pair .sides .right) ≡ true → (d : Due) → Room n Settle d → due-after (t .found) waits n ≡ d → Steps
+      equal e d (none-left h w) z = full k r h (z ∙ w)
+      equal e d (some-left h w) z = settles k r h (a .1) (a .2) e (z ∙ w)
 
-oldest-origin : (tab : List ℕ) (st : Whole) (s : RunState) (c : Candidate) (cs : List Candidate) → Represents tab st s → s .waiting ≡ c ∷ cs → take 6 (st .origins) ≡ origin-bytes (c .origin)
-unfolding flatMap
-oldest-origin tab st s c cs R e =
-    let n : st .waits ≡ suc (length cs) = R .waits ∙ ap (λ (x : List Candidate). length x) e in
-    let h : take (6 * (st .waits)) (st .origins) ≡ origin-bytes (c .origin) ++ origins-bytes cs = R .origins ∙ ap origins-bytes e in
-    subst (λ k. take k (st .origins) ≡ origin-bytes (c .origin)) (origin-bytes-length (c .origin))
-    (front-of (st .origins) (origin-bytes (c .origin)) (origins-bytes cs) (6 * (st .waits)) (omega (arith, origin-bytes-length (c .origin))) h)
+      differ : same (k .pair .sides .left) (k .pair .sides .right) ≡ false → PairAt most-apart tab (t .pair) 0 (k .pair .sides) → (d : Due) → Room n Make d →
+          due-after (t .found) waits n ≡ d → Steps
+      differ e y d (none-left h w) z = full k r h (z ∙ w)
+      differ e y d (some-left h w) z = makes k r h (a .1) (a .2) e y (z ∙ w)
 
--- the buffers behind a walk, and the forms that stand in them, cut out
-module _ {L R L′ R′ : List ℕ} {u : ℕ} {w : Walk} (room : FormsRoom L R L′ R′ u w) where
-  buffers-kept : Buffers L R L′ R′
-  buffers-kept = record { left-kept = room .left-kept; right-kept = room .right-kept }
+      go : (b : Bool) → same (k .pair .sides .left) (k .pair .sides .right) ≡ b → FormsIn tab t waits (k .pair) b → Steps
+      go true e f = equal e _ (room n Settle) (ap₂ (λ x w. due-after x w n) (f .0) (f .1))
+      go false e f = differ e (f .1) _ (room n Make) (ap (λ x. due-after x waits n) (f .0))
 
-  module _ (tab left right : List ℕ) (lm : left ≡ take (w .m - 0) L′) (rn : right ≡ take (w .n - 0) R′) (long-left : 120 ≤ length L) (long-right : 120 ≤ length R) where
-    left-is : left ≡ take (w .m) L′
-    left-is = lm ∙ take-less-zero (w .m) L′
+-- something waits where there are more pairs than live rules
+pub waits-are : (live count : ℕ) (cs : List Candidate) → count ≡ live + length cs → ltb live count ≡ some-wait cs
+unfolding some-wait
+waits-are live count [] e = le-ltb live count (omega arith)
+waits-are live count (c ∷ cs) e = lt-ltb live count (omega arith)
 
-    right-is : right ≡ take (w .n) R′
-    right-is = rn ∙ take-less-zero (w .n) R′
-
-    cut-left : length left ≡ w .m
-    cut-left = ap length left-is ∙ length-take-le (w .m) L′ (omega (arith, room .left-few, room .left-kept))
-
-    cut-right : length right ≡ w .n
-    cut-right = ap length right-is ∙ length-take-le (w .n) R′ (omega (arith, room .right-few, room .right-kept))
-
-    sides-cut : (e : Pair) → Shown tab L′ R′ (w .m) (w .n) e → Sides 32 tab left right e
-    sides-cut e S = record { left-wf = S .left-wf; right-wf = S .right-wf; left-bytes = left-is ∙ S .left-bytes; right-bytes = right-is ∙ S .right-bytes }
-
-    shown-cut : (o : Outcome) (e : Pair) → Shown tab L′ R′ (w .m) (w .n) e → (g : Pair) → (g ≡ e) × (o .m ≡ length left) × (o .n ≡ length right) → Shown tab L′ R′ (o .m) (o .n) g
-    shown-cut o e S g (q, x, y) =
-        subst (λ z. Shown tab L′ R′ z (o .n) g) (sym (x ∙ cut-left))
-        (subst (λ z. Shown tab L′ R′ (w .m) z g) (sym (y ∙ cut-right)) (subst (Shown tab L′ R′ (w .m) (w .n)) (sym q) S))
-
--- `turn_waiting`
-module _ (st : Whole) (tab L R L′ R′ origin : List ℕ) (u : ℕ) (w : Walk) (some : 0 < st .waits) (from : origin ≡ take 6 (st .origins))
-    (W : SlotWalk tab (st .rules) (st .lens) (st .count) (st .waiting) (st .lengths) 0 L R L′ R′ origin u w) where
-  oldest-is : (s : RunState) → Represents tab st s → Oldest s
-  oldest-is s Re = oldest-of s (omega (arith, Re .waits))
-
-  walked : (s : RunState) (Re : Represents tab st s) (O : Oldest s) → Walked tab L′ R′ (compared (s .rules) (O .first .origin) (O .first .sides)) u w
-  walked s Re O =
-      W .answer (s .rules) (Re .rules) (Re .count) (O .first .origin) (O .first .sides) (from ∙ oldest-origin tab st s (O .first) (O .later) Re (O .is))
-      (stored-first tab (st .waiting) (st .lengths) 0 (O .first .sides) _ (subst (λ (x : List Candidate). Stored tab (st .waiting) (st .lengths) 0 (map (λ c. c .sides) x)) (O .is) (Re .waiting)))
-
-  pub waiting-settled : w .verdict ≡ end-number complete → (o : Outcome) → SettledTurn st origin (w .units) o → WaitingTurn st tab L R L′ R′ u o
-  waiting-settled v o X =
-      record {
-        safe = X .safe;
-        stays = X .stays;
-        buffers = buffers-kept (W .room);
-        answer = λ P k s Re.
-            let O = oldest-is s Re in
-            let S = waiting-settles tab L′ R′ P s (O .first) (O .later) (O .is) u w (walked s Re O) v in
-            turn-map _ _ tab s o (λ g z. absurd z) (turn P s (suc u))
-            (X .answer tab P s (record { pair = record { origin = O .first .origin; sides = S .forms }; waiting = O .later }) u (O .first) Re (O .is)
-            (from ∙ oldest-origin tab st s (O .first) (O .later) Re (O .is)) (S .taken) (S .equal));
-      }
-
-  pub waiting-stopped : (w .verdict ≡ end-number complete → ⊥) → (w .verdict ≡ goes-on → ⊥) → (o : Outcome) → Stops st (w .verdict) (w .units) 0 0 o → WaitingTurn st tab L R L′ R′ u o
-  waiting-stopped a b o y =
-      record {
-        safe = stop-safe st _ _ _ _ _ o b y (omega arith) (omega arith);
-        stays = λ _. y .kept;
-        buffers = buffers-kept (W .room);
-        answer = λ P k s Re.
-            let O = oldest-is s Re in
-            waiting-stops tab L′ R′ P s (O .first) (O .later) (O .is) u w (walked s Re O) b a st Re 0 0 o y;
-      }
-
-  pub waiting-made : w .verdict ≡ goes-on → (rest : Whole) → TakenState st rest → (left right : List ℕ) → left ≡ take (w .m - 0) L′ → right ≡ take (w .n - 0) R′ → 120 ≤ length L → 120 ≤ length R →
-      (o : Outcome) → MakesTurn st rest tab left right origin (w .units) o → WaitingTurn st tab L R L′ R′ u o
-  waiting-made v rest K left right lm rn long-left long-right o X =
-      record {
-        safe = X .safe;
-        stays = X .stays;
-        buffers = buffers-kept (W .room);
-        answer = λ P k s Re.
-            let O = oldest-is s Re in
-            let D = waiting-differs tab L′ R′ P s (O .first) (O .later) (O .is) u w (walked s Re O) v in
-            turn-map _ _ tab s o (shown-cut (W .room) tab left right lm rn long-left long-right o (D .forms) (D .shown)) (turn P s (suc u))
-            (X .answer P k s (record { pair = record { origin = O .first .origin; sides = D .forms }; waiting = O .later }) u Re (K .represents tab s (O .first) (O .later) Re (O .is))
-            (sides-cut (W .room) tab left right lm rn long-left long-right (D .forms) (D .shown)) (from ∙ oldest-origin tab st s (O .first) (O .later) Re (O .is)) (D .taken) (D .differ));
-      }
-
--- `turn_scan`
--- the rules' numbers, from the list of them
-numbered-by : (count : ℕ) (ns : List ℕ) (rs : List Rule) → take count ns ≡ map (λ (r : Rule). r .number) rs → (k : ℕ) → k < count → getD ns k 0 ≡ rule-at rs k .number
-numbered-by count ns rs e k l = sym (getD-take count ns k 0 l) ∙ ap (λ z. getD z k 0) e ∙ List·getD-map (λ (r : Rule). r .number) rs k no-rule
-
-module _ (st : Whole) (tab inputs sizes : List ℕ) (number : ℕ) (L R L′ R′ : List ℕ) (u : ℕ) (w : Walk) (none : st .waits ≡ 0)
-    (W : ScanIs tab (st .rules) (st .lens) (st .numbers) (st .count) inputs sizes number L R L′ R′ u w) where
-  idle : (s : RunState) → Represents tab st s → s .waiting ≡ []
-  idle s Re = nothing (s .waiting) (sym (Re .waits) ∙ none)
-
-  finds : (P : Problem) → Given tab inputs sizes number P → (s : RunState) → Represents tab st s →
-      Finds tab L′ R′ w (scan (s .rules) (candidates scanned-input 1 (P .equations)) (all-places [] (s .rules)) u)
-  finds P G s Re =
-      W .answer (s .rules) (record { stored = Re .rules; counted = Re .count; numbered = numbered-by (st .count) (st .numbers) (s .rules) (Re .numbers) }) (P .equations)
-      (subst (Stored tab inputs sizes 0) (candidates-sides scanned-input 1 (P .equations)) (G .stored)) (G .counted)
-
-  pub scan-stopped : (w .verdict ≡ goes-on → ⊥) → (o : Outcome) → Stops st (w .verdict) (w .units) 0 0 o → ScanTurn st tab inputs sizes number L R L′ R′ u o
-  scan-stopped v o y =
-      record {
-        safe = stop-safe st _ _ _ _ _ o v y (omega arith) (omega arith);
-        stays = λ _. y .kept;
-        buffers = buffers-kept (W .room);
-        answer = λ P G s Re. scan-stops tab L′ R′ P s (idle s Re) u w _ refl (finds P G s Re) v st Re 0 0 o y;
-      }
-
-  pub scan-made : w .verdict ≡ goes-on → (left right : List ℕ) → left ≡ take (w .m - 0) L′ → right ≡ take (w .n - 0) R′ → 120 ≤ length L → 120 ≤ length R → (o : Outcome) →
-      MakesTurn st st tab left right (w .origin) (w .units) o → ScanTurn st tab inputs sizes number L R L′ R′ u o
-  scan-made v left right lm rn long-left long-right o X =
-      record {
-        safe = X .safe;
-        stays = X .stays;
-        buffers = buffers-kept (W .room);
-        answer = λ P G s Re.
-            let F = scan-found tab L′ R′ P s (idle s Re) u w _ refl (finds P G s Re) v in
-            let S : Shown tab L′ R′ (w .m) (w .n) (F .pair .sides) =
-            F .shows .sides in
-            let I : Represents tab st (without-taken s (record { pair = F .pair; waiting = [] })) =
-            subst (λ (x : List Candidate). Represents tab st (record { rules = s .rules; made = s .made; waiting = x; log = s .log })) (idle s Re) Re in
-            turn-map _ _ tab s o (shown-cut (W .room) tab left right lm rn long-left long-right o (F .pair .sides) S) (turn P s (suc u))
-            (X .answer P (G .ranks) s (record { pair = F .pair; waiting = [] }) u Re I (sides-cut (W .room) tab left right lm rn long-left long-right (F .pair .sides) S) (F .shows .from) (F .taken) (F .differ));
-      }
-
--- `turn`
-pub whole-unpaid : (st : Whole) (tab inputs sizes : List ℕ) (number : ℕ) (L R : List ℕ) (o : Outcome) → st .units ≡ 0 → Stops st (end-number spent) 0 0 0 o → WholeTurn st tab inputs sizes number L R L R o
-whole-unpaid st tab inputs sizes number L R o z y =
+pub pairs-of : {tab : List ℕ} {st : State} {s : RunState} {waits : Bool} → Represents tab st s → waits ≡ ltb (st .live) (st .pairs .count) →
+    PairsOf tab (st .pairs .bytes) (st .live) waits s
+pairs-of {st = st} {s = s} R w =
     record {
-      safe = stop-safe st _ _ _ _ _ o (λ e. goes-on≢end spent (sym e)) y (omega arith) (omega arith);
-      stays = λ _. y .kept;
-      buffers = record { left-kept = refl; right-kept = refl };
-      answer = λ P G s Re.
-          subst (TurnedIs tab s L R o) (sym (ap (turn P s) z ∙ turn-unpaid P s))
-          (y .verdict-is, y .units-are, held-of Re (y .kept), λ g q. absurd (zero≢one (cc)));
+      holds = R .pairs .holds;
+      live-is = R .live;
+      waits-is = w ∙ waits-are (st .live) (st .pairs .count) (s .waiting)
+          (omega (arith, R .pairs .counted, held-length (s .rules) (s .waiting), R .live));
     }
 
--- a turn that takes, with the inputs that it does not read
-pub takes-whole : {st : Whole} {tab L R L′ R′ : List ℕ} {u : ℕ} {o : Outcome} → WaitingTurn st tab L R L′ R′ u o → (inputs sizes : List ℕ) (number : ℕ) → ScanTurn st tab inputs sizes number L R L′ R′ u o
-takes-whole X inputs sizes number = record { safe = X .safe; stays = X .stays; buffers = X .buffers; answer = λ P G s Re. X .answer P (G .ranks) s Re }
+-- `turn`: no unit is left
+pub turn-spent : {tab inputs : List ℕ} {count : ℕ} {st : State} {pair : List ℕ} {o : Turned} → Fine st → st .units ≡ 0 → Layout pair 1 →
+    o ≡ ended-as st Spent 0 pair →
+    Turns tab inputs count st o
+unfolding ending
+turn-spent {tab} {inputs} {count} {st} {pair} F z y e =
+    subst (Turns tab inputs count st) (sym e)
+    (record {
+      safe = stop-safe F (omega arith) y;
+      answer = λ P G s R.
+          subst (λ p. TurnedIs tab s (ended-as st Spent 0 pair) p) (sym (ap (turn P s) z ∙ turn-unpaid P s))
+          (refl, refl, units-represent 0 R, λ g q. absurd (zero≢one (cc)));
+    })
 
--- from the turn that has begun to the whole one: the unit that `begin` pays is the definition's
-kept-units : {st r : Whole} {u : ℕ} → RulesKept (paying st u) r → RulesKept st r
-kept-units K = record { rules = K .rules; lens = K .lens; numbers = K .numbers; count = K .count; made = K .made; log = K .log; entries = K .entries }
+-- the state that `settled` leaves
+settled-as : (tab : List ℕ) (r : State) (s : RunState) (k : TakenPair) → k .waiting ≡ behind-first (s .waiting) →
+    Represents tab r (with-entry (without-oldest s) (k .pair .origin) 0) → Represents tab r (settled s k)
+unfolding settled
+settled-as tab r s k w R =
+    subst
+    (λ l. Represents tab r (record { rules = s .rules; made = s .made; waiting = l; log = s .log ++ (record { origin = k .pair .origin; made = 0 } ∷ []) }))
+    (sym w) R
 
-module _ (st begun : State) (rules waiting log : List ℕ) (B : begun ≡ with-units st (st .units - 1)) where
-  pub begun-fine : Fine (whole st rules waiting log) → Fine (whole begun rules waiting log)
-  begun-fine F = subst (λ x. Fine (whole x rules waiting log)) (sym B) (units-fine (whole st rules waiting log) (st .units - 1) F)
+ends-full : Ends LogFull ≡ Ends (ending log-full)
+unfolding ending
+ends-full = refl
 
-  pub begun-whole : 0 < st .units → (tab inputs sizes : List ℕ) (number : ℕ) (L R L′ R′ : List ℕ) (o : Outcome) → ScanTurn (whole begun rules waiting log) tab inputs sizes number L R L′ R′ (begun .units) o →
-      WholeTurn (whole st rules waiting log) tab inputs sizes number L R L′ R′ o
-  begun-whole some tab inputs sizes number L R L′ R′ o Y =
-      let e : suc (st .units - 1) ≡ st .units = omega arith in
-      let X = subst (λ x. ScanTurn (whole x rules waiting log) tab inputs sizes number L R L′ R′ (x .units) o) B Y in
+-- its unit is paid, and a pair is looked for
+abbrev pub Began : State → State → Type 0
+Began st begun = begun ≡ with-units st (st .units - 1)
+
+abbrev some-behind : State → Bool
+some-behind st = ltb (st .live) (st .pairs .count)
+
+pub began-fine : {st begun : State} → Fine st → Began st begun → Fine begun
+began-fine {st} F e = subst Fine (sym e) (units-fine (st .units - 1) F)
+
+pub look-room : {st begun : State} → Fine st → Began st begun →
+    Layout (begun .pairs .bytes) (begun .live) × (begun .live ≤ most-pairs) × (some-behind begun ≡ true → Layout (begun .pairs .bytes) (begun .live + 1))
+look-room {st} {begun} F e =
+    let B = began-fine F e in
+    let w = B .within in
+    let m = B .together in (
+      layout-less w (B .layout),
+      omega arith,
+      λ h. let l = ltb-true (begun .live) (begun .pairs .count) h in layout-less (omega arith) (B .layout),
+    )
+
+some-units : (n : ℕ) → (n ≡ 0 → ⊥) → n ≡ suc (n - 1)
+some-units zero h = absurd (h refl)
+some-units (suc n) h = omega arith
+
+module _ {tab inputs : List ℕ} {count : ℕ} {st begun : State} {t : Taken} {d : Due} (F : Fine st) (some : st .units ≡ 0 → ⊥) (began : Began st begun)
+    (looked : Looks tab (begun .pairs .bytes) (begun .live) (some-behind begun) inputs count (begun .units) t)
+    (due : d ≡ due-after (t .found) (some-behind begun) (begun .log .count)) where
+  abbrev u : ℕ
+  u = st .units - 1
+
+  abbrev waits : Bool
+  waits = some-behind st
+
+  L : Looks tab (st .pairs .bytes) (st .live) waits inputs count u t
+  L = subst (λ b. Looks tab (b .pairs .bytes) (b .live) (some-behind b) inputs count (b .units) t) began looked
+
+  is : d ≡ due-after (t .found) waits (st .log .count)
+  is = due ∙ ap (λ b. due-after (t .found) (some-behind b) (b .log .count)) began
+
+  steps : (P : Problem) → Given tab inputs count P → (s : RunState) → Represents tab st s → Step tab P s u t (length (s .log)) d
+  steps P G s R =
+      let a : Step tab P s u t (st .log .count) (due-after (t .found) waits (st .log .count)) =
+      step-of tab P s u t waits (st .log .count) _ refl (L .answer P G s (pairs-of R refl)) in
+      subst (λ n. Step tab P s u t n d) (R .log .counted) (subst (Step tab P s u t (st .log .count)) (sym is) a)
+
+  turned : (o : Turned) → TurnSafe (with-units st u) o →
+      ((P : Problem) → Given tab inputs count P → (s : RunState) → Represents tab st s → TurnedIs tab s o (turn P s (suc u))) →
+      Turns tab inputs count st o
+  turned o safe answer =
       record {
-        safe = X .safe;
-        stays = λ v. kept-units (X .stays v);
-        buffers = X .buffers;
-        answer = λ P G s Re. subst (λ n. TurnedIs tab s L′ R′ o (turn P s n)) e (X .answer P G s (units-represent tab _ _ s Re));
+        safe = begun-safe (omega arith) safe;
+        answer = λ P G s R. subst (λ n. TurnedIs tab s o (turn P s n)) (sym (some-units (st .units) some)) (answer P G s R);
       }
+
+  abbrev IsEnd : Ending → RunState → Paid RunState → Type 0
+  IsEnd end s q = TurnedIs tab s (ended-as (with-units st u) end (t .units) (t .pair)) q
+
+  pub turn-ends : {end : Ending} {o : Turned} → d ≡ Stop end → o ≡ ended-as begun end (t .units) (t .pair) → Turns tab inputs count st o
+  turn-ends {end} {o} p e′ =
+      subst (Turns tab inputs count st) (sym (e′ ∙ ap (λ b. ended-as b end (t .units) (t .pair)) began))
+      (turned (ended-as (with-units st u) end (t .units) (t .pair))
+      (stop-safe (units-fine u F) (L .left-over) (L .layout)) (λ P G s R. go P s R (steps P G s R)))
+    where
+      go : (P : Problem) (s : RunState) → Represents tab st s → Step tab P s u t (length (s .log)) d → IsEnd end s (turn P s (suc u))
+      go P s R (stops e q f z) =
+          let w : end ≡ ending e = cc in
+          subst (IsEnd end s) (sym (turn-stops P s u e (t .units) q)) (ap Ends w, refl, units-represent (t .units) R, λ g y. absurd (f g y))
+      go P s R (full k q h z) =
+          let w : end ≡ LogFull = cc in
+          subst (IsEnd end s) (sym (turn-log-full P s u k (t .units) q h))
+          (ap Ends w ∙ ends-full, refl, units-represent (t .units) R, λ g y. absurd (zero≢one (cc)))
+      go P s R (settles k q h w m e z) = absurd (zero≢one (cc))
+      go P s R (makes k q h w m e y z) = absurd (zero≢one (cc))
+
+  pub turn-settled : {o : Turned} → d ≡ Settle → Settles begun t o → Turns tab inputs count st o
+  turn-settled {o} p S′ =
+      let S : Settles (with-units st u) t o = subst (λ b. Settles b t o) began S′ in
+      turned o (S .safe (L .left-over)) (λ P G s R. go S P s R (steps P G s R))
+    where
+      go : Settles (with-units st u) t o → (P : Problem) (s : RunState) → Represents tab st s → Step tab P s u t (length (s .log)) d →
+          TurnedIs tab s o (turn P s (suc u))
+      go S P s R (stops e q f z) = absurd (zero≢one (cc))
+      go S P s R (full k q h z) = absurd (zero≢one (cc))
+      go S P s R (settles k q h w m e z) =
+          subst (TurnedIs tab s o) (sym (turn-settles P s u k (t .units) q h e))
+          (S .goes, S .units, settled-as tab (o .state) s k w (S .represents tab s (k .pair .origin) (units-represent u R) m))
+      go S P s R (makes k q h w m e y z) = absurd (zero≢one (cc))
+
+  pub turn-made : {o : Turned} → d ≡ Make → Makes tab begun t o → Turns tab inputs count st o
+  turn-made {o} p M′ =
+      let M : Makes tab (with-units st u) t o = subst (λ b. Makes tab b t o) began M′ in
+      turned o (M .safe (L .left-over)) (λ P G s R. go M P G s R (steps P G s R))
+    where
+      go : Makes tab (with-units st u) t o → (P : Problem) → Given tab inputs count P → (s : RunState) → Represents tab st s →
+          Step tab P s u t (length (s .log)) d →
+          TurnedIs tab s o (turn P s (suc u))
+      go M P G s R (stops e q f z) = absurd (zero≢one (cc))
+      go M P G s R (full k q h z) = absurd (zero≢one (cc))
+      go M P G s R (settles k q h w m e z) = absurd (zero≢one (cc))
+      go M P G s R (makes k q h w m e y z) =
+          subst (TurnedIs tab s o) (sym (turn-makes P s u k (t .units) q h e)) (M .answer P (G .ranks) s k (units-represent u R) w y m)

@@ -1,71 +1,88 @@
--- `turn`: no unit left (`whole-unpaid`), or begun (`begun-whole`) with a waiting equation (`takes-whole`) or the scan. Assumes nothing.
--- Read first: specs/Turns (WholeTurn), proofs/Whole.
-use native.Mathlib.Omega.{arith}
-use mathlib.Core.Path.{refl}
-use Rattle.rewriting.specs.Rewrite.{end-number}
-use Rattle.making.proofs.Keeping.{stops}
-use Rattle.turn.proofs.Whole.{whole-unpaid, takes-whole, begun-fine, begun-whole}
+-- `turn`: no unit left, or by what is due. Assumes nothing.
+-- Read first: proofs/Whole.
+use Rattle.slots.proofs.Layouts.{layout-zeros}
+use Rattle.turn.proofs.Entries.{settle-room, make-room}
+use Rattle.turn.proofs.Whole.{turn-spent, look-room, began-fine, turn-ends, turn-settled, turn-made}
 use borrow.Author.Needs.{needs}
 use Rattle.turn.proofs.turn.Statement.{statement}
 use Rattle.turn.proofs.turn.Tie as tie
-use Rattle.turn.proofs.turn.Reads as reads
-use Rattle.turn.proofs.turn.Lts as lts
-use Rattle.engine.proofs.State.begin.Reads as begin-reads
-use Rattle.making.proofs.stopped.Reads as stopped-reads
-use Rattle.turn.proofs.turn_scan.Reads as turn-scan-reads
-use Rattle.turn.proofs.turn_waiting.Reads as turn-waiting-reads
-
-returns : tie.Need-returns
-unfolding end-number
-returns c =
-    whole-unpaid _ _ _ _ _ _ _ _ (c .before .if1 .taken) (stops (c .stopped .ensures) _ _ _ _ _ _ refl refl)
 
 -- Places, found by their types: the only field of a type is the place itself.
-abbrev entry-of-else1 : tie.Else1 → tie.Start
-entry-of-else1 at = search depth 0
+abbrev begin-of-look : tie.After-look → tie.After-begin
+begin-of-look at = search depth 0
 
-turn-waiting-requires : tie.Need-turn-waiting-requires
-turn-waiting-requires c κs =
-    let in-then2 : tie.Then2 = search depth 0 in
+abbrev else-of-begin : tie.After-begin → tie.Else1
+else-of-begin at = search depth 0
+
+abbrev entry-of-begin : tie.After-begin → tie.Start
+entry-of-begin at = search depth 0
+
+returns : tie.Need-returns
+returns c =
+    let in-then1 : tie.Then1 = search depth 0 in
+    let entry : tie.Start = search depth 0 in
+    turn-spent (entry .pre .0) (in-then1 .if1 .taken) layout-zeros (c .ended .ensures)
+
+look-requires : tie.Need-look-requires
+look-requires c κs =
     let at-begin : tie.After-begin = search depth 0 in
-    let entry = entry-of-else1 (search depth 0) in (
-      (
-        begun-fine (entry .args .st) _ _ _ _ (at-begin .begin .ensures) (entry .pre .0),
-        (let p = in-then2 .if2 .taken in omega arith),
-      ),
-      entry .pre .1 .1,
+    let entry = entry-of-begin at-begin in
+    (look-room (entry .pre .0) (at-begin .begin .ensures), (entry .pre .1, entry .pre .2))
+
+settle-requires : tie.Need-settle-requires
+settle-requires c κs =
+    let at-due : tie.After-due-after = search depth 0 in
+    let at-look : tie.After-look = search depth 0 in
+    let at-begin = begin-of-look at-look in
+    let entry = entry-of-begin at-begin in (
+      began-fine (entry .pre .0) (at-begin .begin .ensures),
+      settle-room _ _ _ (at-due .due-after .ensures) (c .enum-told .given .1),
+      at-look .look .ensures .layout,
+    )
+
+make-requires : tie.Need-make-requires
+make-requires c κs =
+    let at-due : tie.After-due-after = search depth 0 in
+    let at-look : tie.After-look = search depth 0 in
+    let at-begin = begin-of-look at-look in
+    let entry = entry-of-begin at-begin in (
+      began-fine (entry .pre .0) (at-begin .begin .ensures),
+      make-room _ _ _ (at-due .due-after .ensures) (c .enum-told2 .given .1),
+      at-look .look .ensures .layout,
     )
 
 returns-2 : tie.Need-returns-2
 returns-2 c =
-    let at-turn-waiting : tie.After-turn-waiting = search depth 0 in
-    let at-begin : tie.After-begin = search depth 0 in
-    let in-else1 : tie.Else1 = search depth 0 in
-    let entry = entry-of-else1 in-else1 in
-    begun-whole (entry .args .st) (at-begin .begin .result) _ _ _ (at-begin .begin .ensures)
-    (let p = in-else1 .if1 .left in omega arith) _ _ _ _ _ _ _ _ _
-    (takes-whole (at-turn-waiting .turn-waiting .ensures) _ _ _)
-
-turn-scan-requires : tie.Need-turn-scan-requires
-turn-scan-requires c κs =
-    let in-else2 : tie.Else2 = search depth 0 in
-    let at-begin : tie.After-begin = search depth 0 in
-    let entry = entry-of-else1 (search depth 0) in (
-      (
-        begun-fine (entry .args .st) _ _ _ _ (at-begin .begin .ensures) (entry .pre .0),
-        (let p = in-else2 .if2 .left in omega arith),
-      ),
-      entry .pre .1,
-    )
+    let at-end : tie.After-end = search depth 0 in
+    let at-due : tie.After-due-after = search depth 0 in
+    let at-look : tie.After-look = search depth 0 in
+    let at-begin = begin-of-look at-look in
+    let in-else1 = else-of-begin at-begin in
+    let entry = entry-of-begin at-begin in
+    turn-ends (entry .pre .0) (in-else1 .if1 .left) (at-begin .begin .ensures) (at-look .look .ensures) (at-due .due-after .ensures)
+    (at-end .end .given .1) (c .ended2 .ensures)
 
 returns-3 : tie.Need-returns-3
 returns-3 c =
-    let at-turn-scan : tie.After-turn-scan = search depth 0 in
-    let at-begin : tie.After-begin = search depth 0 in
-    let in-else1 : tie.Else1 = search depth 0 in
-    let entry = entry-of-else1 in-else1 in
-    begun-whole (entry .args .st) (at-begin .begin .result) _ _ _ (at-begin .begin .ensures)
-    (let p = in-else1 .if1 .left in omega arith) _ _ _ _ _ _ _ _ _ (at-turn-scan .turn-scan .ensures)
+    let at-told : tie.After-enum-told = search depth 0 in
+    let at-due : tie.After-due-after = search depth 0 in
+    let at-look : tie.After-look = search depth 0 in
+    let at-begin = begin-of-look at-look in
+    let in-else1 = else-of-begin at-begin in
+    let entry = entry-of-begin at-begin in
+    turn-settled (entry .pre .0) (in-else1 .if1 .left) (at-begin .begin .ensures) (at-look .look .ensures) (at-due .due-after .ensures)
+    (at-told .enum-told .given .1) (c .settle .ensures)
+
+returns-4 : tie.Need-returns-4
+returns-4 c =
+    let at-told2 : tie.After-enum-told2 = search depth 0 in
+    let at-due : tie.After-due-after = search depth 0 in
+    let at-look : tie.After-look = search depth 0 in
+    let at-begin = begin-of-look at-look in
+    let in-else1 = else-of-begin at-begin in
+    let entry = entry-of-begin at-begin in
+    turn-made (entry .pre .0) (in-else1 .if1 .left) (at-begin .begin .ensures) (at-look .look .ensures) (at-due .due-after .ensures)
+    (at-told2 .enum-told2 .given .1) (c .make .ensures)
 
 pub turn-spec : {M : Type 1} → statement M
 turn-spec =
@@ -74,17 +91,14 @@ turn-spec =
     (λ c κs. search needs)
     returns
     (λ c κs. search needs)
-    turn-waiting-requires
+    look-requires
+    (λ c κs. search needs)
     (λ c. search needs)
+    (λ c κs. search needs)
     (λ c. search needs)
+    settle-requires
     (λ c. search needs)
-    (λ c. search needs)
-    (λ c. search needs)
+    make-requires
     returns-2
-    turn-scan-requires
-    (λ c. search needs)
-    (λ c. search needs)
-    (λ c. search needs)
-    (λ c. search needs)
-    (λ c. search needs)
-    returns-3)
+    returns-3
+    returns-4)

@@ -1,0 +1,98 @@
+-- `join_right`: a lemma for each return: no normal form, the forms are equal bytes, the forms differ. Assumes nothing.
+-- Read first: specs/Forms (RightWalk), proofs/Pairs.
+use Rattle.forms.proofs.Pairs.{few-bytes, few-taken, right-ends, right-same, right-differs}
+use Rattle.normaliser.specs.declared.Form.the-variants.{Spent, TooLarge}
+use borrow.Author.Needs.{needs}
+use Rattle.forms.proofs.join_right.Statement.{statement}
+use Rattle.forms.proofs.join_right.Tie as tie
+use Rattle.forms.proofs.join_right.Reads as reads
+use Rattle.forms.proofs.join_right.Lts as lts
+use Rattle.check.proofs.same.Reads as same-reads
+use Rattle.forms.proofs.walked.Reads as walked-reads
+use Rattle.normaliser.proofs.normalise.Reads as normalise-reads
+use Rattle.slots.proofs.put_sides.Reads as put-sides-reads
+
+-- Places, found by their types: the only field of a type is the place itself.
+abbrev normalise-of-form : tie.After-form → tie.After-normalise
+normalise-of-form at = search depth 0
+
+abbrev entry-of-normalise : tie.After-normalise → tie.Start
+entry-of-normalise at = search depth 0
+
+part-same-end : tie.Need-part-same-end
+part-same-end c =
+    let at-form : tie.After-form = search depth 0 in
+    let at-normalise = normalise-of-form at-form in
+    let a = few-bytes (at-normalise .normalise .ensures) (at-form .form .given .1) in
+    let b = at-normalise .normalise .ensures .same in
+    search needs
+
+returns : tie.Need-returns
+returns c =
+    let at-form : tie.After-form = search depth 0 in
+    let at-normalise = normalise-of-form at-form in
+    right-same (at-normalise .normalise .ensures) (at-form .form .given .1)
+    (c .before .before .same .ensures .0 (c .before .if1 .taken)) (c .walked .ensures)
+
+part-put-sides-end : tie.Need-part-put-sides-end
+part-put-sides-end c =
+    let at-form : tie.After-form = search depth 0 in
+    let at-normalise = normalise-of-form at-form in
+    let a = few-bytes (at-normalise .normalise .ensures) (at-form .form .given .1) in
+    let b = at-normalise .normalise .ensures .same in
+    search needs
+
+put-sides-requires : tie.Need-put-sides-requires
+put-sides-requires c κs =
+    let at-form : tie.After-form = search depth 0 in
+    let at-normalise = normalise-of-form at-form in
+    let entry = entry-of-normalise at-normalise in
+    (entry .pre .0 .1 .room, (entry .pre .1 .0, few-taken (at-normalise .normalise .ensures) (at-form .form .given .1)))
+
+returns-2 : tie.Need-returns-2
+returns-2 c =
+    let at-put-sides : tie.After-put-sides = search depth 0 in
+    let in-else1 : tie.Else1 = search depth 0 in
+    let at-same : tie.After-same = search depth 0 in
+    let at-form : tie.After-form = search depth 0 in
+    let at-normalise = normalise-of-form at-form in
+    right-differs (at-normalise .normalise .ensures) (at-form .form .given .1) _ (in-else1 .if1 .left) (at-same .same .ensures .1)
+    (at-put-sides .put-sides .ensures) (c .walked2 .ensures)
+
+returns-3 : tie.Need-returns-3
+returns-3 c =
+    let at-normalise : tie.After-normalise = search depth 0 in
+    right-ends (at-normalise .normalise .ensures) Spent tt (c .before .enum-told .given .1) (c .walked3 .ensures)
+
+returns-4 : tie.Need-returns-4
+returns-4 c =
+    let at-normalise : tie.After-normalise = search depth 0 in
+    right-ends (at-normalise .normalise .ensures) TooLarge tt (c .before .enum-told2 .given .1) (c .walked4 .ensures)
+
+pub join-right-spec : {M : Type 1} → statement M
+join-right-spec =
+    tie.close
+    (tie.spec
+    (λ c. search needs)
+    (λ c κs. search needs)
+    (λ c. search needs)
+    (λ c. search needs)
+    (λ c. search needs)
+    (λ c. search needs)
+    part-same-end
+    (λ c κs. search needs)
+    (λ c κs. search needs)
+    returns
+    (λ c. search needs)
+    (λ c. search needs)
+    part-put-sides-end
+    put-sides-requires
+    (λ c κs. search needs)
+    (λ c. search needs)
+    (λ c κs. search needs)
+    (λ c. search needs)
+    (λ c κs. search needs)
+    (λ c. search needs)
+    returns-2
+    returns-3
+    returns-4)
