@@ -41,7 +41,8 @@ pub record Over {W : Type 0} (H : W → Type 0) (e : W → ScanPart) : Type 0 wh
   pub is : (x : W) → H x → (next : Paying Candidate) → e x next ≡ next
 
 -- a part that stops, and what would follow it
-walked-stop : {tab one : List ℕ} {d₁ d₂ : ScanPart} {u : ℕ} {w : Walk} → Walked tab one d₁ u w → (w .found ≡ Equal → ⊥) → Walked tab one (λ next. d₁ (d₂ next)) u w
+walked-stop : {tab one : List ℕ} {d₁ d₂ : ScanPart} {u : ℕ} {w : Walk} → Walked tab one d₁ u w → (w .found ≡ Equal → ⊥) →
+    Walked tab one (λ next. d₁ (d₂ next)) u w
 walked-stop {d₂ = d₂} (found c z f s) n = found c z (λ next. f (d₂ next)) s
 walked-stop {d₂ = d₂} (short z f) n = short z (λ next. f (d₂ next))
 walked-stop {d₂ = d₂} (large z f) n = large z (λ next. f (d₂ next))
@@ -51,7 +52,8 @@ walked-stop {d₂ = d₂} (on z f) n = absurd (n z)
 pub not-equal : (_≡_ {A = ℕ} 0 1) ⊎ (_≡_ {A = ℕ} 0 2) → ⊥
 not-equal h = ⊎-elim (λ z. omega arith) (λ z. omega arith) h
 
-walked-on : {tab one : List ℕ} {d : ScanPart} {u : ℕ} {w : Walk} → Walked tab one d u w → w .found ≡ Equal → (next : Paying Candidate) → d next u ≡ next (w .units)
+walked-on : {tab one : List ℕ} {d : ScanPart} {u : ℕ} {w : Walk} → Walked tab one d u w → w .found ≡ Equal →
+    (next : Paying Candidate) → d next u ≡ next (w .units)
 walked-on (found c z f s) n next = absurd (zero≢one (cc))
 walked-on (short z f) n next = absurd (zero≢one (cc))
 walked-on (large z f) n next = absurd (zero≢one (cc))
@@ -60,7 +62,7 @@ walked-on (on z f) n next = f next
 pub going-start : {W : Type 0} {H : W → Type 0} {d : W → ScanPart} {one : List ℕ} {units : ℕ} → Going H d one one units d units
 going-start {one = one} = record { kept = lent-none one; within = omega arith; reaches = λ x h next. refl }
 
-module _ {W : Type 0} {H : W → Type 0} {d : W → ScanPart} {tab one one′ : List ℕ} {units : ℕ} {e : W → ScanPart} {u : ℕ} (g : Going H d one one′ units e u) where
+module _ {W : Type 0} {H : W → Type 0} {d e : W → ScanPart} {tab one one′ : List ℕ} {units u : ℕ} (g : Going H d one one′ units e u) where
   pub going-then : {one″ : List ℕ} {w : Walk} → Walks H e tab one′ one″ u w → Walks H d tab one one″ units w
   going-then k = record {
     kept = lent-trans (g .kept) (k .kept);

@@ -41,7 +41,9 @@ end-complete u = refl
 whole : (x : World) (u : ℕ) → scan (x .rules) (world-inputs x) (all-places [] (x .rules)) u ≡ of-all x (end-with complete) u
 unfolding of-all of-rules of-inputs
 whole x u =
-    ap (λ (f : Paying Candidate). f u) (scan-visits (x .rules) (world-inputs x) (all-places [] (x .rules)) ∙ ap (visits (x .rules) (all-places [] (x .rules))) (inputs-visits (x .rules) (world-inputs x)))
+    let ps = all-places [] (x .rules) in
+    ap (λ (f : Paying Candidate). f u)
+    (scan-visits (x .rules) (world-inputs x) ps ∙ ap (visits (x .rules) ps) (inputs-visits (x .rules) (world-inputs x)))
 
 module _ {tab rules : List ℕ} {count : ℕ} {list : List ℕ} {number : ℕ} where
   few : (x : World) → InSlots tab rules count list number x → length (world-inputs x) ≡ number
@@ -63,7 +65,8 @@ module _ {tab rules : List ℕ} {count : ℕ} {list : List ℕ} {number : ℕ} w
     is = λ x h next. let f = few x h in ap (λ cs. visit-inputs (x .rules) cs next) (drop-of-length-le (world-inputs x) {i = k} (omega arith));
   }
 
-  origin-is : (x : World) → InSlots tab rules count list number x → (k : ℕ) → k < number → numbered-bytes 3 (k + 1) ≡ origin-bytes (getD (world-inputs x) k no-candidate .origin)
+  origin-is : (x : World) → InSlots tab rules count list number x → (k : ℕ) → k < number →
+      numbered-bytes 3 (k + 1) ≡ origin-bytes (getD (world-inputs x) k no-candidate .origin)
   unfolding origin-bytes
   origin-is x h k l =
       let n = h .number-is in
@@ -92,7 +95,8 @@ module _ {tab rules : List ℕ} {count : ℕ} {list : List ℕ} {number : ℕ} w
   unfolding rules-part
   rules-walk p = record { kept = p .kept; left-over = p .left-over; answer = λ x h. p .answer (x .rules) (h .rules-are) }
 
-  pub scanned : {one one′ : List ℕ} {units : ℕ} {w : Walk} {t : Taken} → Layout one 1 → Walks (InSlots tab rules count list number) of-all tab one one′ units w →
+  pub scanned : {one one′ : List ℕ} {units : ℕ} {w : Walk} {t : Taken} → Layout one 1 →
+      Walks (InSlots tab rules count list number) of-all tab one one′ units w →
       t ≡ record { found = w .found; units = w .units; pair = one′ } → ScanIs tab list number rules count units t
   scanned {one′ = one′} {units = units} {w = w} lay p e = subst (ScanIs tab list number rules count units) (sym e) (record {
     layout = p .kept .layout lay;

@@ -66,17 +66,20 @@ module _ (rs : List Rule) where
           let m : left-size o - (p + 1) ≡ 0 = omega arith in
           rw (n, m) (sym (visit-none rs place (overlap-behind _ _ p l) next))
 
-  all-positions : (i o : ℕ) (next : Paying Candidate) → visits rs (places (rule-at rs i) (rule-at rs o) (positions (rule-at rs o))) next ≡ at-positions i o 0 rs next
+  all-positions : (i o : ℕ) (next : Paying Candidate) →
+      visits rs (places (rule-at rs i) (rule-at rs o) (positions (rule-at rs o))) next ≡ at-positions i o 0 rs next
   unfolding at-positions positions
   all-positions i o next = ap (λ n. visits rs (places (rule-at rs i) (rule-at rs o) (count-from 0 n)) next) (sym (sub-zero (left-size o)))
 
   -- a rule with the earlier rules
-  with-more : (a b : ℕ) (next : Paying Candidate) → a < b → b < length rs → with-earlier a b rs next ≡ at-positions a b 0 rs (at-positions b a 0 rs (with-earlier (a + 1) b rs next))
+  with-more : (a b : ℕ) (next : Paying Candidate) → a < b → b < length rs →
+      with-earlier a b rs next ≡ at-positions a b 0 rs (at-positions b a 0 rs (with-earlier (a + 1) b rs next))
   unfolding with-earlier places-with
   with-more a b next l m =
       let n : length (take b rs) ≡ b = length-take-le b rs (omega arith) in
       let rest : List Rule = drop (a + 1) (take b rs) in
-      let d : drop a (take b rs) ≡ rule-at rs a ∷ rest = rw (add-one a) (drop-cons (take b rs) a no-rule (omega arith) ∙ ap (λ r. r ∷ drop (suc a) (take b rs)) (getD-take b rs a no-rule l)) in
+      let d : drop a (take b rs) ≡ rule-at rs a ∷ rest
+      = rw (add-one a) (drop-cons (take b rs) a no-rule (omega arith) ∙ ap (λ r. r ∷ drop (suc a) (take b rs)) (getD-take b rs a no-rule l)) in
       let r : Rule = rule-at rs b in
       let e : Rule = rule-at rs a in
       let last : Paying Candidate = at-positions b b 1 rs (of-rules (b + 1) rs next) in
@@ -90,7 +93,8 @@ module _ (rs : List Rule) where
   unfolding with-earlier visits places-with
   with-over b next m =
       let n : length (take b rs) ≡ b = length-take-le b rs (omega arith) in
-      ap (λ es. visits rs (places-with es (rule-at rs b)) (at-positions b b 1 rs (of-rules (b + 1) rs next))) (drop-of-length-le (take b rs) {i = b} (omega arith))
+      ap (λ es. visits rs (places-with es (rule-at rs b)) (at-positions b b 1 rs (of-rules (b + 1) rs next)))
+      (drop-of-length-le (take b rs) {i = b} (omega arith))
 
   -- the rules from b on
   rules-more : (b : ℕ) (next : Paying Candidate) → b < length rs → of-rules b rs next ≡ with-earlier 0 b rs next
@@ -155,7 +159,8 @@ module _ (rs : List Rule) where
       go false e = let l : length rs ≤ 0 = ltb-false _ _ e in rules-over 0 next l ∙ sym (come-out (spot 0 0 1) next l)
 
   -- the next place, by what follows the positions
-  pub on : (i o p : ℕ) (next : Paying Candidate) → o < length rs → to-come (spot i o p) rs next ≡ at-place (spot i o p) rs (at-positions i o (p + 1) rs (behind i o rs next))
+  pub on : (i o p : ℕ) (next : Paying Candidate) → o < length rs →
+      to-come (spot i o p) rs next ≡ at-place (spot i o p) rs (at-positions i o (p + 1) rs (behind i o rs next))
   on i o p next m = come-in i o p next m ∙ positions-more i o p (behind i o rs next)
 
   past : (i o p : ℕ) (r : Spot) (next : Paying Candidate) → o < length rs → left-size o ≤ p + 1 → behind i o rs next ≡ to-come r rs next →
@@ -163,7 +168,8 @@ module _ (rs : List Rule) where
   past i o p r next m l e = on i o p next m ∙ ap (at-place (spot i o p) rs) (positions-over i o (p + 1) (behind i o rs next) l ∙ e)
 
 -- the returns of `next`
-module _ (rules : List ℕ) (i o p : ℕ) (r : Spot) (n : ℕ) (low : (i < 33) × (o < 33) × (p < 256) × Layout rules (o + 1)) (z : n ≡ left-length (slot rules o)) where
+module _ (rules : List ℕ) (i o p : ℕ) (r : Spot) (n : ℕ) (low : (i < 33) × (o < 33) × (p < 256) × Layout rules (o + 1))
+    (z : n ≡ left-length (slot rules o)) where
   pub next-position : p + 1 < n → r ≡ spot i o (p + 1) → Follows rules (spot i o p) r
   unfolding place-rank
   next-position l e = subst (Follows rules (spot i o p)) (sym e) (record {
@@ -174,38 +180,34 @@ module _ (rules : List ℕ) (i o p : ℕ) (r : Spot) (n : ℕ) (low : (i < 33) �
   })
 
   module _ (l : n ≤ p + 1) where
+    follow : (q : Spot) → r ≡ q → q .position < 256 → ((count : ℕ) → i < count → o < count → q .outer < count → q .inner < count) →
+        place-rank (spot i o p) < place-rank q →
+        ((rs : List Rule) (next : Paying Candidate) → i < length rs → o < length rs → behind i o rs next ≡ to-come q rs next) → Follows rules (spot i o p) r
+    follow q e f w up g = subst (Follows rules (spot i o p)) (sym e) (record {
+      low = f;
+      within = w;
+      rises = up;
+      leads = λ rs s a b next. past rs i o p q next b (omega (arith, s o b)) (g rs next a b);
+    })
+
     pub next-back : i < o → r ≡ spot o i 0 → Follows rules (spot i o p) r
     unfolding place-rank
-    next-back h e = subst (Follows rules (spot i o p)) (sym e) (record {
-      low = omega arith;
-      within = λ count a b c. omega arith;
-      rises = omega arith;
-      leads = λ rs s a b next. past rs i o p (spot o i 0) next b (omega (arith, s o b)) (back rs i o next h b);
-    })
+    next-back h e = follow (spot o i 0) e (omega arith) (λ count a b c. omega arith) (omega arith) (λ rs next a b. back rs i o next h b)
 
     pub next-earlier : o + 1 < i → r ≡ spot (o + 1) i 0 → Follows rules (spot i o p) r
     unfolding place-rank
-    next-earlier h e = subst (Follows rules (spot i o p)) (sym e) (record {
-      low = omega arith;
-      within = λ count a b c. omega arith;
-      rises = omega arith;
-      leads = λ rs s a b next. past rs i o p (spot (o + 1) i 0) next b (omega (arith, s o b)) (behind-later rs i o next (omega arith) ∙ fresh rs (o + 1) i next h a);
-    })
+    next-earlier h e =
+        follow (spot (o + 1) i 0) e (omega arith) (λ count a b c. omega arith) (omega arith)
+        (λ rs next a b. behind-later rs i o next (omega arith) ∙ fresh rs (o + 1) i next h a)
 
     pub next-itself : o < i → i ≤ o + 1 → r ≡ spot i i 1 → Follows rules (spot i o p) r
     unfolding place-rank
-    next-itself f g e = subst (Follows rules (spot i o p)) (sym e) (record {
-      low = omega arith;
-      within = λ count a b c. omega arith;
-      rises = omega arith;
-      leads = λ rs s a b next. past rs i o p (spot i i 1) next b (omega (arith, s o b)) (behind-later rs i o next f ∙ ap (λ k. with-earlier k i rs next) (omega arith) ∙ itself rs i next a);
-    })
+    next-itself f g e =
+        follow (spot i i 1) e (omega arith) (λ count a b c. omega arith) (omega arith)
+        (λ rs next a b. behind-later rs i o next f ∙ ap (λ k. with-earlier k i rs next) (omega arith) ∙ itself rs i next a)
 
     pub next-later : o ≤ i → i ≤ o → r ≡ spot 0 (o + 1) 0 → Follows rules (spot i o p) r
     unfolding place-rank
-    next-later f g e = subst (Follows rules (spot i o p)) (sym e) (record {
-      low = omega arith;
-      within = λ count a b c. omega arith;
-      rises = omega arith;
-      leads = λ rs s a b next. past rs i o p (spot 0 (o + 1) 0) next b (omega (arith, s o b)) (ap (λ k. behind k o rs next) (omega arith) ∙ behind-itself rs o next ∙ later rs o next);
-    })
+    next-later f g e =
+        follow (spot 0 (o + 1) 0) e (omega arith) (λ count a b c. omega arith) (omega arith)
+        (λ rs next a b. ap (λ k. behind k o rs next) (omega arith) ∙ behind-itself rs o next ∙ later rs o next)

@@ -117,7 +117,8 @@ module _ {tab rules : List ℕ} {count : ℕ} (at : Spot) (li : at .inner < coun
         subst (Visited rs (place at rs) peak′) e
         (visited rs (place at rs) peak′ m _ refl (M .answer _ _ (rule-stands r (at .inner) li) (rule-stands r (at .outer) lo) (h .symbol)))
 
-    pub place-nothing : {one : List ℕ} {units : ℕ} {w : Walk} → m ≡ Nothing → w ≡ record { found = Equal; units = units } → Walks (OverlapsAt tab rules count at) (at-place at) tab one one units w
+    pub place-nothing : {one : List ℕ} {units : ℕ} {w : Walk} → m ≡ Nothing → w ≡ record { found = Equal; units = units } →
+        Walks (OverlapsAt tab rules count at) (at-place at) tab one one units w
     unfolding at-place
     place-nothing {one} {units} e q = record {
       kept = lent-none one;
@@ -134,7 +135,8 @@ module _ {tab rules : List ℕ} {count : ℕ} (at : Spot) (li : at .inner < coun
       answer = λ rs h. large (found-is q) (λ next. said TooLarge e rs h next units ∙ ap (stop too-large) (sym (units-is q)));
     }
 
-    pub place-pair : {mark one one′ one″ : List ℕ} {units : ℕ} {w : Walk} → m ≡ Met-pair → mark ≡ overlapping-bytes rules (at .inner) (at .outer) (at .position) → PutMark one 0 mark one′ →
+    pub place-pair : {mark one one′ one″ : List ℕ} {units : ℕ} {w : Walk} → m ≡ Met-pair →
+        mark ≡ overlapping-bytes rules (at .inner) (at .outer) (at .position) → PutMark one 0 mark one′ →
         PairWalk tab peak′ 0 rules count one′ one″ units w → Walks (OverlapsAt tab rules count at) (at-place at) tab one one″ units w
     unfolding at-place origin-bytes
     place-pair {units = units} e f put k = record {

@@ -35,7 +35,8 @@ module _ {tab rules : List ℕ} {count : ℕ} {one : List ℕ} {units : ℕ} {at
   })
 
   module _ {one′ : List ℕ} {u : ℕ} (g : Reaching tab rules count one one′ units at u) where
-    pub reach-end : {w : Walk} → count ≤ at .outer → w ≡ record { found = Equal; units = u } → Walks (RulesIn tab rules count) (of-rules 0) tab one one′ units w
+    pub reach-end : {w : Walk} → count ≤ at .outer → w ≡ record { found = Equal; units = u } →
+        Walks (RulesIn tab rules count) (of-rules 0) tab one one′ units w
     reach-end l e = going-end (g .going) (record { is = λ rs h next. let c = h .counted in come-out rs at next (omega arith) }) e
 
     module _ (lay : Layout rules count × (count ≤ 33)) (lo : at .outer < count) where

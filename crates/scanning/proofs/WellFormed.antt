@@ -78,8 +78,10 @@ module _ (tab : List ℕ) where
       let v : OverPair symbols (renamed e) = over-renamed symbols e o in
       (over-wf 32 _ (v .0) (renamed-left-made Low16 (λ x. x < 32) 32 e few l), over-wf 32 _ (v .1) (renamed-right-made Low16 (λ x. x < 32) 32 e few r))
 
-  pub overlap-wf : (inner outer : Pair) (p : ℕ) (o : Overlap) → overlap inner outer p ≡ some o → WfPair 16 inner → WfPair 16 outer → WfPair 32 (renamed (o .sides))
+  pub overlap-wf : (inner outer : Pair) (p : ℕ) (o : Overlap) → overlap inner outer p ≡ some o → WfPair 16 inner → WfPair 16 outer →
+      WfPair 32 (renamed (o .sides))
   overlap-wf inner outer p o e wi wo =
-      let k : MaybeOverlap Low16 (overlap inner outer p) = overlap-made Low16 inner outer p (wf-made 16 tab _ (wi .0), wf-made 16 tab _ (wi .1)) (wf-made 16 tab _ (wo .0), wf-made 16 tab _ (wo .1)) in
-      let h : OverlapMade Low16 o = subst (MaybeOverlap Low16) e k in
-      renamed-wf (o .sides) (over-overlap symbols inner outer p o e (wf-over 16 _ (wi .0), wf-over 16 _ (wi .1)) (wf-over 16 _ (wo .0), wf-over 16 _ (wo .1)) .1) (h .left-made) (h .right-made)
+      let h : OverlapMade Low16 o = subst (MaybeOverlap Low16) e (overlap-made Low16 inner outer p
+      (wf-made 16 tab _ (wi .0), wf-made 16 tab _ (wi .1)) (wf-made 16 tab _ (wo .0), wf-made 16 tab _ (wo .1))) in
+      let v = over-overlap symbols inner outer p o e (wf-over 16 _ (wi .0), wf-over 16 _ (wi .1)) (wf-over 16 _ (wo .0), wf-over 16 _ (wo .1)) in
+      renamed-wf (o .sides) (v .1) (h .left-made) (h .right-made)

@@ -1,5 +1,5 @@
 mod Holding
-pub mod Steady
+mod Steady
 mod Taking
 mod Making
 mod Parts

@@ -5,13 +5,6 @@ use Rattle.normaliser.specs.declared.Form.the-variants.{Spent, TooLarge}
 use borrow.Author.Needs.{needs}
 use Rattle.forms.proofs.join.Statement.{statement}
 use Rattle.forms.proofs.join.Tie as tie
-use Rattle.forms.proofs.join.Reads as reads
-use Rattle.forms.proofs.join.Lts as lts
-use Rattle.forms.proofs.join_right.Reads as join-right-reads
-use Rattle.forms.proofs.walked.Reads as walked-reads
-use Rattle.normaliser.proofs.normalise.Reads as normalise-reads
-use Rattle.slots.proofs.left.Reads as left-reads
-use Rattle.slots.proofs.right.Reads as right-reads
 
 -- Places, found by their types: the only field of a type is the place itself.
 abbrev normalise-of-form : tie.After-form → tie.After-normalise

@@ -5,12 +5,6 @@ use Rattle.normaliser.specs.declared.Form.the-variants.{Spent, TooLarge}
 use borrow.Author.Needs.{needs}
 use Rattle.forms.proofs.join_right.Statement.{statement}
 use Rattle.forms.proofs.join_right.Tie as tie
-use Rattle.forms.proofs.join_right.Reads as reads
-use Rattle.forms.proofs.join_right.Lts as lts
-use Rattle.check.proofs.same.Reads as same-reads
-use Rattle.forms.proofs.walked.Reads as walked-reads
-use Rattle.normaliser.proofs.normalise.Reads as normalise-reads
-use Rattle.slots.proofs.put_sides.Reads as put-sides-reads
 
 -- Places, found by their types: the only field of a type is the place itself.
 abbrev normalise-of-form : tie.After-form → tie.After-normalise

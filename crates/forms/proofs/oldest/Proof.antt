@@ -6,12 +6,6 @@ use native.Mathlib.Omega.{arith}
 use borrow.Author.Needs.{needs}
 use Rattle.forms.proofs.oldest.Statement.{statement}
 use Rattle.forms.proofs.oldest.Tie as tie
-use Rattle.forms.proofs.oldest.Reads as reads
-use Rattle.forms.proofs.oldest.Lts as lts
-use Rattle.forms.proofs.join.Reads as join-reads
-use Rattle.forms.proofs.with_pair.Reads as with-pair-reads
-use Rattle.slots.proofs.mark.Reads as mark-reads
-use Rattle.slots.proofs.put_mark.Reads as put-mark-reads
 
 join-requires : tie.Need-join-requires
 join-requires c κs =

@@ -5,10 +5,6 @@ use Rattle.slots.proofs.Layouts.{layout-zeros}
 use borrow.Author.Needs.{needs}
 use Rattle.scanning.proofs.scan.Statement.{statement}
 use Rattle.scanning.proofs.scan.Tie as tie
-use Rattle.scanning.proofs.scan.Reads as reads
-use Rattle.scanning.proofs.scan.Lts as lts
-use Rattle.forms.proofs.with_pair.Reads as with-pair-reads
-use Rattle.scanning.proofs.scan_all.Reads as scan-all-reads
 
 scan-all-requires : tie.Need-scan-all-requires
 scan-all-requires c κs =

@@ -5,10 +5,6 @@ use Rattle.scanning.proofs.Going.{not-equal, going-start, going-on, goi
 use borrow.Author.Needs.{needs}
 use Rattle.scanning.proofs.scan_all.Statement.{statement}
 use Rattle.scanning.proofs.scan_all.Tie as tie
-use Rattle.scanning.proofs.scan_all.Reads as reads
-use Rattle.scanning.proofs.scan_all.Lts as lts
-use Rattle.scanning.proofs.scan_inputs.Reads as scan-inputs-reads
-use Rattle.scanning.proofs.scan_rules.Reads as scan-rules-reads
 
 -- Places, found by their types: the only field of a type is the place itself.
 abbrev entry-of-scan-rules : tie.After-scan-rules → tie.Start

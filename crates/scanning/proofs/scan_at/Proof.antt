@@ -7,13 +7,6 @@ use native.Mathlib.Omega.{arith}
 use borrow.Author.Needs.{needs}
 use Rattle.scanning.proofs.scan_at.Statement.{statement}
 use Rattle.scanning.proofs.scan_at.Tie as tie
-use Rattle.scanning.proofs.scan_at.Reads as reads
-use Rattle.scanning.proofs.scan_at.Lts as lts
-use Rattle.forms.proofs.join.Reads as join-reads
-use Rattle.forms.proofs.walked.Reads as walked-reads
-use Rattle.overlaps.proofs.overlap.Reads as overlap-reads
-use Rattle.slots.proofs.origins.overlapping.Reads as overlapping-reads
-use Rattle.slots.proofs.put_mark.Reads as put-mark-reads
 
 -- Places, found by their types: the only field of a type is the place itself.
 abbrev entry-of-overlap : tie.After-overlap → tie.Start

@@ -10,12 +10,6 @@ use Rattle.slots.proofs.Layouts.{layout-less}
 use borrow.Author.Needs.{needs}
 use Rattle.scanning.proofs.scan_inputs.Statement.{statement}
 use Rattle.scanning.proofs.scan_inputs.Tie as tie
-use Rattle.scanning.proofs.scan_inputs.Reads as reads
-use Rattle.scanning.proofs.scan_inputs.Lts as lts
-use Rattle.forms.proofs.join.Reads as join-reads
-use Rattle.forms.proofs.walked.Reads as walked-reads
-use Rattle.slots.proofs.origins.numbered.Reads as numbered-reads
-use Rattle.slots.proofs.put_mark.Reads as put-mark-reads
 
 abbrev Inv-loop : tie.InvT-loop
 Inv-loop inputs number rules count table units pair₀ u₀ k₀ pair u k =
@@ -61,7 +55,9 @@ join-requires c κs =
     let in-loop : tie.In-loop Inv-loop μ-loop = search depth 0 in
     let at-loop = at-loop-of-put-mark at-put-mark in
     let entry = entry-of-at-loop at-loop in
-    (entry .pre .0, layout-less (let t = in-loop .loop-test .taken in omega arith) (entry .pre .1), marked-one (at-loop .loop .inv .kept .layout (entry .pre .3)) (at-put-mark .put-mark .ensures))
+    let t = in-loop .loop-test .taken in
+    let kept = at-loop .loop .inv .kept .layout (entry .pre .3) in
+    (entry .pre .0, layout-less (omega arith) (entry .pre .1), marked-one kept (at-put-mark .put-mark .ensures))
 
 returns : tie.Need-returns Inv-loop μ-loop
 returns c =

@@ -9,13 +9,6 @@ use Rattle.scanning.proofs.Going.{not-equal}
 use borrow.Author.Needs.{needs}
 use Rattle.scanning.proofs.scan_rules.Statement.{statement}
 use Rattle.scanning.proofs.scan_rules.Tie as tie
-use Rattle.scanning.proofs.scan_rules.Reads as reads
-use Rattle.scanning.proofs.scan_rules.Lts as lts
-use Rattle.forms.proofs.walked.Reads as walked-reads
-use Rattle.overlaps.proofs.possible.Reads as possible-reads
-use Rattle.scanning.proofs.scan_at.Reads as scan-at-reads
-use Rattle.scanning.proofs.spots.next.Reads as next-reads
-use Rattle.scanning.proofs.spots.spot_at.Reads as spot-at-reads
 
 abbrev Inv-loop : tie.InvT-loop
 Inv-loop rules count table units pair₀ at₀ u₀ pair at u = Reaching table rules count pair₀ pair units at u
@@ -57,8 +50,10 @@ returns c =
     let in-then1 : tie.Then1 Inv-loop μ-loop = search depth 0 in
     let at-loop : tie.At-loop Inv-loop μ-loop = search depth 0 in
     let entry = entry-of-at-loop at-loop in
-    reach-stop (at-loop .loop .inv) (entry .pre .0, entry .pre .1) (in-then1 .if1 .taken)
-    (placed _ (at-loop .loop .inv .within (in-then1 .if1 .taken)) (in-then1 .if1 .taken) (at-possible .possible .ensures) (in-then2 .if2 .taken) (at-scan-at .scan-at .ensures))
+    let lo = in-then1 .if1 .taken in
+    let li = at-loop .loop .inv .within lo in
+    reach-stop (at-loop .loop .inv) (entry .pre .0, entry .pre .1) lo
+    (placed _ li lo (at-possible .possible .ensures) (in-then2 .if2 .taken) (at-scan-at .scan-at .ensures))
     (λ z. not-equal (rw z at (c .match .keys2)))
 
 next-requires : tie.Need-next-requires Inv-loop μ-loop

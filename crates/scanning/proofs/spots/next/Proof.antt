@@ -4,10 +4,6 @@ use Rattle.scanning.proofs.Places.{next-position, next-back, next-later
 use borrow.Author.Needs.{needs}
 use Rattle.scanning.proofs.spots.next.Statement.{statement}
 use Rattle.scanning.proofs.spots.next.Tie as tie
-use Rattle.scanning.proofs.spots.next.Reads as reads
-use Rattle.scanning.proofs.spots.next.Lts as lts
-use Rattle.scanning.proofs.spots.spot_at.Reads as spot-at-reads
-use Rattle.slots.proofs.left_size.Reads as left-size-reads
 
 left-size-requires : tie.Need-left-size-requires
 left-size-requires c κs =
