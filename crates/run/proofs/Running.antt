@@ -1,103 +1,137 @@
--- The loop of turns comes to the run: the state at hand stands for one on the way, from which the run ends as from the start. Assumes nothing.
--- Read first: completion/proofs/Turning (Running), turn/specs/Turns (WholeTurn), specs/Runs.
-use mathlib.Core.Path.{_≡_, refl, sym, ap, _∙_, subst, subst₂}
-use mathlib.Core.List.{List, []}
-use Prim.Native.Nat.{ℕ, _+_, _-_, _≤_}
+-- The loop of turns comes to the run: the turn at hand is one on the way, from whose state the run ends as from the start. Assumes nothing.
+-- Read first: completion/proofs/Turning (Running), turn/specs/Turns (Turns), specs/Runs.
+use mathlib.Core.Path.{_≡_, refl, sym, ap, _∙_, subst}
+use mathlib.Core.List.{List, map, map-map}
+use Prim.Native.Nat.{ℕ, _+_, _-_, _*_, _<_, _≤_}
 use native.Mathlib.Omega.{arith}
-use Rattle.problem.specs.Problem.{Problem}
-use Rattle.redex.specs.Stored.{Layout}
-use Rattle.rewriting.specs.Rewrite.{Paid, done, stop, goes-on}
-use Rattle.rewriting.proofs.Holds.{goes-on≢end}
-use Rattle.completion.specs.Turn.{State as RunState, Finished, turn, run}
-use Rattle.completion.proofs.Turning.{Running, run-begins, run-goes-on, run-ends}
+use Rattle.limits.specs.Limits.{most-entries}
+use Rattle.order.specs.Walk.{rank}
+use Rattle.problem.specs.Problem.{rank-of, Problem}
+use Rattle.rewriting.specs.Rewrite.{Paid, done, stop}
+use Rattle.rewriting.specs.declared.End.{End as Ending}
+use Rattle.rewriting.specs.declared.Verdict.{Verdict}
+use Rattle.rewriting.specs.declared.Verdict.the-variants.{GoesOn, Ends}
+use Rattle.rewriting.proofs.Verdicts.{goes≢ends, same-end}
+use Rattle.completion.specs.Turn.{waiting-input, State as RunState, Finished, turn, initial, run}
+use Rattle.completion.proofs.Limits.{length-candidates}
 use Rattle.completion.proofs.Reachable.{turn-less}
-use Rattle.engine.specs.State.{with-units, Whole, whole, Fine, Represents}
-use Rattle.engine.specs.declared.State.{State}
-use Rattle.engine.specs.Steps.{FirstState}
-use Rattle.engine.proofs.Paying.{paying, units-represent, units-fine}
-use Rattle.making.specs.Made.{Outcome, outcome}
-use Rattle.turn.specs.Turns.{Given, Shown, TurnedIs, WholeTurn}
-use Rattle.run.specs.Runs.{EndedWith, RanIs, Runs}
-use Rattle.making.specs.declared.Turned.{Turned}
+use Rattle.completion.proofs.Turning.{Running, run-begins, run-goes-on, run-ends}
+use Rattle.slots.specs.Slots.{Layout, Marked, Stored}
+use Rattle.slots.specs.declared.Pairs.{Pairs}
+use Rattle.slots.proofs.Listing.{stored-of}
+use Rattle.inputs.specs.Inputs.{marked, Held, inputs-of}
+use Rattle.state.specs.declared.State.{State}
+use Rattle.state.specs.Run.{Fine}
+use Rattle.state.specs.Steps.{Initial}
+use Rattle.turn.specs.declared.Turned.{Turned}
+use Rattle.turn.specs.Turns.{Given, TurnSafe, TurnedIs, Turns}
 use Rattle.run.specs.declared.Ran.{Ran}
+use Rattle.run.specs.Runs.{ended-run, RanIs, Runs}
 
--- the state stands for one on the way of the run
-pub record OnTheWay (tab : List ℕ) (P : Problem) (st : Whole) : Type 0 where
-  pub state : RunState
-  pub stands : Represents tab st state
-  pub running : Running P (run P) state (st .units)
-
-abbrev pub Going : List ℕ → List ℕ → List ℕ → ℕ → ℕ → Whole → Type 0
-Going tab inputs lens count budget st = (P : Problem) → Given tab inputs lens count P → budget ≡ P .budget → OnTheWay tab P st
-
-going-begins : (tab inputs lens : List ℕ) (count budget : ℕ) (st : Whole) → FirstState inputs lens count budget st → Going tab inputs lens count budget st
-going-begins tab inputs lens count budget st B P G e =
+-- what is given of the input equations
+given-of : (tab : List ℕ) (inputs : Pairs) (P : Problem) → rank-of (P .symbols) ≡ rank tab → Held tab inputs (inputs-of P) →
+    Given tab (inputs .bytes) (inputs .count) P
+given-of tab inputs P ranks H =
     record {
-      state = _;
-      stands = B .represents tab P (G .stored) (G .counted);
-      running = subst (Running P (run P) _) (sym (B .units ∙ e)) (run-begins P);
+      ranks = ranks;
+      stored = subst (Stored tab (inputs .bytes) 0) (map-map (λ (m : Marked). m .sides) marked (inputs-of P))
+          (stored-of tab (inputs .bytes) 0 (map marked (inputs-of P)) (H .holds));
+      counted = H .counted ∙ length-candidates waiting-input 1 (P .equations);
     }
 
-module _ (tab L R : List ℕ) (P : Problem) (st : Whole) (W : OnTheWay tab P st) where
-  next-turn : (t : Outcome) (p : Paid RunState) → turn P (W .state) (st .units) ≡ p → TurnedIs tab (W .state) L R t p → t .verdict ≡ goes-on → OnTheWay tab P (paying (t .state) (t .units))
-  next-turn t (done s′ left) e a v =
-      let r : Running P (run P) s′ left = run-goes-on P (run P) (W .state) (st .units) (W .running) s′ left e (turn-less P (W .state) s′ (st .units) left e) in
-      record { state = s′; stands = units-represent tab (t .state) (t .units) s′ (a .2); running = subst (Running P (run P) s′) (sym (a .1)) r }
-  next-turn t (stop f left) e a v = absurd (goes-on≢end f (sym v ∙ a .0))
+-- the answer of a turn on the way of the run
+pub record OnTheWay (tab : List ℕ) (P : Problem) (t : Turned) : Type 0 where
+  pub state : RunState
+  pub units : ℕ
+  pub running : Running P (run P) state units
+  pub turned : TurnedIs tab state t (turn P state units)
 
-  ends : (t : Turned) (rules waiting log : List ℕ) (p : Paid RunState) → turn P (W .state) (st .units) ≡ p → TurnedIs tab (W .state) L R (outcome t rules waiting log) p → (t .verdict ≡ goes-on → ⊥) →
-      (o : Ran) → EndedWith t (P .budget) L R o → RanIs tab (run P) o (whole (t .state) rules waiting log)
-  ends t rules waiting log (done s′ left) e a v o E = absurd (v (a .0))
-  ends t rules waiting log (stop f left) e a v o E =
-      let z : run P ≡ record { end = f; units = P .budget - left; state = W .state } = run-ends P (run P) (W .state) (st .units) (W .running) f left e in
-      subst (λ (r : Finished). RanIs tab r o (whole (t .state) rules waiting log)) (sym z)
-      (record {
-        state = a .2;
-        end = E .verdict ∙ a .0;
-        paid = E .paid ∙ ap (λ x. P .budget - x) (a .1);
-        forms = λ g w. subst₂ (λ x y. Shown tab x y (o .m) (o .n) g) (sym (E .left-is)) (sym (E .right-is)) (subst₂ (λ x y. Shown tab L R x y g) (sym (E .m)) (sym (E .n)) (a .3 g w));
-      })
+-- The loop's invariant.
+pub record Looping (tab : List ℕ) (inputs : Pairs) (budget : ℕ) (t : Turned) : Type 0 where
+  pub fine : Fine (t .state)
+  pub layout : Layout (t .pair) 1
+  pub within : t .state .units ≤ budget
+  pub way : (P : Problem) → rank-of (P .symbols) ≡ rank tab → Held tab inputs (inputs-of P) → budget ≡ P .budget → OnTheWay tab P t
 
--- The loop's invariant, and what `run` answers.
-pub record Looping (tab inputs lens : List ℕ) (count budget : ℕ) (st : Whole) : Type 0 where
-  pub fine : Fine st
-  pub going : Going tab inputs lens count budget st
+pub looping-begins : {tab : List ℕ} {inputs : Pairs} {budget : ℕ} {first : State} {t : Turned} → Initial inputs budget first →
+    Turns tab (inputs .bytes) (inputs .count) first t → Looping tab inputs budget t
+looping-begins {tab} {inputs} {budget} {first} {t} I T =
+    let less = T .safe .less in
+    record {
+      fine = T .safe .fine;
+      layout = T .safe .layout;
+      within = omega (arith, I .units);
+      way = λ P ranks H b.
+          record {
+            state = initial P;
+            units = first .units;
+            running = subst (Running P (run P) (initial P)) (sym (I .units ∙ b)) (run-begins P);
+            turned = T .answer P (given-of tab inputs P ranks H) (initial P) (I .represents tab P H);
+          };
+    }
 
--- with the whole budget
-pub looping-begins : (tab inputs lens : List ℕ) (count budget lent : ℕ) (st : Whole) → FirstState inputs lens count lent st → lent ≡ budget → Looping tab inputs lens count budget st
-looping-begins tab inputs lens count budget lent st B e = record { fine = B .fine; going = λ P G b. going-begins tab inputs lens count lent st B P G (e ∙ b) }
+-- a turn more
+next-turn : (tab inputs : List ℕ) (count : ℕ) (P : Problem) (t u : Turned) → Given tab inputs count P → t .verdict ≡ GoesOn →
+    Turns tab inputs count (t .state) u → OnTheWay tab P t → OnTheWay tab P u
+next-turn tab inputs count P t u G v T W = go (turn P (W .state) (W .units)) refl (W .turned)
+  where
+    go : (p : Paid RunState) → turn P (W .state) (W .units) ≡ p → TurnedIs tab (W .state) t p → OnTheWay tab P u
+    go (stop f left) e a = absurd (goes≢ends v (a .0))
+    go (done s left) e a =
+        let r : Running P (run P) s left =
+        run-goes-on P (run P) (W .state) (W .units) (W .running) s left e (turn-less P (W .state) s (W .units) left e) in
+        record { state = s; units = t .state .units; running = subst (Running P (run P) s) (sym (a .1)) r; turned = T .answer P G s (a .2) }
 
--- `next`
-pub looping-next : (tab inputs lens : List ℕ) (count budget : ℕ) (r : State) (t : Turned) (rules waiting log : List ℕ) → r ≡ with-units (t .state) (t .units) →
-    Looping tab inputs lens count budget (paying (whole (t .state) rules waiting log) (t .units)) → Looping tab inputs lens count budget (whole r rules waiting log)
-looping-next tab inputs lens count budget r t rules waiting log e I = subst (λ x. Looping tab inputs lens count budget (whole x rules waiting log)) (sym e) I
+pub loops-on : {tab : List ℕ} {inputs : Pairs} {budget : ℕ} {t u : Turned} → Looping tab inputs budget t → t .verdict ≡ GoesOn →
+    Turns tab (inputs .bytes) (inputs .count) (t .state) u → Looping tab inputs budget u
+loops-on {tab} {inputs} {budget} {t} {u} I v T =
+    let a = I .within in
+    let b = T .safe .less in
+    record {
+      fine = T .safe .fine;
+      layout = T .safe .layout;
+      within = omega arith;
+      way = λ P ranks H e. next-turn tab (inputs .bytes) (inputs .count) P t u (given-of tab inputs P ranks H) v T (I .way P ranks H e);
+    }
 
-module _ (tab inputs lens : List ℕ) (count budget : ℕ) (st : Whole) (I : Looping tab inputs lens count budget st) (L R L′ R′ : List ℕ) (t : Outcome) (T : WholeTurn st tab inputs lens count L R L′ R′ t) where
-  pub loops-on : t .verdict ≡ goes-on → Looping tab inputs lens count budget (paying (t .state) (t .units))
-  loops-on v =
-      record {
-        fine = units-fine (t .state) (t .units) (T .safe .fine v);
-        going = λ P G b. let W = I .going P G b in next-turn tab L′ R′ P st W t (turn P (W .state) (st .units)) refl (T .answer P G (W .state) (W .stands)) v;
-      }
+-- A turn that goes on makes an entry, of at most 512; one that ends is the last.
+unfoldable pub ongoing : Verdict → ℕ
+ongoing GoesOn = 1
+ongoing (Ends e) = 0
 
-  pub loop-grows : t .verdict ≡ goes-on → (t .state .entries ≡ st .entries + 1) × (t .state .entries ≤ 512)
-  loop-grows v = (T .safe .grows v, T .safe .fine v .log-few)
+abbrev pub left-over : Turned → ℕ
+left-over t = ongoing (t .verdict) + 2 * (most-entries - t .state .log .count)
+
+pub loop-falls : (t u : Turned) → t .verdict ≡ GoesOn → TurnSafe (t .state) u → left-over u < left-over t
+unfolding ongoing
+loop-falls t u v T = go (u .verdict) refl
+  where
+    go : (w : Verdict) → u .verdict ≡ w → left-over u < left-over t
+    go GoesOn e =
+        let few = T .fine .log-few in
+        omega (arith, T .grows e, ap ongoing v, ap ongoing e)
+    go (Ends f) e =
+        let same : u .state .log .count ≡ t .state .log .count = ap (λ (x : State). x .log .count) (T .stays (λ g. goes≢ends g e)) in
+        omega (arith, same, ap ongoing v, ap ongoing e)
 
 -- `run`
-pub run-ended : (tab inputs lens : List ℕ) (count budget : ℕ) (st : Whole) → Looping tab inputs lens count budget st → (L R L′ R′ : List ℕ) (t : Turned) (rules waiting log : List ℕ) →
-    WholeTurn st tab inputs lens count L R L′ R′ (outcome t rules waiting log) → (t .verdict ≡ goes-on → ⊥) → (o : Ran) → EndedWith t budget L′ R′ o → Runs tab inputs lens count budget o (whole (o .state) rules waiting log)
-run-ended tab inputs lens count budget st I L R L′ R′ t rules waiting log T v o E =
-    let K = T .stays v in
-    let fit : Layout [] rules (t .state .lens) (st .count) = subst₂ (λ b l. Layout [] b l (st .count)) (sym (K .rules)) (sym (K .lens)) (I .fine .rules-fit) in
-    subst (λ x. Runs tab inputs lens count budget o (whole x rules waiting log)) (sym (E .state))
+ends : (tab : List ℕ) (P : Problem) (t : Turned) (end : Ending) → t .verdict ≡ Ends end → OnTheWay tab P t → RanIs tab (run P) (ended-run t end (P .budget))
+ends tab P t end v W = go (turn P (W .state) (W .units)) refl (W .turned)
+  where
+    go : (p : Paid RunState) → turn P (W .state) (W .units) ≡ p → TurnedIs tab (W .state) t p → RanIs tab (run P) (ended-run t end (P .budget))
+    go (done s left) e a = absurd (goes≢ends (a .0) v)
+    go (stop f left) e a =
+        let z : run P ≡ record { end = f; units = P .budget - left; state = W .state } = run-ends P (run P) (W .state) (W .units) (W .running) f left e in
+        subst (λ (r : Finished). RanIs tab r (ended-run t end (P .budget))) (sym z)
+        (record { state = a .2; end = same-end v (a .0); paid = ap (λ x. P .budget - x) (a .1); forms = a .3 })
+
+pub run-ended : {tab : List ℕ} {inputs : Pairs} {budget : ℕ} {t : Turned} {end : Ending} {o : Ran} → Looping tab inputs budget t → t .verdict ≡ Ends end →
+    o ≡ ended-run t end budget → Runs tab inputs budget o
+run-ended {tab} {inputs} {budget} {t} {end} I v e =
+    subst (Runs tab inputs budget) (sym e)
     (record {
-      rules-fit = subst (Layout [] rules (t .state .lens)) (sym (K .count)) fit;
-      live = omega (arith, K .count, I .fine .live);
-      log-few = omega (arith, K .entries, I .fine .log-few);
-      within = omega (arith, E .paid);
-      left-few = subst (λ x. x ≤ 120) (sym (E .m)) (T .safe .left-few);
-      right-few = subst (λ x. x ≤ 120) (sym (E .n)) (T .safe .right-few);
-      answer = λ P G b.
-          let W = I .going P G b in
-          ends tab L′ R′ P st W t rules waiting log (turn P (W .state) (st .units)) refl (T .answer P G (W .state) (W .stands)) v o (subst (λ n. EndedWith t n L′ R′ o) b E);
+      fine = I .fine;
+      layout = I .layout;
+      within = omega arith;
+      answer = λ P ranks H b. subst (λ n. RanIs tab (run P) (ended-run t end n)) (sym b) (ends tab P t end v (I .way P ranks H b));
     })

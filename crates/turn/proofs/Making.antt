@@ -16,7 +16,7 @@ use Rattle.rewriting.specs.declared.End.{End as Ending}
 use Rattle.rewriting.specs.declared.End.the-variants.{RulesFull}
 use Rattle.rewriting.specs.declared.Verdict.the-variants.{GoesOn, Ends}
 use Rattle.rewriting.proofs.Verdicts.{goes≢ends, same-end}
-use Rattle.completion.specs.Turn.{Candidate, State as RunState, Taken as TakenPair, kept, removed, normalise-rights, make-rule}
+use Rattle.completion.specs.Turn.{Candidate, State as RunState, Taken as TakenPair, kept, normalise-rights, make-rule}
 use Rattle.completion.specs.Calls.{origin-bytes}
 use Rattle.completion.proofs.Turning.{new-rule, next-state, make-stops, make-rules-full, make-rights-stop, make-done}
 use Rattle.slots.specs.Slots.{PairAt}

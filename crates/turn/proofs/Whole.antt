@@ -83,12 +83,12 @@ module _ (tab : List ℕ) (P : Problem) (s : RunState) (u : ℕ) (t : Taken) (wa
       go false e f = differ e (f .1) _ (room n Make) (ap (λ x. due-after x waits n) (f .0))
 
 -- something waits where there are more pairs than live rules
-pub waits-are : (live count : ℕ) (cs : List Candidate) → count ≡ live + length cs → ltb live count ≡ some-wait cs
+waits-are : (live count : ℕ) (cs : List Candidate) → count ≡ live + length cs → ltb live count ≡ some-wait cs
 unfolding some-wait
 waits-are live count [] e = le-ltb live count (omega arith)
 waits-are live count (c ∷ cs) e = lt-ltb live count (omega arith)
 
-pub pairs-of : {tab : List ℕ} {st : State} {s : RunState} {waits : Bool} → Represents tab st s → waits ≡ ltb (st .live) (st .pairs .count) →
+pairs-of : {tab : List ℕ} {st : State} {s : RunState} {waits : Bool} → Represents tab st s → waits ≡ ltb (st .live) (st .pairs .count) →
     PairsOf tab (st .pairs .bytes) (st .live) waits s
 pairs-of {st = st} {s = s} R w =
     record {

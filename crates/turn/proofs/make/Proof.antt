@@ -1,6 +1,7 @@
 -- `make`: a lemma for each return; behind `compose` the state has other bytes in its slots. Assumes nothing.
 -- Read first: proofs/Parts.
 use mathlib.Core.Path.{refl}
+use native.Mathlib.Omega.{arith}
 use Rattle.turn.proofs.Parts.{orient-room, collapse-room, compose-room, make-logs, makes-unplaced, makes-full, makes-rights-end, makes-goes}
 use borrow.Author.Needs.{needs}
 use Rattle.turn.proofs.make.Statement.{statement}
@@ -53,7 +54,7 @@ returns-2 c =
     let at-take = take-of-orient at-orient in
     let entry = entry-of-orient at-orient in
     makes-full (at-take .take .ensures) (at-orient .orient .ensures) (entry .pre .0) (entry .pre .2)
-    (told-of-collapse at-collapse .enum-told .given .1) (at-collapse .collapse .ensures) (in-then1 .if1 .taken) (c .ended2 .ensures)
+    (told-of-collapse at-collapse .enum-told .given .1) (at-collapse .collapse .ensures) (let full = in-then1 .if1 .taken in omega arith) (c .ended2 .ensures)
 
 compose-requires : tie.Need-compose-requires
 compose-requires c κs =
