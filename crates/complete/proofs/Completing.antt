@@ -6,58 +6,39 @@ use Prim.Native.Nat.{ℕ, _-_, _<_, _≤_}
 use native.Mathlib.Omega.{arith}
 use lib.ListN.{length, take, drop}
 use borrow.Author.Tests.{lt-ltb}
-use Rattle.matching.proofs.Replacing.{take-less-zero}
+use Rattle.limits.specs.Limits.{most-equations, most-budget, least-buffer}
+use Rattle.order.specs.Walk.{rank}
 use Rattle.problem.specs.Problem.{Reading, ok, refused, _>>=_, refuse-if, rank-of, Problem, parse}
 use Rattle.problem.specs.Parser.{ParsedAt}
 use Rattle.completion.specs.Turn.{run}
 use Rattle.completion.specs.Calls.{result-bytes, enough, complete-call, after-complete, Writes}
-use Rattle.report.specs.Report.{OfState}
+use Rattle.report.specs.Report.{Reports}
 use Rattle.completion.proofs.Accepts.{accepts}
 use Rattle.completion.proofs.Ranks.{ranks-are}
 use Rattle.completion.proofs.Writing.{complete-is}
-use Rattle.inputs.specs.Inputs.{Filled}
-use Rattle.inputs.proofs.Fields.{parsed-few}
-use Rattle.engine.specs.State.{whole}
-use Rattle.turn.specs.Turns.{Given}
+use Rattle.slots.specs.declared.Pairs.{Pairs}
+use Rattle.inputs.specs.Inputs.{InputsRead}
 use Rattle.run.specs.Runs.{Runs}
 use Rattle.run.specs.declared.Ran.{Ran}
-use Rattle.complete.specs.Answer.{completed-told, counted, Delivery, WritesRun, WritesProblem}
+use Rattle.complete.specs.Answer.{completed-told, counted, Delivery, WritesProblem}
 use Rattle.complete.specs.declared.Completed.{Completed}
 use Rattle.complete.specs.declared.Completed.the-variants.{Written, Refused}
 use Rattle.complete.proofs.Delivering.{delivery}
 
--- `write`
-pub write-run : (o : Ran) (rules log left right before after : List ℕ) (r : ℕ) → left ≡ take (o .m - 0) (o .left) → right ≡ take (o .n - 0) (o .right) →
-    OfState (o .state) rules log (o .verdict) (o .paid) left right before after r → WritesRun o rules log before after r
-write-run o rules log left right before after r ql qr W tab waiting f I =
-    W tab waiting f (I .state)
-    (record {
-      end-is = I .end;
-      units-are = I .paid;
-      forms = λ e q.
-          let S = I .forms e q in
-          record {
-            left-wf = S .left-wf;
-            right-wf = S .right-wf;
-            left-bytes = ql ∙ take-less-zero (o .m) (o .left) ∙ S .left-bytes;
-            right-bytes = qr ∙ take-less-zero (o .n) (o .right) ∙ S .right-bytes;
-          };
-    })
-
 -- `accepted`
-pub accepted-run : (l : List ℕ) (e b n : ℕ) (slots lens slots′ lens′ rules waiting log before after : List ℕ) (o : Ran) (r : ℕ) → Filled l e n slots lens slots′ lens′ →
-    Runs (take (e - 3) (drop 3 l)) slots′ lens′ n b o (whole (o .state) rules waiting log) → WritesRun o rules log before after r → WritesProblem l e b n before after r
-accepted-run l e b n slots lens slots′ lens′ rules waiting log before after o r F R W P A =
-    let G : Given (take (e - 3) (drop 3 l)) slots′ lens′ n P =
-    record { ranks = ap rank-of (A .symbols-are) ∙ ranks-are (take (e - 3) (drop 3 l)) (A .table .table); stored = F .stored b P A; counted = sym (A .number) } in
-    W (take (e - 3) (drop 3 l)) waiting (run P) (R .answer P G (sym (A .budget-is)))
+pub accepted-run : (l : List ℕ) (e b n : ℕ) (inputs : Pairs) (before after : List ℕ) (o : Ran) (r : ℕ) → InputsRead l e n inputs →
+    Runs (take (e - 3) (drop 3 l)) inputs b o → Reports o before after r → WritesProblem l e b n before after r
+accepted-run l e b n inputs before after o r I R W P A =
+    let tab : List ℕ = take (e - 3) (drop 3 l) in
+    let ranks : rank-of (P .symbols) ≡ rank tab = ap rank-of (A .symbols-are) ∙ ranks-are tab (A .table .table) in
+    W .writes tab (run P) (R .answer P ranks (I .held b P A) (sym (A .budget-is)))
 
 pub record Needs (l : List ℕ) (e b n : ℕ) : Type 0 where
   pub low : 3 ≤ e
   pub within : e ≤ length l
   pub small : length l ≤ 65536
-  pub few : n ≤ 16
-  pub budget : b ≤ 1000000
+  pub few : n ≤ most-equations
+  pub budget : b ≤ most-budget
 
 pub accepted-needs : (l : List ℕ) (e b n : ℕ) → ((P : Problem) × ParsedAt l e b n P) → Needs l e b n
 accepted-needs l e b n (P, A) =
@@ -65,7 +46,7 @@ accepted-needs l e b n (P, A) =
       low = omega (arith, A .table .low);
       within = A .table .within;
       small = omega (arith, A .small);
-      few = parsed-few l e b n P A;
+      few = omega (arith, A .number, accepts l P (A .is) .equations-few);
       budget = omega (arith, A .budget-is, accepts l P (A .is) .budget-few);
     }
 
@@ -75,22 +56,22 @@ pub record Answered (problem before after : List ℕ) (r : Completed) : Type 0 w
   pub bytes : after ≡ after-complete (complete-call problem (length before)) before
 
 module _ (problem before : List ℕ) where
-  refused-short : length before < 16_384 → complete-call problem (length before) ≡ refused 1 0
+  refused-short : length before < least-buffer → complete-call problem (length before) ≡ refused 1 0
   unfolding complete-call enough refuse-if _>>=_
-  refused-short h = rw (lt-ltb (length before) 16_384 h) refl
+  refused-short h = rw (lt-ltb (length before) least-buffer h) refl
 
   answered : (after : List ℕ) (r : Completed) (c : Reading (List ℕ)) → complete-call problem (length before) ≡ c → completed-told r ≡ counted c → after ≡ after-complete c before → Answered problem before after r
   answered after r c e a b = record { answer = a ∙ ap counted (sym e); bytes = b ∙ ap (λ x. after-complete x before) (sym e) }
 
-  pub answers-short : length before < 16_384 → Answered problem before before (Refused 1 0)
+  pub answers-short : length before < least-buffer → Answered problem before before (Refused 1 0)
   unfolding completed-told counted after-complete
   answers-short h = answered before (Refused 1 0) (refused 1 0) (refused-short h) refl refl
 
-  pub answers-refused : 16_384 ≤ length before → (n at : ℕ) → parse problem ≡ refused n at → Answered problem before before (Refused n at)
+  pub answers-refused : least-buffer ≤ length before → (n at : ℕ) → parse problem ≡ refused n at → Answered problem before before (Refused n at)
   unfolding completed-told counted after-complete _>>=_
   answers-refused h n at e = answered before (Refused n at) (refused n at) (complete-is problem (length before) h ∙ ap (λ x. x >>= λ P. ok (result-bytes (run P))) e) refl refl
 
-  pub answers-written : 16_384 ≤ length before → (P : Problem) → parse problem ≡ ok P → (after : List ℕ) (r : ℕ) → Writes before (result-bytes (run P)) after r → Answered problem before after (Written r)
+  pub answers-written : least-buffer ≤ length before → (P : Problem) → parse problem ≡ ok P → (after : List ℕ) (r : ℕ) → Writes before (result-bytes (run P)) after r → Answered problem before after (Written r)
   unfolding completed-told counted after-complete _>>=_
   answers-written h P e after r w =
       answered after (Written r) (ok (result-bytes (run P))) (complete-is problem (length before) h ∙ ap (λ x. x >>= λ P. ok (result-bytes (run P))) e) (ap ok (w .count)) (w .bytes)

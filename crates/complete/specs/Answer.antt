@@ -10,7 +10,7 @@ use Rattle.completion.specs.Promise.{Delivers}
 use Rattle.complete.specs.declared.Completed.{Completed}
 use Rattle.complete.specs.declared.Completed.the-variants.{Written, Refused}
 
--- "Complete and unify return the count of result bytes"; a refusal has its number and its place. [4.13, 11.1]
+-- "Complete and unify return the count of result bytes"; a refusal has its number and its place.
 unfoldable pub completed-told : Completed → Reading ℕ
 completed-told (Written count) = ok count
 completed-told (Refused number place) = refused number place
@@ -19,7 +19,7 @@ unfoldable pub counted : Reading (List ℕ) → Reading ℕ
 counted (ok bytes) = ok (length bytes)
 counted (refused number place) = refused number place
 
--- "a promise of complete about the bytes it takes and leaves": the written result delivers [14.11]
+-- "a promise of complete about the bytes it takes and leaves": the written result delivers
 unfoldable pub Delivery : List ℕ → List ℕ → Completed → Type 0
 Delivery problem result (Written count) = Delivers problem (take count result)
 Delivery problem result (Refused number place) = Unit {0}

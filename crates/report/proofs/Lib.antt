@@ -4,4 +4,3 @@ pub mod Forms
 pub mod Lowness
 pub mod Whole
 pub mod Meaning
-pub mod Stated

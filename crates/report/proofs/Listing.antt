@@ -1,58 +1,65 @@
--- Fields 12, one behind the other: what is still to put is the fields of the slots to come. Assumes nothing.
--- Read first: specs/Fields (slot-fields), fields/specs/Puts (PutsSome), fields/proofs/Putting.
+-- Fields of one kind, one behind the other: what is still to put is the fields of the places to come. Assumes nothing.
+-- Read first: specs/Fields (slot-fields, logged-fields), fields/specs/Puts (PutsSome), fields/proofs/Putting.
 use mathlib.Core.Path.{_≡_, refl, sym, ap, ap₂, _∙_}
-use mathlib.Core.List.{List, [], _++_, flatMap}
+use mathlib.Core.List.{List, [], _∷_, _++_, flatMap}
 use Prim.Native.Nat.{ℕ, zero, suc, _+_, _-_, _*_, _≤_, _<_}
 use native.Mathlib.Omega.{arith}
-use native.Mathlib.Nat.{sub-zero}
+use native.Mathlib.Nat.{sub-zero, mul-le-mul-left, mul-add, mul-one}
 use lib.ListN.{length, length-append}
-use Rattle.terms.specs.Base.{field-bytes}
-use Rattle.store.specs.Slots.{patched}
-use Rattle.fields.specs.Puts.{PutsSome}
-use Rattle.report.specs.Fields.{slot-field, slot-fields}
+use Rattle.terms.specs.Base.{Field, field-bytes}
+use Rattle.fields.specs.Puts.{patched, PutsSome}
 use Rattle.fields.proofs.Appending.{patched-none, patched-behind}
 use Rattle.fields.proofs.Putting.{puts-length}
+use Rattle.report.specs.Fields.{slot-field, slot-fields, logged-field, logged-fields}
 
-module _ (rules lens numbers : List ℕ) where
-  pub fields-bytes : ℕ → ℕ → List ℕ
-  fields-bytes i n = flatMap field-bytes (slot-fields rules lens numbers i n)
+-- n fields from a place on, one for each place
+pub record Series (field : ℕ → Field) (fields : ℕ → ℕ → List Field) : Type 0 where
+  pub none : (k : ℕ) → fields k zero ≡ []
+  pub one : (k n : ℕ) → fields k (suc n) ≡ field k ∷ fields (suc k) n
 
-  none-left : (i : ℕ) → fields-bytes i zero ≡ []
-  unfolding fields-bytes slot-fields flatMap
-  none-left i = refl
+pub slots-series : (slots : List ℕ) → Series (slot-field slots) (slot-fields slots)
+unfolding slot-fields
+slots-series slots = record { none = λ k. refl; one = λ k n. refl }
 
-  one-less : (i n : ℕ) → fields-bytes i (suc n) ≡ field-bytes (slot-field rules lens numbers i) ++ fields-bytes (suc i) n
-  unfolding fields-bytes slot-fields flatMap
-  one-less i n = refl
+pub log-series : (log : List ℕ) → Series (logged-field log) (logged-fields log)
+unfolding logged-fields
+log-series log = record { none = λ k. refl; one = λ k n. refl }
 
-  next-field : (i count : ℕ) → i < count → fields-bytes i (count - i) ≡ field-bytes (slot-field rules lens numbers i) ++ fields-bytes (i + 1) (count - (i + 1))
+-- i fields were put, a is the place behind them, and the others are still to put
+pub record Listing (fields : ℕ → ℕ → List Field) (width : ℕ) (out₀ : List ℕ) (at count : ℕ) (out : List ℕ) (i a : ℕ) : Type 0 where
+  pub within : i ≤ count
+  pub same : length out ≡ length out₀
+  pub room : a ≤ at + width * i
+  pub to-do : patched a (flatMap field-bytes (fields i (count - i))) out ≡ patched at (flatMap field-bytes (fields 0 count)) out₀
+  pub total : a + length (flatMap field-bytes (fields i (count - i))) ≡ at + length (flatMap field-bytes (fields 0 count))
+
+module _ {field : ℕ → Field} {fields : ℕ → ℕ → List Field} (S : Series field fields) (width : ℕ) where
+  abbrev bytes : ℕ → ℕ → List ℕ
+  bytes i n = flatMap field-bytes (fields i n)
+
+  next-field : (i count : ℕ) → i < count → bytes i (count - i) ≡ field-bytes (field i) ++ bytes (i + 1) (count - (i + 1))
+  unfolding flatMap
   next-field i count h =
       let a : count - i ≡ suc (count - (i + 1)) = omega arith in
       let b : suc i ≡ i + 1 = omega arith in
-      ap (fields-bytes i) a ∙ one-less i (count - (i + 1)) ∙ ap (λ (k : ℕ). field-bytes (slot-field rules lens numbers i) ++ fields-bytes k (count - (i + 1))) b
+      ap (bytes i) a ∙ ap (flatMap field-bytes) (S .one i (count - (i + 1))) ∙ ap (λ (k : ℕ). field-bytes (field i) ++ bytes k (count - (i + 1))) b
 
-  -- i fields were put, a is the place behind them, and the others are still to put
-  pub record Listing (out₀ : List ℕ) (at count : ℕ) (out : List ℕ) (i a : ℕ) : Type 0 where
-    pub within : i ≤ count
-    pub same : length out ≡ length out₀
-    pub room : a ≤ at + 245 * i
-    pub to-do : patched a (fields-bytes i (count - i)) out ≡ patched at (fields-bytes 0 count) out₀
-    pub total : a + length (fields-bytes i (count - i)) ≡ at + length (fields-bytes 0 count)
-
-  pub listing-start : (out : List ℕ) (at count : ℕ) → Listing out at count out 0 at
+  pub listing-start : (out : List ℕ) (at count : ℕ) → Listing fields width out at count out 0 at
   listing-start out at count =
       record { within = omega arith; same = refl; room = omega arith; to-do = rw (sub-zero count) refl; total = rw (sub-zero count) refl }
 
-  module _ (out₀ : List ℕ) (at count : ℕ) (room : at + 245 * count ≤ length out₀) (out : List ℕ) (i a : ℕ) (h : Listing out₀ at count out i a) where
-    pub listing-more : (out′ : List ℕ) (r : ℕ) → i < count → PutsSome 245 out a 1 (field-bytes (slot-field rules lens numbers i)) out′ r → Listing out₀ at count out′ (i + 1) r
+  module _ (out₀ : List ℕ) (at count : ℕ) (room : at + width * count ≤ length out₀) (out : List ℕ) (i a : ℕ) (h : Listing fields width out₀ at count out i a) where
+    pub listing-more : (out′ : List ℕ) (r : ℕ) → i < count → PutsSome width out a 1 (field-bytes (field i)) out′ r → Listing fields width out₀ at count out′ (i + 1) r
     listing-more out′ r l p =
-        let x : List ℕ = field-bytes (slot-field rules lens numbers i) in
-        let rest : List ℕ = fields-bytes (i + 1) (count - (i + 1)) in
-        let e : fields-bytes i (count - i) ≡ x ++ rest = next-field i count l in
+        let x : List ℕ = field-bytes (field i) in
+        let rest : List ℕ = bytes (i + 1) (count - (i + 1)) in
+        let e : bytes i (count - i) ≡ x ++ rest = next-field i count l in
         let n : r ≡ a + length x = p .puts .next in
-        let few : r ≤ a + 245 * 1 = p .room in
+        let few : r ≤ a + width * 1 = p .room in
         let s : length out ≡ length out₀ = h .same in
-        let w : a ≤ at + 245 * i = h .room in
+        let w : a ≤ at + width * i = h .room in
+        let here : width * (i + 1) ≤ width * count = mul-le-mul-left width (let j : i + 1 ≤ count = omega arith in j) in
+        let more : width * (i + 1) ≡ width * i + width = mul-add width i 1 ∙ ap (λ (z : ℕ). width * i + z) (mul-one width) in
         let t = h .total in
         record {
           within = omega arith;
@@ -62,14 +69,15 @@ module _ (rules lens numbers : List ℕ) where
           total = omega (arith, ap length e ∙ length-append x rest);
         }
 
-    pub listing-end : count ≤ i → PutsSome 245 out₀ at count (flatMap field-bytes (slot-fields rules lens numbers 0 count)) out a
-    unfolding fields-bytes
+    pub listing-end : count ≤ i → PutsSome width out₀ at count (bytes 0 count) out a
+    unfolding flatMap
     listing-end l =
         let k : i ≤ count = h .within in
-        let z : fields-bytes i (count - i) ≡ [] = ap (fields-bytes i) (let e : count - i ≡ 0 = omega arith in e) ∙ none-left i in
-        let w : a ≤ at + 245 * i = h .room in
+        let z : bytes i (count - i) ≡ [] = ap (bytes i) (let e : count - i ≡ 0 = omega arith in e) ∙ ap (flatMap field-bytes) (S .none i) in
+        let w : a ≤ at + width * i = h .room in
+        let j : i ≡ count = omega arith in
         let t = h .total in
         record {
           puts = record { bytes = sym (patched-none a out) ∙ ap (λ b. patched a b out) (sym z) ∙ h .to-do; counted = refl; next = omega (arith, ap length z) };
-          room = omega arith;
+          room = rw (sym j) w;
         }

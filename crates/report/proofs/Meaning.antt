@@ -1,97 +1,154 @@
--- The fields written from slots, numbers, log and forms are the result fields of the run that these stand for. Assumes nothing.
--- Read first: specs/Report (StateIn, EndIn), completion/specs/Calls (result-bytes), proofs/Lowness.
+-- The fields written from slots, log and forms are the result fields of the run that these stand for. Assumes nothing.
+-- Read first: run/specs/Runs (RanIs), state/specs/Run (Represents), completion/specs/Calls (result-bytes), proofs/Lowness, proofs/Whole.
 use mathlib.Core.Path.{_≡_, refl, sym, ap, ap₂, subst, _∙_}
 use mathlib.Core.Bool.{true}
 use mathlib.Core.List.{List, [], _∷_, _++_, map, flatMap, append-assoc, append-nil}
 use Prim.Native.Nat.{ℕ, suc, _+_, _*_}
 use native.Mathlib.Omega.{arith}
-use lib.ListN.{length, getD, take, drop}
-use lib.Seq.{getD-drop, drop-drop}
+use lib.ListN.{length, take, drop, length-append, take-append-drop}
+use lib.Seq.{take-at, take-take, drop-at, drop-drop}
+use Rattle.limits.specs.Limits.{most-apart, origin-width}
 use Rattle.terms.specs.Base.{if_then_else_, number-bytes, Field, field-bytes}
 use Rattle.terms.specs.Term.{Pair, renamed}
-use Rattle.rewriting.specs.Overlap.{Rule, sides-of}
+use Rattle.terms.proofs.Lists.{take-drop, flatMap-append}
+use Rattle.terms.proofs.Limits.{length-number-bytes}
+use Rattle.rewriting.specs.Overlap.{Rule}
 use Rattle.rewriting.specs.Rewrite.{End, complete, neither-above, spent, too-large, rules-full, log-full, end-number}
-use Rattle.redex.specs.Stored.{Sides, RuleAt, Stored}
+use Rattle.rewriting.specs.Ends.{ending, number-of as end-of}
+use Rattle.rewriting.proofs.Holds.{number-of-ending}
+use Rattle.slots.specs.Slots.{slot, mark-of, number-of, left-of, right-of, Sides, PairAt, MarkedAt, Holds}
+use Rattle.slots.proofs.Listing.{all-first, all-rest}
 use Rattle.naming.specs.Names.{renamed-bytes}
 use Rattle.naming.proofs.Renaming.{Low}
 use Rattle.naming.proofs.Pairs.{wf-low, renamed-pair}
-use Rattle.completion.specs.Turn.{Finished}
-use Rattle.completion.specs.Calls.{pair-bytes, rule-field, entry-field, forms-field, result-fields, result-bytes, Writes}
+use Rattle.completion.specs.Turn.{Origin, waiting-input, removed-rule, scanned-input, overlapping, Candidate, Entry, Finished}
+use Rattle.completion.specs.Calls.{pair-bytes, rule-field, origin-bytes, entry-field, forms-field, result-fields, result-bytes, Writes}
 use Rattle.fields.specs.Puts.{tagged}
-use Rattle.report.specs.Fields.{slot-bytes, slot-field, slot-fields, low, forms-bytes, all-bytes}
-use Rattle.terms.proofs.Lists.{flatMap-append, flatMap-map}
+use Rattle.inputs.specs.Inputs.{marked}
+use Rattle.state.specs.Run.{logged-width, logged, as-removed, held}
+use Rattle.run.specs.declared.Ran.{Ran}
+use Rattle.run.specs.Runs.{RanIs}
+use Rattle.report.specs.Fields.{slot-field, slot-fields, logged-field, logged-fields, low, forms-bytes, forms-if}
 use Rattle.report.proofs.Lowness.{term-low}
-use Rattle.report.specs.Report.{StateIn, EndIn}
+use Rattle.report.proofs.Whole.{all-bytes}
 
 -- Fields 12.
-first-of : (n x : ℕ) (xs l : List ℕ) → take (suc n) l ≡ x ∷ xs → (getD l 0 0 ≡ x) × (take n (drop 1 l) ≡ xs)
-first-of n x xs [] e = absurd (let z : 0 ≡ suc (length xs) = ap length e in omega arith)
-first-of n x xs (y ∷ l) e = (cc, cc)
+mark-number : (s : List ℕ) → number-of s ≡ take 2 (drop 1 (mark-of s))
+unfolding number-of mark-of
+mark-number s = sym (ap (take 2) (sym (take-drop 1 5 s)) ∙ take-take 2 5 (drop 1 s) (omega arith))
 
-module _ (tab rules lens numbers : List ℕ) where
-  one-field : (k : ℕ) (r : Rule) → RuleAt tab rules lens k (r .sides) → getD numbers k 0 ≡ r .number → slot-field rules lens numbers k ≡ rule-field r
-  unfolding slot-field slot-bytes rule-field pair-bytes
-  one-field k r h n = ap₂ (λ c d. tagged 0x12 (number-bytes 2 c ++ d)) n (ap₂ _++_ (h .left-bytes) (h .right-bytes))
+-- the number of a rule's mark is the rule's
+rule-number : (s : List ℕ) (n : ℕ) → mark-of s ≡ origin-bytes (removed-rule n) → number-of s ≡ number-bytes 2 n
+unfolding origin-bytes
+rule-number s n e =
+    mark-number s ∙ ap (λ l. take 2 (drop 1 l)) e ∙ ap (take 2) (append-assoc (number-bytes 2 n) (number-bytes 2 0) (number-bytes 1 0))
+    ∙ take-at (number-bytes 2 n) (number-bytes 2 0 ++ number-bytes 1 0) 2 (length-number-bytes 2 n)
 
-  slots-are : (k : ℕ) (rs : List Rule) → Stored tab rules lens k (sides-of rs) → take (length rs) (drop k numbers) ≡ map (λ (r : Rule). r .number) rs →
-      slot-fields rules lens numbers k (length rs) ≡ map rule-field rs
-  unfolding slot-fields Stored
-  slots-are k [] h n = refl
-  slots-are k (r ∷ rs) h n =
-      let m = first-of (length rs) (r .number) (map (λ (r : Rule). r .number) rs) (drop k numbers) n in
-      let z : k + 0 ≡ k = omega arith in
-      let s : k + 1 ≡ suc k = omega arith in
-      let a : getD numbers k 0 ≡ r .number = ap (λ (i : ℕ). getD numbers i 0) (sym z) ∙ sym (getD-drop k numbers 0 0) ∙ m .0 in
-      let b : take (length rs) (drop (suc k) numbers) ≡ map (λ (r : Rule). r .number) rs = ap (λ (i : ℕ). take (length rs) (drop i numbers)) (sym s) ∙ ap (take (length rs)) (sym (drop-drop 1 k numbers)) ∙ m .1 in
-      ap₂ _∷_ (one-field k r (h .0) a) (slots-are (suc k) rs (h .1) b)
+module _ (tab slots : List ℕ) where
+  one-field : (k : ℕ) (r : Rule) → MarkedAt tab slots k (marked (as-removed r)) → slot-field slots k ≡ rule-field r
+  unfolding slot-field rule-field pair-bytes as-removed
+  one-field k r h =
+      let s = h .pair .sides in
+      ap (tagged 0x12) (ap₂ _++_ (rule-number (slot slots k) (r .number) (h .mark)) (ap₂ _++_ (s .left-bytes) (s .right-bytes)))
+
+  rules-are : (k : ℕ) (rs : List Rule) (ws : List Candidate) → Holds tab slots k (map marked (held rs ws)) → slot-fields slots k (length rs) ≡ map rule-field rs
+  unfolding slot-fields
+  rules-are k [] ws h = refl
+  rules-are k (r ∷ rs) ws h =
+      ap₂ _∷_ (one-field k r (all-first (MarkedAt tab slots) k _ _ h)) (rules-are (suc k) rs ws (all-rest (MarkedAt tab slots) k _ _ h))
+
+-- Fields 13.
+length-origin : (o : Origin) → length (origin-bytes o) ≡ origin-width
+unfolding origin-bytes number-bytes
+length-origin (waiting-input n) = refl
+length-origin (removed-rule n) = refl
+length-origin (scanned-input n) = refl
+length-origin (overlapping inner outer p) = refl
+
+length-logged : (e : Entry) → length (logged e) ≡ logged-width
+unfolding logged
+length-logged e =
+    length-append (origin-bytes (e .origin)) (number-bytes 2 (e .made)) ∙ omega (arith, length-origin (e .origin), length-number-bytes 2 (e .made))
+
+module _ (log : List ℕ) where
+  one-entry : (k : ℕ) (e : Entry) → take logged-width (drop (logged-width * k) log) ≡ logged e → logged-field log k ≡ entry-field e
+  unfolding logged-field entry-field logged
+  one-entry k e h = ap (tagged 0x13) h
+
+  entries-are : (k : ℕ) (es : List Entry) (rest : List ℕ) → drop (logged-width * k) log ≡ flatMap logged es ++ rest → logged-fields log k (length es) ≡ map entry-field es
+  unfolding logged-fields flatMap
+  entries-are k [] rest h = refl
+  entries-are k (e ∷ es) rest h =
+      let q : drop (logged-width * k) log ≡ logged e ++ (flatMap logged es ++ rest) = h ∙ append-assoc (logged e) (flatMap logged es) rest in
+      let here : take logged-width (drop (logged-width * k) log) ≡ logged e = ap (take logged-width) q ∙ take-at (logged e) (flatMap logged es ++ rest) logged-width (length-logged e) in
+      let next : logged-width * suc k ≡ logged-width * k + logged-width = omega arith in
+      let behind : drop (logged-width * suc k) log ≡ flatMap logged es ++ rest =
+      ap (λ (n : ℕ). drop n log) next ∙ sym (drop-drop logged-width (logged-width * k) log) ∙ ap (drop logged-width) q
+      ∙ drop-at (logged e) (flatMap logged es ++ rest) logged-width (length-logged e) in
+      ap₂ _∷_ (one-entry k e here) (entries-are (suc k) es rest behind)
 
 -- Field 14.
 pair-renamed : (e : Pair) → Low (e .left) → Low (e .right) → renamed-bytes (pair-bytes e) ≡ pair-bytes (renamed e)
 unfolding pair-bytes
 pair-renamed e l r = renamed-pair e l r
 
-pair-is : (tab left right : List ℕ) (e : Pair) → Sides 32 tab left right e → left ++ right ≡ pair-bytes e
+pair-is : (tab left right : List ℕ) (e : Pair) → Sides most-apart tab left right e → left ++ right ≡ pair-bytes e
 unfolding pair-bytes
 pair-is tab left right e k = ap₂ _++_ (k .left-bytes) (k .right-bytes)
 
-forms-are : (tab left right : List ℕ) (end : ℕ) (x : End) → end ≡ end-number x → ((e : Pair) → x ≡ neither-above e → Sides 32 tab left right e) →
-    forms-bytes end left right ≡ flatMap field-bytes (forms-field x)
-unfolding forms-bytes forms-field end-number flatMap if_then_else_
-forms-are tab left right end complete h f = rw h refl
-forms-are tab left right end (neither-above e) h f =
-    let k : Sides 32 tab left right e = f e refl in
-    let p : left ++ right ≡ pair-bytes e = pair-is tab left right e k in
+forms-are : (tab one : List ℕ) (x : End) → ((e : Pair) → x ≡ neither-above e → PairAt most-apart tab one 0 e) →
+    forms-if (ending x) one ≡ flatMap field-bytes (forms-field x)
+unfolding forms-if ending forms-bytes forms-field flatMap if_then_else_
+forms-are tab one complete f = refl
+forms-are tab one (neither-above e) f =
+    let left : List ℕ = left-of (slot one 0) in
+    let right : List ℕ = right-of (slot one 0) in
+    let k : Sides most-apart tab left right e = f e refl .sides in
     let x : low left ≡ true = term-low tab (e .left) (k .left-wf) left (k .left-bytes) in
     let y : low right ≡ true = term-low tab (e .right) (k .right-wf) right (k .right-bytes) in
-    rw (h, x, y) (ap (λ c. field-bytes (tagged 0x14 c)) (ap renamed-bytes p ∙ pair-renamed e (wf-low 32 tab (e .left) (k .left-wf)) (wf-low 32 tab (e .right) (k .right-wf))) ∙ sym (append-nil (field-bytes (tagged 0x14 (pair-bytes (renamed e))))))
-forms-are tab left right end spent h f = rw h refl
-forms-are tab left right end too-large h f = rw h refl
-forms-are tab left right end rules-full h f = rw h refl
-forms-are tab left right end log-full h f = rw h refl
+    let p : renamed-bytes (left ++ right) ≡ pair-bytes (renamed e) =
+    ap renamed-bytes (pair-is tab left right e k) ∙ pair-renamed e (wf-low most-apart tab (e .left) (k .left-wf)) (wf-low most-apart tab (e .right) (k .right-wf)) in
+    rw (x, y) (ap (λ c. field-bytes (tagged 0x14 c)) p ∙ sym (append-nil (field-bytes (tagged 0x14 (pair-bytes (renamed e))))))
+forms-are tab one spent f = refl
+forms-are tab one too-large f = refl
+forms-are tab one rules-full f = refl
+forms-are tab one log-full f = refl
 
-module _ (tab rules lens numbers : List ℕ) (count : ℕ) (log : List ℕ) (entries end units : ℕ) (left right : List ℕ) (f : Finished)
-    (kept : StateIn tab rules lens numbers count log entries (f .state)) (ended : EndIn tab end units left right f) where
-  fields-are : slot-fields rules lens numbers 0 count ≡ map rule-field (f .state .rules)
-  fields-are =
-      let c : count ≡ length (f .state .rules) = kept .counted in
-      ap (slot-fields rules lens numbers 0) c
-      ∙ slots-are tab rules lens numbers 0 (f .state .rules) (kept .stored) (ap (λ (n : ℕ). take n numbers) (sym c) ∙ kept .numbered)
+behind-units : (R L F : List Field) → flatMap field-bytes (R ++ L ++ F) ≡ flatMap field-bytes R ++ (flatMap field-bytes L ++ flatMap field-bytes F)
+behind-units R L F =
+    flatMap-append field-bytes (R ++ L) F ∙ ap (λ l. l ++ flatMap field-bytes F) (flatMap-append field-bytes R L)
+    ∙ append-assoc (flatMap field-bytes R) (flatMap field-bytes L) (flatMap field-bytes F)
 
-  behind : (R L F : List Field) → flatMap field-bytes (R ++ L ++ F) ≡ flatMap field-bytes R ++ (flatMap field-bytes L ++ flatMap field-bytes F)
-  behind R L F =
-      flatMap-append field-bytes (R ++ L) F ∙ ap (λ l. l ++ flatMap field-bytes F) (flatMap-append field-bytes R L)
-      ∙ append-assoc (flatMap field-bytes R) (flatMap field-bytes L) (flatMap field-bytes F)
+module _ (tab : List ℕ) (f : Finished) (o : Ran) (h : RanIs tab f o) where
+  end-is : end-of (o .end) ≡ end-number (f .end)
+  end-is = ap end-of (h .end) ∙ number-of-ending (f .end)
 
-  bytes-are : all-bytes end units (slot-fields rules lens numbers 0 count) (take (11 * entries) log) (forms-bytes end left right) ≡ result-bytes f
+  rules-put : slot-fields (o .state .pairs .bytes) 0 (o .state .live) ≡ map rule-field (f .state .rules)
+  rules-put =
+      ap (slot-fields (o .state .pairs .bytes) 0) (h .state .live)
+      ∙ rules-are tab (o .state .pairs .bytes) 0 (f .state .rules) (f .state .waiting) (h .state .pairs .holds)
+
+  log-put : logged-fields (o .state .log .bytes) 0 (o .state .log .count) ≡ map entry-field (f .state .log)
+  log-put =
+      let log : List ℕ = o .state .log .bytes in
+      let n : ℕ = logged-width * o .state .log .count in
+      let q : log ≡ flatMap logged (f .state .log) ++ drop n log = sym (take-append-drop n log) ∙ ap (λ l. l ++ drop n log) (h .state .log .bytes) in
+      ap (logged-fields log 0) (h .state .log .counted) ∙ entries-are log 0 (f .state .log) (drop n log) q
+
+  forms-put : forms-if (o .end) (o .pair) ≡ flatMap field-bytes (forms-field (f .end))
+  forms-put = ap (λ e. forms-if e (o .pair)) (h .end) ∙ forms-are tab (o .pair) (f .end) (h .forms)
+
+  abbrev put : ℕ → List ℕ
+  put n =
+      all-bytes n (o .paid) (slot-fields (o .state .pairs .bytes) 0 (o .state .live)) (logged-fields (o .state .log .bytes) 0 (o .state .log .count))
+      (forms-if (o .end) (o .pair))
+
+  bytes-are : put (end-of (o .end)) ≡ result-bytes f
   unfolding all-bytes result-bytes result-fields flatMap
   bytes-are =
-      let a : flatMap field-bytes (slot-fields rules lens numbers 0 count) ≡ flatMap field-bytes (map rule-field (f .state .rules)) = ap (flatMap field-bytes) fields-are in
-      let b : take (11 * entries) log ≡ flatMap field-bytes (map entry-field (f .state .log)) = kept .logged ∙ flatMap-map field-bytes entry-field (f .state .log) in
-      let c : forms-bytes end left right ≡ flatMap field-bytes (forms-field (f .end)) = forms-are tab left right end (f .end) (ended .end-is) (ended .forms) in
-      ap₂ (λ (e u : ℕ). field-bytes (tagged 0x10 (number-bytes 1 e)) ++ (field-bytes (tagged 0x11 (number-bytes 4 u)) ++ (flatMap field-bytes (slot-fields rules lens numbers 0 count) ++ (take (11 * entries) log ++ forms-bytes end left right)))) (ended .end-is) (ended .units-are)
-      ∙ ap (λ (l : List ℕ). field-bytes (tagged 0x10 (number-bytes 1 (end-number (f .end)))) ++ (field-bytes (tagged 0x11 (number-bytes 4 (f .units))) ++ l))
-      (ap₂ _++_ a (ap₂ _++_ b c) ∙ sym (behind (map rule-field (f .state .rules)) (map entry-field (f .state .log)) (forms-field (f .end))))
+      rw (end-is, h .paid, rules-put, log-put, forms-put)
+      (ap (λ (l : List ℕ). field-bytes (tagged 0x10 (number-bytes 1 (end-number (f .end)))) ++ (field-bytes (tagged 0x11 (number-bytes 4 (f .units))) ++ l))
+      (sym (behind-units (map rule-field (f .state .rules)) (map entry-field (f .state .log)) (forms-field (f .end)))))
 
-  pub reported : (before after : List ℕ) (r : ℕ) → Writes before (all-bytes end units (slot-fields rules lens numbers 0 count) (take (11 * entries) log) (forms-bytes end left right)) after r →
-      Writes before (result-bytes f) after r
-  reported before after r w = subst (λ ys. Writes before ys after r) bytes-are w
+  pub reported : (before after : List ℕ) (r n : ℕ) → n ≡ end-of (o .end) → Writes before (put n) after r → Writes before (result-bytes f) after r
+  reported before after r n e w = subst (λ ys. Writes before ys after r) (ap put e ∙ bytes-are) w

@@ -1,5 +1,7 @@
 -- `put_forms_if`: another end or bytes of no term put nothing; else low bytes have few names, so `put_forms` may be called. Assumes nothing.
--- Read first: specs/Fields (forms-bytes), fields/specs/Puts (PutsSome), proofs/Whole, proofs/Lowness.
+-- Read first: specs/Fields (forms-if, forms-bytes), fields/specs/Puts (PutsSome), proofs/Whole, proofs/Lowness.
+use mathlib.Core.List.{[], _∷_}
+use types.Run.{OneOf, miss}
 use Rattle.report.proofs.Whole.{forms-put, forms-none, left-high, right-high}
 use Rattle.report.proofs.Lowness.{low-names, is-low, is-high}
 use borrow.Author.Needs.{needs}
@@ -9,52 +11,79 @@ use Rattle.report.proofs.put_forms_if.Reads as reads
 use Rattle.report.proofs.put_forms_if.Lts as lts
 use Rattle.report.proofs.low.Reads as low-reads
 use Rattle.report.proofs.put_forms.Reads as put-forms-reads
+use Rattle.slots.proofs.left.Reads as left-reads
+use Rattle.slots.proofs.right.Reads as right-reads
+
+-- Places, found by their types: the only field of a type is the place itself.
+abbrev low-of-low2 : tie.After-low2 → tie.After-low
+low-of-low2 at = search depth 0
+
+abbrev entry-of-low : tie.After-low → tie.Start
+entry-of-low at = search depth 0
+
+-- the other ends
+not-neither : OneOf (0 ∷ 2 ∷ 3 ∷ 4 ∷ 5 ∷ []) 1 → ⊥
+not-neither = miss (0 ∷ 2 ∷ 3 ∷ 4 ∷ 5 ∷ []) 1 tt
 
 returns : tie.Need-returns
-returns c = forms-none _ _ _ _ _ (c .if1 .taken)
+returns c = forms-none _ _ _ _ (λ z. not-neither (rw z at (c .match .keys2)))
 
 returns-2 : tie.Need-returns-2
 returns-2 c =
-    let entry : tie.Start = search depth 0 in
-    left-high _ (entry .args .left .now) (entry .args .right .now) _ _ (c .before .before .if1 .left)
-    (is-high _ _ (c .before .low .ensures) (c .if2 .taken))
+    let at-low : tie.After-low = search depth 0 in
+    let at-right : tie.After-right = search depth 0 in
+    let at-left : tie.After-left = search depth 0 in
+    let at-enum : tie.After-enum-told = search depth 0 in
+    left-high _ _ _ _ _ _ (at-enum .enum-told .given .1) (at-left .left .ensures .0) (at-right .right .ensures .0)
+    (is-high _ _ (at-low .low .ensures) (c .if1 .taken))
 
 returns-3 : tie.Need-returns-3
 returns-3 c =
-    let at-low : tie.After-low = search depth 0 in
+    let at-low2 : tie.After-low2 = search depth 0 in
     let in-else1 : tie.Else1 = search depth 0 in
-    let entry : tie.Start = search depth 0 in
-    right-high _ (entry .args .left .now) (entry .args .right .now) _ _ (in-else1 .if1 .left)
-    (is-low _ _ (at-low .low .ensures) (c .before .before .if2 .left))
-    (is-high _ _ (c .before .low2 .ensures) (c .if3 .taken))
+    let at-low : tie.After-low = search depth 0 in
+    let at-right : tie.After-right = search depth 0 in
+    let at-left : tie.After-left = search depth 0 in
+    let at-enum : tie.After-enum-told = search depth 0 in
+    right-high _ _ _ _ _ _ (at-enum .enum-told .given .1) (at-left .left .ensures .0) (at-right .right .ensures .0)
+    (is-low _ _ (at-low .low .ensures) (in-else1 .if1 .left))
+    (is-high _ _ (at-low2 .low2 .ensures) (c .if2 .taken))
 
 put-forms-requires : tie.Need-put-forms-requires
 put-forms-requires c κs =
     let in-else2 : tie.Else2 = search depth 0 in
+    let at-low2 : tie.After-low2 = search depth 0 in
+    let in-else1 : tie.Else1 = search depth 0 in
     let at-low : tie.After-low = search depth 0 in
+    let at-right : tie.After-right = search depth 0 in
+    let at-left : tie.After-left = search depth 0 in
     let entry : tie.Start = search depth 0 in (
-      entry .pre,
-      low-names (entry .args .left .now) (entry .args .right .now) (is-low _ _ (at-low .low .ensures) (in-else2 .if2 .left))
-          (is-low _ _ (c .before .before .low2 .ensures) (c .before .if3 .left)),
+      (entry .pre .0, at-left .left .ensures .1, at-right .right .ensures .1),
+      low-names _ _ (is-low _ _ (at-low .low .ensures) (in-else1 .if1 .left))
+          (is-low _ _ (at-low2 .low2 .ensures) (in-else2 .if2 .left)),
     )
 
 returns-4 : tie.Need-returns-4
 returns-4 c =
-    let in-else3 : tie.Else3 = search depth 0 in
-    let at-low2 : tie.After-low2 = search depth 0 in
     let in-else2 : tie.Else2 = search depth 0 in
-    let at-low : tie.After-low = search depth 0 in
+    let at-low2 : tie.After-low2 = search depth 0 in
     let in-else1 : tie.Else1 = search depth 0 in
-    let entry : tie.Start = search depth 0 in
-    forms-put _ (entry .args .left .now) (entry .args .right .now) _ _ _ _ (entry .pre .1) (entry .pre .2)
-    (in-else1 .if1 .left) (is-low _ _ (at-low .low .ensures) (in-else2 .if2 .left))
-    (is-low _ _ (at-low2 .low2 .ensures) (in-else3 .if3 .left)) (c .before .before .put-forms .ensures)
+    let at-low : tie.After-low = low-of-low2 at-low2 in
+    let at-right : tie.After-right = search depth 0 in
+    let at-left : tie.After-left = search depth 0 in
+    let at-enum : tie.After-enum-told = search depth 0 in
+    forms-put _ _ _ _ _ _ (at-enum .enum-told .given .1) (at-left .left .ensures .0) (at-right .right .ensures .0) _ _
+    (at-left .left .ensures .1) (at-right .right .ensures .1) (is-low _ _ (at-low .low .ensures) (in-else1 .if1 .left))
+    (is-low _ _ (at-low2 .low2 .ensures) (in-else2 .if2 .left)) (c .before .before .put-forms .ensures)
 
 pub put-forms-if-spec : {M : Type 1} → statement M
 put-forms-if-spec =
     tie.close
     (tie.spec
+    (λ c. search needs)
     returns
+    (λ c κs. search needs)
+    (λ c κs. search needs)
     (λ c κs. search needs)
     returns-2
     (λ c κs. search needs)

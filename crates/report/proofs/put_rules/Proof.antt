@@ -1,8 +1,10 @@
 -- `put_rules`: the invariant is that the fields of the slots from i on, put at a, give the whole list; count - i falls. Assumes nothing.
 -- Read first: specs/Fields (slot-fields), fields/specs/Puts (PutsSome), proofs/Listing (Listing).
 use Prim.Native.Nat.{_-_}
-use Rattle.redex.proofs.Choosing.{layout-below}
-use Rattle.report.proofs.Listing.{Listing, listing-start, listing-more, listing-end}
+use Rattle.limits.specs.Limits.{rule-width}
+use Rattle.slots.proofs.Layouts.{layout-less}
+use Rattle.report.specs.Fields.{slot-fields}
+use Rattle.report.proofs.Listing.{slots-series, Listing, listing-start, listing-more, listing-end}
 use borrow.Author.Needs.{needs}
 use Rattle.report.proofs.put_rules.Statement.{statement}
 use Rattle.report.proofs.put_rules.Tie as tie
@@ -11,25 +13,25 @@ use Rattle.report.proofs.put_rules.Lts as lts
 use Rattle.report.proofs.put_rule.Reads as put-rule-reads
 
 abbrev Inv-loop : tie.InvT-loop
-Inv-loop out₀ at rules lens numbers count i₀ a₀ out i a = Listing rules lens numbers out₀ at count out i a
+Inv-loop out₀ at rules count i₀ a₀ out i a = Listing (slot-fields rules) rule-width out₀ at count out i a
 
 abbrev μ-loop : tie.MeasureT-loop
-μ-loop out₀ at rules lens numbers count i₀ a₀ out i a = count - i
+μ-loop out₀ at rules count i₀ a₀ out i a = count - i
 
 loop-holds : tie.Need-loop-holds Inv-loop μ-loop
-loop-holds c = listing-start _ _ _ _ _ _
+loop-holds c = listing-start (slots-series _) _ _ _ _
 
 put-rule-requires : tie.Need-put-rule-requires Inv-loop μ-loop
 put-rule-requires c κs =
     let entry : tie.Start Inv-loop μ-loop = search depth 0 in
-    (search needs, (layout-below _ _ _ _ _ (entry .pre .1 .0) (search needs), search needs))
+    (search needs, layout-less (search needs) (entry .pre .1))
 
 loop-again : tie.Need-loop-again Inv-loop μ-loop
 loop-again c =
     let in-loop : tie.In-loop Inv-loop μ-loop = search depth 0 in
     let at-loop : tie.At-loop Inv-loop μ-loop = search depth 0 in
     let entry : tie.Start Inv-loop μ-loop = search depth 0 in
-    listing-more _ _ _ _ _ _ (entry .pre .0) _ _ _ (at-loop .loop .inv) _ _ (in-loop .loop-test .taken)
+    listing-more (slots-series _) _ _ _ _ (entry .pre .0) _ _ _ (at-loop .loop .inv) _ _ (in-loop .loop-test .taken)
     (c .before .before .put-rule .ensures)
 
 same-length : tie.Need-same-length Inv-loop μ-loop
@@ -38,7 +40,7 @@ same-length c = c .before .loop .inv .same
 returns : tie.Need-returns Inv-loop μ-loop
 returns c =
     let entry : tie.Start Inv-loop μ-loop = search depth 0 in
-    listing-end _ _ _ _ _ _ (entry .pre .0) _ _ _ (c .before .loop .inv) (c .loop-test .left)
+    listing-end (slots-series _) _ _ _ _ (entry .pre .0) _ _ _ (c .before .loop .inv) (c .loop-test .left)
 
 pub put-rules-spec : {M : Type 1} → statement M
 put-rules-spec =

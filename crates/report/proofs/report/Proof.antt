@@ -1,6 +1,10 @@
 -- `report`: the five parts fit the 13,726 bytes and stand one behind the other (`wrote-all`); they are the run's result (`reported`). Assumes
 -- nothing.
 -- Read first: specs/Report (Reports), proofs/Whole, proofs/Meaning.
+use mathlib.Core.Path.{_≡_}
+use lib.ListN.{length}
+use Rattle.slots.specs.Slots.{slot-width}
+use Rattle.slots.proofs.Layouts.{layout-less}
 use Rattle.report.proofs.Whole.{wrote-all}
 use Rattle.report.proofs.Meaning.{reported}
 use borrow.Author.Needs.{needs}
@@ -8,36 +12,74 @@ use Rattle.report.proofs.report.Statement.{statement}
 use Rattle.report.proofs.report.Tie as tie
 use Rattle.report.proofs.report.Reads as reads
 use Rattle.report.proofs.report.Lts as lts
-use Rattle.report.proofs.put_forms_if.Reads as put-forms-if-reads
 use Rattle.fields.proofs.put_number_field.Reads as put-number-field-reads
-use Rattle.fields.proofs.put_part.Reads as put-part-reads
+use Rattle.report.proofs.put_forms_if.Reads as put-forms-if-reads
+use Rattle.report.proofs.put_log.Reads as put-log-reads
 use Rattle.report.proofs.put_rules.Reads as put-rules-reads
+use Rattle.rewriting.proofs.number.Reads as number-reads
 
 -- Places, found by their types: the only field of a type is the place itself.
-abbrev entry-of-put-number-field : tie.After-put-number-field → tie.Start
-entry-of-put-number-field at = search depth 0
+abbrev number-of-first : tie.After-put-number-field → tie.After-number
+number-of-first at = search depth 0
+
+abbrev entry-of-number : tie.After-number → tie.Start
+entry-of-number at = search depth 0
+
+abbrev first-of-second : tie.After-put-number-field2 → tie.After-put-number-field
+first-of-second at = search depth 0
+
+abbrev entry-of-second : tie.After-put-number-field2 → tie.Start
+entry-of-second at = entry-of-number (number-of-first (first-of-second at))
+
+abbrev second-of-rules : tie.After-put-rules → tie.After-put-number-field2
+second-of-rules at = search depth 0
+
+abbrev rules-of-log : tie.After-put-log → tie.After-put-rules
+rules-of-log at = search depth 0
+
+put-rules-requires : tie.Need-put-rules-requires
+put-rules-requires c κs =
+    let entry = entry-of-second (search depth 0) in
+    let fine = entry .pre .1 .0 in
+    (search needs, layout-less (fine .within) (fine .layout))
+
+pair-whole : (at : tie.Start) → length (at .args .t1 .pair) ≡ slot-width
+pair-whole at = search needs
+
+slice-aggregate-put-forms-if : tie.Need-slice-aggregate-put-forms-if
+slice-aggregate-put-forms-if c =
+    let at-log : tie.After-put-log = search depth 0 in
+    let n = pair-whole (entry-of-second (second-of-rules (rules-of-log at-log))) in
+    search needs
 
 returns : tie.Need-returns
 returns c =
-    let at-put-part : tie.After-put-part = search depth 0 in
-    let at-put-rules : tie.After-put-rules = search depth 0 in
-    let at-put-number-field2 : tie.After-put-number-field2 = search depth 0 in
-    let at-put-number-field : tie.After-put-number-field = search depth 0 in
-    let entry = entry-of-put-number-field at-put-number-field in
-    λ tab f kept ended. reported _ _ _ _ _ _ _ _ _ _ _ _ kept ended _ _ _
-    (wrote-all _ _ _ _ _ _ _ _ _ _ _ _ _ _ _ _ _ _ (entry .pre .0) (entry .pre .1 .live) (entry .pre .1 .log-few)
-    (at-put-number-field .put-number-field .ensures) (at-put-number-field2 .put-number-field2 .ensures)
-    (at-put-rules .put-rules .ensures) (at-put-part .put-part .ensures) (c .before .before .put-forms-if .ensures))
+    let at-forms : tie.After-put-forms-if = search depth 0 in
+    let at-log : tie.After-put-log = search depth 0 in
+    let at-rules = rules-of-log at-log in
+    let at-second = second-of-rules at-rules in
+    let at-first = first-of-second at-second in
+    let at-number = number-of-first at-first in
+    let entry = entry-of-number at-number in
+    let fine = entry .pre .1 .0 in
+    record {
+      writes = λ tab f is.
+          reported tab f (entry .args .t1) is _ _ _ _ (at-number .number .ensures)
+          (wrote-all _ _ _ _ _ _ _ _ _ _ _ _ _ _ _ _ _ _ (entry .pre .0) (fine .live-few) (fine .log-few) (at-first .put-number-field .ensures)
+          (at-second .put-number-field2 .ensures) (at-rules .put-rules .ensures) (at-log .put-log .ensures) (at-forms .put-forms-if .ensures));
+    }
 
 pub report-spec : {M : Type 1} → statement M
 report-spec =
     tie.close
     (tie.spec
     (λ c κs. search needs)
-    (λ c κs. search needs)
-    (λ c κs. search needs)
     (λ c. search needs)
     (λ c κs. search needs)
+    (λ c κs. search needs)
+    put-rules-requires
+    (λ c κs. search needs)
+    slice-aggregate-put-forms-if
     (λ c κs. search needs)
     (λ c. search needs)
     returns)
