@@ -28,7 +28,8 @@ abbrev pub left-over : List ℕ → List ℕ → ℕ → ℕ → ℕ
 left-over l ds i again = 1202 * weight l ds + 601 * again + (600 - i)
 
 -- a pass begins
-closing-pass : (l tab ends cs ds : List ℕ) → Ready l tab ends ds → Grown (arena l tab ends) (at cs) (at ds) → length ds ≡ length cs → Closing l tab ends cs ds 0 0
+closing-pass : (l tab ends cs ds : List ℕ) → Ready l tab ends ds → Grown (arena l tab ends) (at cs) (at ds) → length ds ≡ length cs →
+    Closing l tab ends cs ds 0 0
 closing-pass l tab ends cs ds y g e = record { ready = y; grown = g; long = e; within = omega arith; once = omega arith; closed = λ z j h. absurd (omega arith) }
 
 pub closing-start : (l tab ends cs : List ℕ) → Ready l tab ends cs → Closing l tab ends cs cs 0 0

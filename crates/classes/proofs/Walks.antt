@@ -40,7 +40,8 @@ first-spells A p n (cons t ts, more r s) = (t, r)
 pub some-within : (A : Arena) (p n N : ℕ) → SpellsSome A p n → 0 < n → A .nodes ≤ N → p < N
 some-within A p n N s h l = omega (arith, first-within A p n s h)
 
-pub walk-turn : (A : Arena) (c : ℕ → ℕ) (a b k p q n p′ q′ : ℕ) → Walk A c a b k p q n → 0 < n → c p ≡ c q → p′ ≡ A .end p → q′ ≡ A .end q → Walk A c a b k p′ q′ (n - 1)
+pub walk-turn : (A : Arena) (c : ℕ → ℕ) (a b k p q n p′ q′ : ℕ) → Walk A c a b k p q n → 0 < n → c p ≡ c q → p′ ≡ A .end p → q′ ≡ A .end q →
+    Walk A c a b k p′ q′ (n - 1)
 unfolding Agree subst-terms
 walk-turn A c a b k p q zero p′ q′ w h e ep eq = absurd (omega arith)
 walk-turn A c a b k p q (suc n) p′ q′ w h e ep eq =
@@ -105,10 +106,12 @@ root-closed A c i r e q h = subst (λ z. (A .byte z ≡ A .byte i) × Agree A c 
 pub ready-within : (l tab ends cs : List ℕ) → Ready l tab ends cs → (i r : ℕ) → i < length l → r ≡ at cs i → r < length l
 ready-within l tab ends cs y i r h e = subst (λ z. z < length l) (sym e) (y .within i h)
 
-pub ready-clash : (l tab ends cs : List ℕ) → Ready l tab ends cs → (i r : ℕ) → i < length l → r ≡ at cs i → at l i < 128 → (at l r ≡ at l i → ⊥) → Clashes (arena l tab ends) (at cs)
+pub ready-clash : (l tab ends cs : List ℕ) → Ready l tab ends cs → (i r : ℕ) → i < length l → r ≡ at cs i → at l i < 128 → (at l r ≡ at l i → ⊥) →
+    Clashes (arena l tab ends) (at cs)
 ready-clash l tab ends cs y i r h e k n = (i, h, k, λ q. n (ap (at l) e ∙ q))
 
-pub ready-arguments : (l tab ends cs : List ℕ) → Ready l tab ends cs → (i r k : ℕ) → i < length l → r ≡ at cs i → at l i < 128 → at l r ≡ at l i → k ≡ owes tab (at l i) →
+pub ready-arguments : (l tab ends cs : List ℕ) → Ready l tab ends cs → (i r k : ℕ) → i < length l → r ≡ at cs i → at l i < 128 → at l r ≡ at l i →
+    k ≡ owes tab (at l i) →
     Ready l tab ends cs × (SpellsSome (arena l tab ends) (i + 1) k × SpellsSome (arena l tab ends) (r + 1) k)
 ready-arguments l tab ends cs y i r k h e f b q = (
   y,
@@ -118,7 +121,8 @@ ready-arguments l tab ends cs y i r k h e f b q = (
   ),
 )
 
-pub ready-step : (l tab ends cs : List ℕ) → Ready l tab ends cs → (i r k : ℕ) → i < length l → r ≡ at cs i → at l i < 128 → at l r ≡ at l i → k ≡ owes tab (at l i) →
+pub ready-step : (l tab ends cs : List ℕ) → Ready l tab ends cs → (i r k : ℕ) → i < length l → r ≡ at cs i → at l i < 128 → at l r ≡ at l i →
+    k ≡ owes tab (at l i) →
     (s : Step) → Apart (arena l tab ends) (at cs) (i + 1) (r + 1) k s → StepIs (arena l tab ends) (at cs) i s
 ready-step l tab ends cs y i r k h e f b q s g = step-apart (arena l tab ends) (at cs) i r (at l i) k s h (ready-within l tab ends cs y i r h e) e refl f b q g
 

@@ -96,7 +96,8 @@ pub piece-byte : (T B : List ℕ) (b k : ℕ) → k ≡ slot-of B b → k ≡ 0 
 unfolding piece piece-at
 piece-byte T B b k e z = rw (sym e ∙ z)
 
-pub piece-run : (T B : List ℕ) (b k c x n : ℕ) → k ≡ slot-of B b → (k ≡ 0 → ⊥) → c ≡ getD T (k - 1) 0 → x ≡ first-cell (k - 1) c → n ≡ c / 256 → x ∷ take (k + (n - 1) - k) (drop k T) ≡ piece T B b
+pub piece-run : (T B : List ℕ) (b k c x n : ℕ) → k ≡ slot-of B b → (k ≡ 0 → ⊥) → c ≡ getD T (k - 1) 0 → x ≡ first-cell (k - 1) c → n ≡ c / 256 →
+    x ∷ take (k + (n - 1) - k) (drop k T) ≡ piece T B b
 unfolding piece
 piece-run T B b k c x n s z p q r = rw (← s) (go k z p q)
   where
@@ -112,7 +113,8 @@ piece-run T B b k c x n s z p q r = rw (← s) (go k z p q)
 pub put-over-cell : (out out′ : List ℕ) (w most r c : ℕ) (p : List ℕ) → Put out out′ w most r (c ∷ []) → most < r → Put out out′ w most r (c ∷ p)
 put-over-cell out out′ w most r c p h l = record { same = h .same; next = λ m. absurd (omega arith); cells = λ m. absurd (omega arith); over = λ m. (let o = h .over l in omega arith) }
 
-pub put-two : (out out′ out″ : List ℕ) (w most v r c : ℕ) (p : List ℕ) → Put out out′ w most v (c ∷ []) → v ≤ most → Put out′ out″ v most r p → Put out out″ w most r (c ∷ p)
+pub put-two : (out out′ out″ : List ℕ) (w most v r c : ℕ) (p : List ℕ) → Put out out′ w most v (c ∷ []) → v ≤ most → Put out′ out″ v most r p →
+    Put out out″ w most r (c ∷ p)
 put-two out out′ out″ w most v r c p h l k =
     let e : v ≡ w + 1 = h .next l in
     record {
@@ -163,7 +165,8 @@ module _ (T B right out₀ out : List ℕ) (most i w : ℕ) (f : PutSoFar T B ri
           over = λ z. omega (arith, p .over l, length-append (pieces T B right) d, n);
         }
 
-  pub fill-done : length right ≤ i → (end : ℕ) (out′ : List ℕ) (r : ℕ) → Put out out′ w most r (take (length T - end) (drop end T)) → Put out₀ out′ 0 most r (pieces T B right ++ drop end T)
+  pub fill-done : length right ≤ i → (end : ℕ) (out′ : List ℕ) (r : ℕ) → Put out out′ w most r (take (length T - end) (drop end T)) →
+      Put out₀ out′ 0 most r (pieces T B right ++ drop end T)
   unfolding pieces
   fill-done h end out′ r p =
       let d : take (length T - end) (drop end T) ≡ drop end T = from-drop T end in

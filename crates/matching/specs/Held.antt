@@ -53,7 +53,8 @@ pub record Advanced (T : List ℕ) (b j : ℕ) (B : List ℕ) (r : ℕ) (B′ : 
   pub place : r ≤ length T
   pub differs : b < first-variable → r ≡ 0 → getD T j 0 % cell-base ≡ b → ⊥
   pub symbol : b < first-variable → (r ≡ 0 → ⊥) → (getD T j 0 % cell-base ≡ b) × (r ≡ j + 1) × (B′ ≡ B)
-  pub variable : (x : ℕ) → b ≡ first-variable + x → x < most-variables → (tab : List ℕ) (n : ℕ) (u : Term) → Stands tab T n j u → (bs : List Binding) → Rep tab T n B bs → BoundTo tab T n j u r B′ (bind-to x u bs (bound bs x))
+  pub variable : (x : ℕ) → b ≡ first-variable + x → x < most-variables → (tab : List ℕ) (n : ℕ) (u : Term) → Stands tab T n j u → (bs : List Binding) →
+      Rep tab T n B bs → BoundTo tab T n j u r B′ (bind-to x u bs (bound bs x))
 
 -- what `matches` answers: true exactly where `matching` answers bindings, and the places are those
 abbrev pub MatchingIs : List ℕ → List ℕ → ℕ → Bool → List ℕ → Option (List Binding) → Type 0
@@ -63,4 +64,5 @@ MatchingIs tab T n r B (some bs) = (r ≡ true) × Rep tab T n B bs
 pub record Matched (left T B : List ℕ) (r : Bool) (B′ : List ℕ) : Type 0 where
   pub same : length B′ ≡ length B
   pub within : Within T B′
-  pub answer : (tab : List ℕ) (l x : Term) → Wf most-variables tab l → left ≡ term-bytes l → Stands tab T (size x) 0 x → MatchingIs tab T (size x) r B′ (matching l x [])
+  pub answer : (tab : List ℕ) (l x : Term) → Wf most-variables tab l → left ≡ term-bytes l → Stands tab T (size x) 0 x →
+      MatchingIs tab T (size x) r B′ (matching l x [])

@@ -39,7 +39,8 @@ without-none : (x : ℕ) → without x [] ≡ []
 unfolding without
 without-none x = refl
 
-comm-step : (x y z : ℕ) (l : List ℕ) → Dec (x ≡ z) → Dec (y ≡ z) → without x (without y l) ≡ without y (without x l) → without x (without y (z ∷ l)) ≡ without y (without x (z ∷ l))
+comm-step : (x y z : ℕ) (l : List ℕ) → Dec (x ≡ z) → Dec (y ≡ z) → without x (without y l) ≡ without y (without x l) →
+    without x (without y (z ∷ l)) ≡ without y (without x (z ∷ l))
 comm-step x y z l (yes p) (yes q) h = ap (without x) (without-yes y z l q) ∙ h ∙ sym (ap (without y) (without-yes x z l p))
 comm-step x y z l (yes p) (no q) h = ap (without x) (without-no y z l q) ∙ without-yes x z (without y l) p ∙ h ∙ sym (ap (without y) (without-yes x z l p))
 comm-step x y z l (no p) (yes q) h = ap (without x) (without-yes y z l q) ∙ h ∙ sym (ap (without y) (without-no x z l p) ∙ without-yes y z (without x l) q)
@@ -145,7 +146,8 @@ unfolding added if_then_else_
 added-new b ns h k = rw (le-ltb b 128 h, le-ltb (place-in b ns) (length ns) k) refl
 
 -- what is collected is the list of first occurrences
-collect-step : (ns : List ℕ) (b : ℕ) (l : List ℕ) → ((ms : List ℕ) → collect ms l ≡ ms ++ withouts ms (distinct (variable-bytes l))) → Dec (b < 128) → Dec (place-in b ns < length ns) →
+collect-step : (ns : List ℕ) (b : ℕ) (l : List ℕ) → ((ms : List ℕ) → collect ms l ≡ ms ++ withouts ms (distinct (variable-bytes l))) → Dec (b < 128) →
+    Dec (place-in b ns < length ns) →
     collect (added b ns) l ≡ ns ++ withouts ns (distinct (variable-bytes (b ∷ l)))
 collect-step ns b l f (yes h) d = ap (λ ms. collect ms l) (added-symbol b ns h) ∙ f ns ∙ ap (λ z. ns ++ withouts ns (distinct z)) (sym (vb-symbol b l h))
 collect-step ns b l f (no h) (yes k) =

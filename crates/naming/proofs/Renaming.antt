@@ -20,7 +20,8 @@ unfolding variable-bytes
 vb-append [] k = refl
 vb-append (b ∷ l) k = go (decLt b 128) (vb-append l k)
   where
-    go : Dec (b < 128) → variable-bytes (l ++ k) ≡ variable-bytes l ++ variable-bytes k → variable-bytes (b ∷ (l ++ k)) ≡ variable-bytes (b ∷ l) ++ variable-bytes k
+    go : Dec (b < 128) → variable-bytes (l ++ k) ≡ variable-bytes l ++ variable-bytes k →
+        variable-bytes (b ∷ (l ++ k)) ≡ variable-bytes (b ∷ l) ++ variable-bytes k
     go (yes h) e = vb-symbol b (l ++ k) h ∙ e ∙ ap (λ z. z ++ variable-bytes k) (sym (vb-symbol b l h))
     go (no h) e = let v : 128 ≤ b = omega arith in vb-variable b (l ++ k) v ∙ ap (_∷_ b) e ∙ ap (λ z. z ++ variable-bytes k) (sym (vb-variable b l v))
 

@@ -26,8 +26,10 @@ LaidOut l tab = (ts : Terms) × Laid l tab ts
 -- b and the bytes of `have` terms are those of r terms, or can begin none
 pub record Formed (tab : List ℕ) (b have r : ℕ) : Type 0 where
   pub most : r ≤ have + 1
-  pub more : (r ≡ 0 → ⊥) → (ts : Terms) → Wfs most-apart tab ts → count ts ≡ have → (us : Terms) × Wfs most-apart tab us × (count us ≡ r) × (b ∷ terms-bytes ts ≡ terms-bytes us)
-  pub none : r ≡ 0 → (ts : Terms) → Wfs most-apart tab ts → count ts ≡ have → (u : Term) (rest : List ℕ) → Wf most-apart tab u → b ∷ terms-bytes ts ≡ term-bytes u ++ rest → ⊥
+  pub more : (r ≡ 0 → ⊥) → (ts : Terms) → Wfs most-apart tab ts → count ts ≡ have →
+      (us : Terms) × Wfs most-apart tab us × (count us ≡ r) × (b ∷ terms-bytes ts ≡ terms-bytes us)
+  pub none : r ≡ 0 → (ts : Terms) → Wfs most-apart tab ts → count ts ≡ have → (u : Term) (rest : List ℕ) → Wf most-apart tab u →
+      b ∷ terms-bytes ts ≡ term-bytes u ++ rest → ⊥
 
 -- whether the bytes are those of terms with variables below `most-apart`
 pub record IsTerms (l tab : List ℕ) (r : Bool) : Type 0 where
@@ -55,7 +57,8 @@ pub record FirstClass (l : List ℕ) (i r : ℕ) : Type 0 where
 pub record Firsts (l firsts : List ℕ) (i : ℕ) : Type 0 where
   pub long : length firsts ≡ byte-values
   pub none : (b : ℕ) → first-variable ≤ b → b < byte-values → at firsts b ≡ 0 → (j : ℕ) → j < i → at l j ≡ b → ⊥
-  pub some : (b : ℕ) → first-variable ≤ b → (at firsts b ≡ 0 → ⊥) → (at firsts b ≤ i) × (at l (at firsts b - 1) ≡ b) × ((j : ℕ) → j + 1 < at firsts b → at l j ≡ b → ⊥)
+  pub some : (b : ℕ) → first-variable ≤ b → (at firsts b ≡ 0 → ⊥) →
+      (at firsts b ≤ i) × (at l (at firsts b - 1) ≡ b) × ((j : ℕ) → j + 1 < at firsts b → at l j ≡ b → ⊥)
 
 -- the classes when the terms at nodes n₁ and n₂ have been joined
 pub record Joined (l tab : List ℕ) (n₁ n₂ : ℕ) (ends cs : List ℕ) : Type 0 where
