@@ -80,7 +80,8 @@ module _ (tab s t : List ℕ) (i j : ℕ) (σ τ : ℕ → Term) (h : i < length
   unfolding terms-bytes term-bytes subst-terms subst-term Wfs Wf
   same-go nil ys rest w v p q e d = absurd (cons≢nil p)
   same-go (cons x xs) nil rest w v p q e d = absurd (nil≢cons (sym e))
-  same-go (cons (var x) xs) (cons (var y) ys) rest w v p q e d = record { xs = xs; ys = ys; rest = rest; wfx = w .1; wfy = v .1; inner = cc; outer = cc; one = cons-tail e }
+  same-go (cons (var x) xs) (cons (var y) ys) rest w v p q e d =
+      record { xs = xs; ys = ys; rest = rest; wfx = w .1; wfy = v .1; inner = cc; outer = cc; one = cons-tail e }
   same-go (cons (var x) xs) (cons (node g qs) ys) rest w v p q e d =
       let a : getD s i 0 ≡ 128 + x = cc in
       let b : getD t j 0 ≡ g = cc in
@@ -117,8 +118,12 @@ module _ (tab s t : List ℕ) (i j : ℕ) (σ τ : ℕ → Term) (h : i < length
         rest = rest;
         wfx = w .1;
         wfy = v .1;
-        inner = ap (λ z. drop (i + z) s) a ∙ sym (drop-drop (size x) i s) ∙ ap (drop (size x)) q ∙ drop-at (term-bytes x) (terms-bytes xs) (size x) (length-bytes x);
-        outer = ap (λ z. drop (j + z) t) b ∙ sym (drop-drop (size y) j t) ∙ ap (drop (size y)) r′ ∙ drop-at (term-bytes y) (terms-bytes ys ++ rest) (size y) (length-bytes y);
+        inner =
+            ap (λ z. drop (i + z) s) a ∙ sym (drop-drop (size x) i s) ∙ ap (drop (size x)) q
+            ∙ drop-at (term-bytes x) (terms-bytes xs) (size x) (length-bytes x);
+        outer =
+            ap (λ z. drop (j + z) t) b ∙ sym (drop-drop (size y) j t) ∙ ap (drop (size y)) r′
+            ∙ drop-at (term-bytes y) (terms-bytes ys ++ rest) (size y) (length-bytes y);
         one = cons-tail e;
       }
 
@@ -155,4 +160,8 @@ pub past-same : (tab t : List ℕ) (i b : ℕ) → getD t i 0 ≡ b → Past tab
 past-same tab t i b e = record { same = λ _. refl; other = λ n. absurd (n e); on = omega arith }
 
 pub past-other : (tab t : List ℕ) (i b r : ℕ) → i < length t → (getD t i 0 ≡ b → ⊥) → r ≡ i + skip tab (drop i t) 1 → Past tab t i b r
-past-other tab t i b r h n e = record { same = λ q. absurd (n q); other = λ _. e; on = omega (arith, e, end-pos tab (drop i t) (0 + skip tab (drop i t) 1) (λ z. omega (arith, length-drop i t)) refl) }
+past-other tab t i b r h n e = record {
+  same = λ q. absurd (n q);
+  other = λ _. e;
+  on = omega (arith, e, end-pos tab (drop i t) (0 + skip tab (drop i t) 1) (λ z. omega (arith, length-drop i t)) refl);
+}

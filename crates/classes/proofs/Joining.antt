@@ -69,7 +69,8 @@ at-map f (x ∷ cs) zero h = refl
 at-map f (x ∷ cs) (suc i) h = at-map f cs i (le-of-suc-le-suc h)
 
 weight-entry : (l : List ℕ) (from to b : ℕ) → key l to ≤ key l from → key l (relabelled from to b) ≤ key l b
-weight-entry l from to b k = ⊎-elim (λ h. omega (arith, ap (key l) (h .0), ap (key l) (h .1))) (λ h. omega (arith, ap (key l) (h .1))) (relabelled-cases from to b)
+weight-entry l from to b k =
+    ⊎-elim (λ h. omega (arith, ap (key l) (h .0), ap (key l) (h .1))) (λ h. omega (arith, ap (key l) (h .1))) (relabelled-cases from to b)
 
 weight-le : (l : List ℕ) (from to : ℕ) (cs : List ℕ) → key l to ≤ key l from → weight l (map (relabelled from to) cs) ≤ weight l cs
 unfolding weight

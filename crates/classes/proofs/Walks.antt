@@ -84,14 +84,16 @@ step-apart : (A : Arena) (c : ℕ → ℕ) (i r f k : ℕ) (s : Step) → i < A 
     k ≡ A .arity f → Apart A c (i + 1) (r + 1) k s → StepIs A c i s
 unfolding subst-term
 step-apart A c i r f k Done hi hr er ef l eb ek g =
-    λ q. (ap (A .byte) (sym er) ∙ eb ∙ ef, subst₂ (λ x y. Agree A c (suc i) x y) (ap suc er) (ek ∙ ap (A .arity) ef) (subst₂ (λ x y. Agree A c x y k) (add-one i) (add-one r) g))
+    let arguments = subst₂ (λ x y. Agree A c x y k) (add-one i) (add-one r) g in
+    λ q. (ap (A .byte) (sym er) ∙ eb ∙ ef, subst₂ (λ x y. Agree A c (suc i) x y) (ap suc er) (ek ∙ ap (A .arity) ef) arguments)
 step-apart A c i r f k Clash hi hr er ef l eb ek g = absurd g
 step-apart A c i r f k (Join p q) hi hr er ef l eb ek (a, b, n, j) = (a, b, n, λ τ h. j τ (all τ (subst (λ z. Joins A τ i z) (sym er) (h i))))
   where
     all : (τ : Subst) → Joins A τ i r → JoinsAll A τ (i + 1) (r + 1) k
     all τ h ts us x y =
-        node-args
-        (h (node f ts) (node f us) (made hi (sym ef) l (subst₂ (λ z w. SpellsAll A same z w ts) (add-one i) ek x)) (made hr eb l (subst₂ (λ z w. SpellsAll A same z w us) (add-one r) ek y)))
+        let here = made hi (sym ef) l (subst₂ (λ z w. SpellsAll A same z w ts) (add-one i) ek x) in
+        let root = made hr eb l (subst₂ (λ z w. SpellsAll A same z w us) (add-one r) ek y) in
+        node-args (h (node f ts) (node f us) here root)
 
 -- a node that is its own root is closed
 agree-same : (A : Arena) (c : ℕ → ℕ) (p k : ℕ) → Agree A c p p k
@@ -100,7 +102,8 @@ agree-same A c p zero = tt
 agree-same A c p (suc k) = (refl, agree-same A c (A .end p) k)
 
 pub root-closed : (A : Arena) (c : ℕ → ℕ) (i r : ℕ) → r ≡ c i → r ≡ i → ClosedAt A c i
-root-closed A c i r e q h = subst (λ z. (A .byte z ≡ A .byte i) × Agree A c (suc i) (suc z) (A .arity (A .byte i))) (sym q ∙ e) (refl, agree-same A c (suc i) (A .arity (A .byte i)))
+root-closed A c i r e q h =
+    subst (λ z. (A .byte z ≡ A .byte i) × Agree A c (suc i) (suc z) (A .arity (A .byte i))) (sym q ∙ e) (refl, agree-same A c (suc i) (A .arity (A .byte i)))
 
 -- the same, of the lists
 pub ready-within : (l tab ends cs : List ℕ) → Ready l tab ends cs → (i r : ℕ) → i < length l → r ≡ at cs i → r < length l

@@ -57,7 +57,8 @@ module _ (nodes₀ : List ℕ) (w : ℕ) (t : List ℕ) (up : ℕ) (nodes : List
             ∙ take-suc-set nodes (w + i) v (omega (arith, g .same))
             ∙ ap₂ (λ a b. a ++ (b ∷ [])) (g .bytes) e
             ∙ append-assoc (take w nodes₀) (map (moved up) (take i t)) (moved up (getD t i 0) ∷ [])
-            ∙ ap (λ z. take w nodes₀ ++ z) (sym (map-append (moved up) (take i t) (getD t i 0 ∷ [])) ∙ ap (map (moved up)) (sym (take-suc t i 0 h) ∙ ap (λ z. take z t) (sym (add-one i))));
+            ∙ ap (λ z. take w nodes₀ ++ z)
+            (sym (map-append (moved up) (take i t) (getD t i 0 ∷ [])) ∙ ap (map (moved up)) (sym (take-suc t i 0 h) ∙ ap (λ z. take z t) (sym (add-one i))));
       }
 
   pub laying-end : length t ≤ i → Lays nodes₀ w t up nodes (w + i)

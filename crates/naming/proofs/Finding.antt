@@ -39,7 +39,8 @@ pub place-hit : (l : List ℕ) (n b i : ℕ) → n ≤ length l → i < n → ((
 place-hit l n b i h k f e = (found-place l n b i h (record { within = omega arith; hits = λ q. e; first = f }), omega arith)
 
 pub place-miss : (l : List ℕ) (n b i : ℕ) → n ≤ length l → n ≤ i → ((j : ℕ) → j < i → getD l j 0 ≡ b → ⊥) → (n ≡ place-in b (take n l)) × (n ≤ n)
-place-miss l n b i h k f = (found-place l n b n h (record { within = omega arith; hits = λ q. absurd (omega arith); first = λ j q. f j (omega arith) }), omega arith)
+place-miss l n b i h k f =
+    (found-place l n b n h (record { within = omega arith; hits = λ q. absurd (omega arith); first = λ j q. f j (omega arith) }), omega arith)
 
 pub place-next : (l : List ℕ) (b i : ℕ) → ((j : ℕ) → j < i → getD l j 0 ≡ b → ⊥) → (getD l i 0 ≡ b → ⊥) → (j : ℕ) → j < i + 1 → getD l j 0 ≡ b → ⊥
 place-next l b i f n j h e = go (decLt j i)
@@ -63,7 +64,8 @@ pub add-new : (d : List ℕ) (n b k : ℕ) → n < length d → 128 ≤ b → k 
 add-new d n b k h v e q =
     record {
       long = length-set d n b;
-      names = ap (λ z. take z (set d n b)) (add-one n) ∙ take-suc-set d n b h ∙ sym (added-new b (take n d) v (omega (arith, length-take-le n d (omega arith))));
+      names =
+          ap (λ z. take z (set d n b)) (add-one n) ∙ take-suc-set d n b h ∙ sym (added-new b (take n d) v (omega (arith, length-take-le n d (omega arith))));
       few = omega arith;
     }
 

@@ -128,7 +128,8 @@ noughts-set (z ∷ zs) zero v h e n = omega (arith, nought-0 z e, nought-1 v n)
 noughts-set (z ∷ zs) (suc i) v h e n = omega (arith, noughts-set zs i v (le-of-suc-le-suc h) e n)
 
 -- a size that was found
-module _ (l tab ends cs zs : List ℕ) (y : Sized l tab ends cs zs) (i k : ℕ) (h : i < length l) (z : at zs i ≡ 0) (g : SizeAt (arena l tab ends) (at cs) (at zs) i k) (p : 0 < k)
+module _ (l tab ends cs zs : List ℕ) (y : Sized l tab ends cs zs) (i k : ℕ) (h : i < length l) (z : at zs i ≡ 0)
+    (g : SizeAt (arena l tab ends) (at cs) (at zs) i k) (p : 0 < k)
   where
     above : k ≡ 0 → ⊥
     above e = omega arith

@@ -38,7 +38,8 @@ hop-more l tab ends p q (suc n) k r f h h′ z e g =
     let b : suc n - 1 ≡ n = omega arith in
     let d : suc n ≡ 1 + n = omega arith in
     let c : skip tab (drop q l) (suc n) ≡ skip tab (drop q l) 1 + skip tab (drop r l) n =
-    ap (skip tab (drop q l)) d ∙ skip-add tab (drop q l) 1 n ∙ ap (λ z. skip tab (drop q l) 1 + skip tab z n) (drop-drop (skip tab (drop q l) 1) q l ∙ ap (λ z. drop z l) (sym a)) in
+    ap (skip tab (drop q l)) d ∙ skip-add tab (drop q l) 1 n
+    ∙ ap (λ z. skip tab (drop q l) 1 + skip tab z n) (drop-drop (skip tab (drop q l) 1) q l ∙ ap (λ z. drop z l) (sym a)) in
     let m : skip tab (drop q l) 1 ≤ length l - q = omega (arith, skip-most tab (drop q l) 1, length-drop q l) in
     (omega arith, omega arith, rw b (omega arith))
 

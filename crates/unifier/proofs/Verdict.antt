@@ -54,7 +54,9 @@ module _ (l tab : List ℕ) (n₁ n₂ : ℕ) (ends cs zs : List ℕ) (k : Solve
   module _ (s t : Term) (p : Spells (arena l tab ends) same n₁ s) (q : Spells (arena l tab ends) same n₂ t) where
     solved-mgu : Mgu s t the-mgu
     unfolding the-mgu
-    solved-mgu = solution-mgu (arena l tab ends) n₁ n₂ (at cs) (k .sized .ready .whole) (k .classes) (k .closed) (solved-spells l tab n₁ n₂ ends cs zs k) s t p q (k .started)
+    solved-mgu =
+        solution-mgu (arena l tab ends) n₁ n₂ (at cs) (k .sized .ready .whole) (k .classes) (k .closed) (solved-spells l tab n₁ n₂ ends cs zs k) s t p q
+        (k .started)
 
     some-there : (o : Option (List Binding)) → mgu s t ≡ o → true ≡ is-some o
     unfolding is-some
@@ -91,7 +93,8 @@ module _ (l tab : List ℕ) (n₁ n₂ : ℕ) (h : n₁ < length l) (h′ : n₂
       never : ClosedTo (arena l tab ends) (at cs) (at ds) false → Decided l tab n₁ n₂ false
       never n = never-decided l tab n₁ n₂ ends (g .ended) (n n₁ n₂ (g .classes))
 
-  module _ (u : ClosedTo (arena l tab ends) (at cs) (at ds) true) (zs : List ℕ) (y : Sized l tab ends ds zs) (q : Descends (arena l tab ends) (at ds) (Unknown (at zs))) where
+  module _ (u : ClosedTo (arena l tab ends) (at cs) (at ds) true) (zs : List ℕ) (y : Sized l tab ends ds zs)
+      (q : Descends (arena l tab ends) (at ds) (Unknown (at zs))) where
     begun-solved : SizesKnown (arena l tab ends) (at zs) true → Solved l tab n₁ n₂ ends ds zs
     begun-solved w =
         record {
