@@ -57,7 +57,8 @@ join-subst σ (cons t ts) us = ap (cons (subst-term σ t)) (join-subst σ ts us)
 
 module _ (tab s t : List ℕ) (i j : ℕ) (σ τ : ℕ → Term) (h : i < length s) (k : j < length t) where
   -- different symbols face each other
-  clash-go : (xs ys : Terms) (rest : List ℕ) → getD s i 0 ∷ drop (suc i) s ≡ terms-bytes xs → getD t j 0 ∷ drop (suc j) t ≡ terms-bytes ys ++ rest → subst-terms σ xs ≡ subst-terms τ ys →
+  clash-go : (xs ys : Terms) (rest : List ℕ) → getD s i 0 ∷ drop (suc i) s ≡ terms-bytes xs → getD t j 0 ∷ drop (suc j) t ≡ terms-bytes ys ++ rest →
+      subst-terms σ xs ≡ subst-terms τ ys →
       Differ (getD s i 0) (getD t j 0) true → ⊥
   unfolding terms-bytes term-bytes subst-terms subst-term
   clash-go nil ys rest p q e d = cons≢nil p
@@ -73,12 +74,14 @@ module _ (tab s t : List ℕ) (i j : ℕ) (σ τ : ℕ → Term) (h : i < length
   left-clash l d = clash-go (l .xs) (l .ys) (l .rest) (sym (drop-cons s i 0 h) ∙ l .inner) (sym (drop-cons t j 0 k) ∙ l .outer) (l .one) d
 
   -- the same byte on both sides
-  same-go : (xs ys : Terms) (rest : List ℕ) → Wfs 32 tab xs → Wfs 32 tab ys → getD s i 0 ∷ drop (suc i) s ≡ terms-bytes xs → getD t j 0 ∷ drop (suc j) t ≡ terms-bytes ys ++ rest →
+  same-go : (xs ys : Terms) (rest : List ℕ) → Wfs 32 tab xs → Wfs 32 tab ys → getD s i 0 ∷ drop (suc i) s ≡ terms-bytes xs →
+      getD t j 0 ∷ drop (suc j) t ≡ terms-bytes ys ++ rest →
       subst-terms σ xs ≡ subst-terms τ ys → getD s i 0 ≡ getD t j 0 → Left tab s t (suc i) (suc j) σ τ
   unfolding terms-bytes term-bytes subst-terms subst-term Wfs Wf
   same-go nil ys rest w v p q e d = absurd (cons≢nil p)
   same-go (cons x xs) nil rest w v p q e d = absurd (nil≢cons (sym e))
-  same-go (cons (var x) xs) (cons (var y) ys) rest w v p q e d = record { xs = xs; ys = ys; rest = rest; wfx = w .1; wfy = v .1; inner = cc; outer = cc; one = cons-tail e }
+  same-go (cons (var x) xs) (cons (var y) ys) rest w v p q e d =
+      record { xs = xs; ys = ys; rest = rest; wfx = w .1; wfy = v .1; inner = cc; outer = cc; one = cons-tail e }
   same-go (cons (var x) xs) (cons (node g qs) ys) rest w v p q e d =
       let a : getD s i 0 ≡ 128 + x = cc in
       let b : getD t j 0 ≡ g = cc in
@@ -99,7 +102,8 @@ module _ (tab s t : List ℕ) (i j : ℕ) (σ τ : ℕ → Term) (h : i < length
   }
 
   -- the subterms on both sides are skipped
-  other-go : (xs ys : Terms) (rest : List ℕ) → Wfs 32 tab xs → Wfs 32 tab ys → getD s i 0 ∷ drop (suc i) s ≡ terms-bytes xs → drop i s ≡ terms-bytes xs → drop j t ≡ terms-bytes ys ++ rest →
+  other-go : (xs ys : Terms) (rest : List ℕ) → Wfs 32 tab xs → Wfs 32 tab ys → getD s i 0 ∷ drop (suc i) s ≡ terms-bytes xs → drop i s ≡ terms-bytes xs →
+      drop j t ≡ terms-bytes ys ++ rest →
       subst-terms σ xs ≡ subst-terms τ ys → Left tab s t (i + skip tab (drop i s) 1) (j + skip tab (drop j t) 1) σ τ
   unfolding terms-bytes subst-terms Wfs
   other-go nil ys rest w v p q r e = absurd (cons≢nil p)
@@ -114,8 +118,12 @@ module _ (tab s t : List ℕ) (i j : ℕ) (σ τ : ℕ → Term) (h : i < length
         rest = rest;
         wfx = w .1;
         wfy = v .1;
-        inner = ap (λ z. drop (i + z) s) a ∙ sym (drop-drop (size x) i s) ∙ ap (drop (size x)) q ∙ drop-at (term-bytes x) (terms-bytes xs) (size x) (length-bytes x);
-        outer = ap (λ z. drop (j + z) t) b ∙ sym (drop-drop (size y) j t) ∙ ap (drop (size y)) r′ ∙ drop-at (term-bytes y) (terms-bytes ys ++ rest) (size y) (length-bytes y);
+        inner =
+            ap (λ z. drop (i + z) s) a ∙ sym (drop-drop (size x) i s) ∙ ap (drop (size x)) q
+            ∙ drop-at (term-bytes x) (terms-bytes xs) (size x) (length-bytes x);
+        outer =
+            ap (λ z. drop (j + z) t) b ∙ sym (drop-drop (size y) j t) ∙ ap (drop (size y)) r′
+            ∙ drop-at (term-bytes y) (terms-bytes ys ++ rest) (size y) (length-bytes y);
         one = cons-tail e;
       }
 
@@ -135,10 +143,12 @@ module _ (tab s t : List ℕ) (i j : ℕ) (σ τ : ℕ → Term) (h : i < length
     left-next : Left tab s t i j σ τ → Left tab s t m n σ τ
     left-next = left-by (eqb (getD s i 0) (getD t j 0)) (eqb-says (getD s i 0) (getD t j 0))
 
-pub going-next : (tab s t : List ℕ) (p i j m n : ℕ) → Going tab s t p i j → i < length s → j < length t → Past tab s i (getD t j 0) m → Past tab t j (getD s i 0) n → Going tab s t p m n
+pub going-next : (tab s t : List ℕ) (p i j m n : ℕ) → Going tab s t p i j → i < length s → j < length t → Past tab s i (getD t j 0) m →
+    Past tab t j (getD s i 0) n → Going tab s t p m n
 going-next tab s t p i j m n o h k g f = record { goes = λ x y σ τ w e u q. left-next tab s t i j σ τ h k m n g f (o .goes x y σ τ w e u q) }
 
-pub going-clash : (tab s t : List ℕ) (p i j : ℕ) (d : Bool) → Going tab s t p i j → i < length s → j < length t → Differ (getD s i 0) (getD t j 0) d → d ≡ true → Clashing tab s t p true
+pub going-clash : (tab s t : List ℕ) (p i j : ℕ) (d : Bool) → Going tab s t p i j → i < length s → j < length t → Differ (getD s i 0) (getD t j 0) d →
+    d ≡ true → Clashing tab s t p true
 going-clash tab s t p i j d o h k g e = record {
   never = λ z x y w f u σ τ q. left-clash tab s t i j σ τ h k (o .goes x y σ τ w f u q) (subst (λ v. Differ (getD s i 0) (getD t j 0) v) e g);
 }
@@ -150,4 +160,8 @@ pub past-same : (tab t : List ℕ) (i b : ℕ) → getD t i 0 ≡ b → Past tab
 past-same tab t i b e = record { same = λ _. refl; other = λ n. absurd (n e); on = omega arith }
 
 pub past-other : (tab t : List ℕ) (i b r : ℕ) → i < length t → (getD t i 0 ≡ b → ⊥) → r ≡ i + skip tab (drop i t) 1 → Past tab t i b r
-past-other tab t i b r h n e = record { same = λ q. absurd (n q); other = λ _. e; on = omega (arith, e, end-pos tab (drop i t) (0 + skip tab (drop i t) 1) (λ z. omega (arith, length-drop i t)) refl) }
+past-other tab t i b r h n e = record {
+  same = λ q. absurd (n q);
+  other = λ _. e;
+  on = omega (arith, e, end-pos tab (drop i t) (0 + skip tab (drop i t) 1) (λ z. omega (arith, length-drop i t)) refl);
+}

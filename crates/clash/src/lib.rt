@@ -1,16 +1,18 @@
 // A test before unification: whether two terms have different symbols at one place.
 ghost use Prim.Native.Nat.{_<_, _≤_};
 ghost use lib.ListN.{length};
+ghost use Rattle.limits.specs.Limits.{most-nodes};
 ghost use Rattle.clash.specs.Clashing.{Differ, Past, Clashing};
+use limits::VARIABLE;
 
 // Whether two bytes are different symbols.
 fn differ(a: u8, b: u8) -> bool
     ensures { λ r. ⌜ Differ a b r ⌝ }
 {
-    if a >= 128 {
+    if a >= VARIABLE {
         return false;
     }
-    if b >= 128 {
+    if b >= VARIABLE {
         return false;
     }
     if a == b {
@@ -21,7 +23,7 @@ fn differ(a: u8, b: u8) -> bool
 
 // The byte after i where b is the byte at i, else after the subterm at i.
 fn past(t: &[u8], table: &[u8], i: usize, b: u8) -> usize
-    requires { ⌜ (i < length (now t)) × (length (now t) ≤ 120) ⌝ }
+    requires { ⌜ (i < length (now t)) × (length (now t) ≤ most-nodes) ⌝ }
     ensures { λ r. ⌜ Past (now (table .entry)) (now (t .entry)) i b r ⌝ }
 {
     if t[i] == b {
@@ -32,7 +34,7 @@ fn past(t: &[u8], table: &[u8], i: usize, b: u8) -> usize
 
 // Whether the term s and the subterm of t at a position have different symbols at one place: a walk over both that skips what faces a variable.
 pub fn clash(s: &[u8], t: &[u8], table: &[u8], position: usize) -> bool
-    requires { ⌜ (length (now s) ≤ 120) × (length (now t) ≤ 120) ⌝ }
+    requires { ⌜ (length (now s) ≤ most-nodes) × (length (now t) ≤ most-nodes) ⌝ }
     ensures { λ r. ⌜ Clashing (now (table .entry)) (now (s .entry)) (now (t .entry)) position r ⌝ }
 {
     let mut i = 0;

@@ -9,7 +9,8 @@ use native.Mathlib.Decide.{ℕ-discrete}
 use Rattle.terms.specs.Term.{Term, var, node, Terms, cons, size, sizes, subst-term, subst-terms}
 use Rattle.terms.proofs.Shape.{node-symbol}
 use Rattle.terms.proofs.Subst.{Subst}
-use Rattle.classes.specs.Arena.{Arena, Spells, free, made, SpellsAll, none, more, same, NodesSpell, Joins, Classes, Agree, AllClosed, Never, Among, Descends}
+use Rattle.classes.specs.Arena.{Arena, Spells, free, made, SpellsAll, none, more, same, NodesSpell, Joins, Classes, Agree, AllClosed, Never, Among}
+use Rattle.classes.specs.Arena.{Descends}
 use Rattle.classes.proofs.Ranges.{below-more}
 use Rattle.unify.proofs.Correct.{Unifies, Mgu}
 

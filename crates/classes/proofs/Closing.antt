@@ -28,8 +28,10 @@ abbrev pub left-over : List ℕ → List ℕ → ℕ → ℕ → ℕ
 left-over l ds i again = 1202 * weight l ds + 601 * again + (600 - i)
 
 -- a pass begins
-closing-pass : (l tab ends cs ds : List ℕ) → Ready l tab ends ds → Grown (arena l tab ends) (at cs) (at ds) → length ds ≡ length cs → Closing l tab ends cs ds 0 0
-closing-pass l tab ends cs ds y g e = record { ready = y; grown = g; long = e; within = omega arith; once = omega arith; closed = λ z j h. absurd (omega arith) }
+closing-pass : (l tab ends cs ds : List ℕ) → Ready l tab ends ds → Grown (arena l tab ends) (at cs) (at ds) → length ds ≡ length cs →
+    Closing l tab ends cs ds 0 0
+closing-pass l tab ends cs ds y g e =
+    record { ready = y; grown = g; long = e; within = omega arith; once = omega arith; closed = λ z j h. absurd (omega arith) }
 
 pub closing-start : (l tab ends cs : List ℕ) → Ready l tab ends cs → Closing l tab ends cs cs 0 0
 closing-start l tab ends cs y = closing-pass l tab ends cs cs y (grown-start (arena l tab ends) (at cs)) refl
@@ -80,7 +82,9 @@ module _ (l tab ends cs ds : List ℕ) (i again : ℕ) (k : Closing l tab ends c
         closing-more =
             record {
               ready = join-ready l tab ends ds (k .ready) a b (linked .0) (linked .1) fs q;
-              grown = grown-more (arena l tab ends) (at cs) (at ds) (at fs) (k .grown) (join-grown l tab ends ds (k .ready) a b (linked .0) (linked .1) fs q linked);
+              grown =
+                  grown-more (arena l tab ends) (at cs) (at ds) (at fs) (k .grown)
+                  (join-grown l tab ends ds (k .ready) a b (linked .0) (linked .1) fs q linked);
               long = joined-length l tab ends ds (k .ready) a b (linked .0) (linked .1) fs q ∙ k .long;
               within = k .within;
               once = omega arith;

@@ -69,14 +69,16 @@ at-map f (x ∷ cs) zero h = refl
 at-map f (x ∷ cs) (suc i) h = at-map f cs i (le-of-suc-le-suc h)
 
 weight-entry : (l : List ℕ) (from to b : ℕ) → key l to ≤ key l from → key l (relabelled from to b) ≤ key l b
-weight-entry l from to b k = ⊎-elim (λ h. omega (arith, ap (key l) (h .0), ap (key l) (h .1))) (λ h. omega (arith, ap (key l) (h .1))) (relabelled-cases from to b)
+weight-entry l from to b k =
+    ⊎-elim (λ h. omega (arith, ap (key l) (h .0), ap (key l) (h .1))) (λ h. omega (arith, ap (key l) (h .1))) (relabelled-cases from to b)
 
 weight-le : (l : List ℕ) (from to : ℕ) (cs : List ℕ) → key l to ≤ key l from → weight l (map (relabelled from to) cs) ≤ weight l cs
 unfolding weight
 weight-le l from to [] k = omega arith
 weight-le l from to (b ∷ cs) k = omega (arith, weight-entry l from to b k, weight-le l from to cs k)
 
-weight-lt : (l : List ℕ) (from to : ℕ) (cs : List ℕ) (a : ℕ) → key l to < key l from → a < length cs → at cs a ≡ from → weight l (map (relabelled from to) cs) < weight l cs
+weight-lt : (l : List ℕ) (from to : ℕ) (cs : List ℕ) (a : ℕ) → key l to < key l from → a < length cs → at cs a ≡ from →
+    weight l (map (relabelled from to) cs) < weight l cs
 unfolding weight
 weight-lt l from to [] a k h e = absurd (omega arith)
 weight-lt l from to (b ∷ cs) zero k h e = omega (arith, ap (key l) e, ap (key l) (relabelled-yes from to b e), weight-le l from to cs (omega arith))
@@ -123,7 +125,8 @@ module _ (A : Arena) (w : NodesSpell A) (c d : ℕ → ℕ) (from to : ℕ) (e :
 joins-sym : (A : Arena) (τ : Subst) (a b : ℕ) → Joins A τ a b → Joins A τ b a
 joins-sym A τ a b h s t x y = sym (h t s y x)
 
-joins-roots : (A : Arena) → NodesSpell A → (c : ℕ → ℕ) (τ : Subst) (a b : ℕ) → a < A .nodes → b < A .nodes → ((i : ℕ) → Joins A τ i (c i)) → Joins A τ a b → Joins A τ (c a) (c b)
+joins-roots : (A : Arena) → NodesSpell A → (c : ℕ → ℕ) (τ : Subst) (a b : ℕ) → a < A .nodes → b < A .nodes → ((i : ℕ) → Joins A τ i (c i)) → Joins A τ a b →
+    Joins A τ (c a) (c b)
 joins-roots A w c τ a b ha hb h j s t x y =
     let u = w a ha in
     let v = w b hb in
@@ -192,7 +195,8 @@ module _ (l tab ends cs : List ℕ) (y : Ready l tab ends cs) (a b : ℕ) (ha : 
       (λ r. subst₂ (λ u v. Joins (arena l tab ends) τ u v) (sym (r .0)) (sym (r .1)) (joins-sym (arena l tab ends) τ (at cs a) (at cs b) k))
       (M .roots)
 
-  pub join-classes : (n₁ n₂ : ℕ) → Classes (arena l tab ends) n₁ n₂ (at cs) → ((τ : Subst) → Joins (arena l tab ends) τ n₁ n₂ → Joins (arena l tab ends) τ a b) →
+  pub join-classes : (n₁ n₂ : ℕ) → Classes (arena l tab ends) n₁ n₂ (at cs) →
+      ((τ : Subst) → Joins (arena l tab ends) τ n₁ n₂ → Joins (arena l tab ends) τ a b) →
       Classes (arena l tab ends) n₁ n₂ (at ds)
   join-classes n₁ n₂ g j =
       relabel-classes (arena l tab ends) (y .whole) (at cs) (at ds) (M .from) (M .to) merge-at n₁ n₂ g from-within to-within (to-root n₁ n₂ g)
@@ -242,13 +246,15 @@ key-first l i r e h = sym (key-symbol l i h) ∙ ap (key l) e
 pub key-second : (l : List ℕ) (i r : ℕ) → i ≡ r → 128 ≤ at l i → i + 1024 ≡ key l r
 key-second l i r e h = sym (key-variable l i h) ∙ ap (key l) e
 
-pub joined-first : (l cs ds : List ℕ) (a b : ℕ) (k q : ℕ) → k ≡ key l (at cs a) → q ≡ key l (at cs b) → k < q → ds ≡ map (relabelled (at cs b) (at cs a)) cs → ds ≡ joined l cs a b
+pub joined-first : (l cs ds : List ℕ) (a b : ℕ) (k q : ℕ) → k ≡ key l (at cs a) → q ≡ key l (at cs b) → k < q → ds ≡ map (relabelled (at cs b) (at cs a)) cs →
+    ds ≡ joined l cs a b
 unfolding joined if_then_else_
 joined-first l cs ds a b k q ek eq h e =
     let j : key l (at cs a) < key l (at cs b) = omega (arith, ek, eq) in
     rw (lt-ltb (key l (at cs a)) (key l (at cs b)) j) e
 
-pub joined-second : (l cs ds : List ℕ) (a b : ℕ) (k q : ℕ) → k ≡ key l (at cs a) → q ≡ key l (at cs b) → q ≤ k → ds ≡ map (relabelled (at cs a) (at cs b)) cs → ds ≡ joined l cs a b
+pub joined-second : (l cs ds : List ℕ) (a b : ℕ) (k q : ℕ) → k ≡ key l (at cs a) → q ≡ key l (at cs b) → q ≤ k → ds ≡ map (relabelled (at cs a) (at cs b)) cs →
+    ds ≡ joined l cs a b
 unfolding joined if_then_else_
 joined-second l cs ds a b k q ek eq h e =
     let j : key l (at cs b) ≤ key l (at cs a) = omega (arith, ek, eq) in

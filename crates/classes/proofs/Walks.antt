@@ -40,7 +40,8 @@ first-spells A p n (cons t ts, more r s) = (t, r)
 pub some-within : (A : Arena) (p n N : ℕ) → SpellsSome A p n → 0 < n → A .nodes ≤ N → p < N
 some-within A p n N s h l = omega (arith, first-within A p n s h)
 
-pub walk-turn : (A : Arena) (c : ℕ → ℕ) (a b k p q n p′ q′ : ℕ) → Walk A c a b k p q n → 0 < n → c p ≡ c q → p′ ≡ A .end p → q′ ≡ A .end q → Walk A c a b k p′ q′ (n - 1)
+pub walk-turn : (A : Arena) (c : ℕ → ℕ) (a b k p q n p′ q′ : ℕ) → Walk A c a b k p q n → 0 < n → c p ≡ c q → p′ ≡ A .end p → q′ ≡ A .end q →
+    Walk A c a b k p′ q′ (n - 1)
 unfolding Agree subst-terms
 walk-turn A c a b k p q zero p′ q′ w h e ep eq = absurd (omega arith)
 walk-turn A c a b k p q (suc n) p′ q′ w h e ep eq =
@@ -83,14 +84,16 @@ step-apart : (A : Arena) (c : ℕ → ℕ) (i r f k : ℕ) (s : Step) → i < A 
     k ≡ A .arity f → Apart A c (i + 1) (r + 1) k s → StepIs A c i s
 unfolding subst-term
 step-apart A c i r f k Done hi hr er ef l eb ek g =
-    λ q. (ap (A .byte) (sym er) ∙ eb ∙ ef, subst₂ (λ x y. Agree A c (suc i) x y) (ap suc er) (ek ∙ ap (A .arity) ef) (subst₂ (λ x y. Agree A c x y k) (add-one i) (add-one r) g))
+    let arguments = subst₂ (λ x y. Agree A c x y k) (add-one i) (add-one r) g in
+    λ q. (ap (A .byte) (sym er) ∙ eb ∙ ef, subst₂ (λ x y. Agree A c (suc i) x y) (ap suc er) (ek ∙ ap (A .arity) ef) arguments)
 step-apart A c i r f k Clash hi hr er ef l eb ek g = absurd g
 step-apart A c i r f k (Join p q) hi hr er ef l eb ek (a, b, n, j) = (a, b, n, λ τ h. j τ (all τ (subst (λ z. Joins A τ i z) (sym er) (h i))))
   where
     all : (τ : Subst) → Joins A τ i r → JoinsAll A τ (i + 1) (r + 1) k
     all τ h ts us x y =
-        node-args
-        (h (node f ts) (node f us) (made hi (sym ef) l (subst₂ (λ z w. SpellsAll A same z w ts) (add-one i) ek x)) (made hr eb l (subst₂ (λ z w. SpellsAll A same z w us) (add-one r) ek y)))
+        let here = made hi (sym ef) l (subst₂ (λ z w. SpellsAll A same z w ts) (add-one i) ek x) in
+        let root = made hr eb l (subst₂ (λ z w. SpellsAll A same z w us) (add-one r) ek y) in
+        node-args (h (node f ts) (node f us) here root)
 
 -- a node that is its own root is closed
 agree-same : (A : Arena) (c : ℕ → ℕ) (p k : ℕ) → Agree A c p p k
@@ -99,16 +102,19 @@ agree-same A c p zero = tt
 agree-same A c p (suc k) = (refl, agree-same A c (A .end p) k)
 
 pub root-closed : (A : Arena) (c : ℕ → ℕ) (i r : ℕ) → r ≡ c i → r ≡ i → ClosedAt A c i
-root-closed A c i r e q h = subst (λ z. (A .byte z ≡ A .byte i) × Agree A c (suc i) (suc z) (A .arity (A .byte i))) (sym q ∙ e) (refl, agree-same A c (suc i) (A .arity (A .byte i)))
+root-closed A c i r e q h =
+    subst (λ z. (A .byte z ≡ A .byte i) × Agree A c (suc i) (suc z) (A .arity (A .byte i))) (sym q ∙ e) (refl, agree-same A c (suc i) (A .arity (A .byte i)))
 
 -- the same, of the lists
 pub ready-within : (l tab ends cs : List ℕ) → Ready l tab ends cs → (i r : ℕ) → i < length l → r ≡ at cs i → r < length l
 ready-within l tab ends cs y i r h e = subst (λ z. z < length l) (sym e) (y .within i h)
 
-pub ready-clash : (l tab ends cs : List ℕ) → Ready l tab ends cs → (i r : ℕ) → i < length l → r ≡ at cs i → at l i < 128 → (at l r ≡ at l i → ⊥) → Clashes (arena l tab ends) (at cs)
+pub ready-clash : (l tab ends cs : List ℕ) → Ready l tab ends cs → (i r : ℕ) → i < length l → r ≡ at cs i → at l i < 128 → (at l r ≡ at l i → ⊥) →
+    Clashes (arena l tab ends) (at cs)
 ready-clash l tab ends cs y i r h e k n = (i, h, k, λ q. n (ap (at l) e ∙ q))
 
-pub ready-arguments : (l tab ends cs : List ℕ) → Ready l tab ends cs → (i r k : ℕ) → i < length l → r ≡ at cs i → at l i < 128 → at l r ≡ at l i → k ≡ owes tab (at l i) →
+pub ready-arguments : (l tab ends cs : List ℕ) → Ready l tab ends cs → (i r k : ℕ) → i < length l → r ≡ at cs i → at l i < 128 → at l r ≡ at l i →
+    k ≡ owes tab (at l i) →
     Ready l tab ends cs × (SpellsSome (arena l tab ends) (i + 1) k × SpellsSome (arena l tab ends) (r + 1) k)
 ready-arguments l tab ends cs y i r k h e f b q = (
   y,
@@ -118,7 +124,8 @@ ready-arguments l tab ends cs y i r k h e f b q = (
   ),
 )
 
-pub ready-step : (l tab ends cs : List ℕ) → Ready l tab ends cs → (i r k : ℕ) → i < length l → r ≡ at cs i → at l i < 128 → at l r ≡ at l i → k ≡ owes tab (at l i) →
+pub ready-step : (l tab ends cs : List ℕ) → Ready l tab ends cs → (i r k : ℕ) → i < length l → r ≡ at cs i → at l i < 128 → at l r ≡ at l i →
+    k ≡ owes tab (at l i) →
     (s : Step) → Apart (arena l tab ends) (at cs) (i + 1) (r + 1) k s → StepIs (arena l tab ends) (at cs) i s
 ready-step l tab ends cs y i r k h e f b q s g = step-apart (arena l tab ends) (at cs) i r (at l i) k s h (ready-within l tab ends cs y i r h e) e refl f b q g
 

@@ -4,6 +4,7 @@
 use mathlib.Core.Path.{_≡_}
 use mathlib.Core.Logic.{_⊎_}
 use Prim.Native.Nat.{ℕ, zero, suc, _+_, _<_, _≤_}
+use Rattle.limits.specs.Limits.{first-variable}
 use Rattle.terms.specs.Term.{Term, var, node, Terms, nil, cons, subst-term}
 
 pub record Arena : Type 0 where
@@ -16,8 +17,8 @@ pub record Arena : Type 0 where
 module _ (A : Arena) (c : ℕ → ℕ) where
   mutual
     pub data Spells : ℕ → Term → Type 0 where
-      free : {i x : ℕ} → i < A .nodes → A .byte (c i) ≡ 128 + x → Spells i (var x)
-      made : {i f : ℕ} {ts : Terms} → i < A .nodes → A .byte (c i) ≡ f → f < 128 → SpellsAll (suc (c i)) (A .arity f) ts → Spells i (node f ts)
+      free : {i x : ℕ} → i < A .nodes → A .byte (c i) ≡ first-variable + x → Spells i (var x)
+      made : {i f : ℕ} {ts : Terms} → i < A .nodes → A .byte (c i) ≡ f → f < first-variable → SpellsAll (suc (c i)) (A .arity f) ts → Spells i (node f ts)
 
     pub data SpellsAll : ℕ → ℕ → Terms → Type 0 where
       none : {p : ℕ} → SpellsAll p 0 nil
@@ -38,8 +39,8 @@ Joins A τ a b = (s t : Term) → Spells A same a s → Spells A same b t → su
 pub record Classes (A : Arena) (n₁ n₂ : ℕ) (c : ℕ → ℕ) : Type 0 where
   pub within : (i : ℕ) → i < A .nodes → c i < A .nodes
   pub rooted : (i : ℕ) → i < A .nodes → c (c i) ≡ c i
-  pub shared : (i j : ℕ) → i < A .nodes → j < A .nodes → 128 ≤ A .byte i → A .byte i ≡ A .byte j → c i ≡ c j
-  pub headed : (i : ℕ) → i < A .nodes → A .byte i < 128 → A .byte (c i) < 128
+  pub shared : (i j : ℕ) → i < A .nodes → j < A .nodes → first-variable ≤ A .byte i → A .byte i ≡ A .byte j → c i ≡ c j
+  pub headed : (i : ℕ) → i < A .nodes → A .byte i < first-variable → A .byte (c i) < first-variable
   pub respects : (τ : ℕ → Term) → Joins A τ n₁ n₂ → (i : ℕ) → Joins A τ i (c i)
 
 -- k arguments from p on are in the classes of those from q on
@@ -48,7 +49,7 @@ Agree A c p q zero = Unit {0}
 Agree A c p q (suc k) = (c p ≡ c q) × Agree A c (A .end p) (A .end q) k
 
 abbrev pub ClosedAt : Arena → (ℕ → ℕ) → ℕ → Type 0
-ClosedAt A c i = A .byte i < 128 → (A .byte (c i) ≡ A .byte i) × Agree A c (suc i) (suc (c i)) (A .arity (A .byte i))
+ClosedAt A c i = A .byte i < first-variable → (A .byte (c i) ≡ A .byte i) × Agree A c (suc i) (suc (c i)) (A .arity (A .byte i))
 
 abbrev pub AllClosed : Arena → (ℕ → ℕ) → Type 0
 AllClosed A c = (i : ℕ) → i < A .nodes → ClosedAt A c i
@@ -64,4 +65,4 @@ Among A U p (suc k) = U p ⊎ Among A U (A .end p) k
 
 -- each node with the property has an argument with it
 abbrev pub Descends : Arena → (ℕ → ℕ) → (ℕ → Type 0) → Type 0
-Descends A c U = (i : ℕ) → i < A .nodes → U i → (A .byte (c i) < 128) × Among A U (suc (c i)) (A .arity (A .byte (c i)))
+Descends A c U = (i : ℕ) → i < A .nodes → U i → (A .byte (c i) < first-variable) × Among A U (suc (c i)) (A .arity (A .byte (c i)))

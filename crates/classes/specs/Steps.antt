@@ -5,6 +5,7 @@ use mathlib.Core.List.{List, [], _∷_, map}
 use Prim.Native.Nat.{ℕ, _+_, _<_, _≤_}
 use lib.Dec.{eqb, ltb}
 use lib.ListN.{length, getD}
+use Rattle.limits.specs.Limits.{first-variable, arena-width}
 use Rattle.terms.specs.Base.{if_then_else_}
 use Rattle.terms.specs.Term.{Term, Terms, subst-terms}
 use Rattle.terms.specs.Scan.{owes}
@@ -27,7 +28,7 @@ ClassesWithin A c = (i : ℕ) → i < A .nodes → c i < A .nodes
 
 -- the arena and its classes, in room
 pub record Ready (l tab ends cs : List ℕ) : Type 0 where
-  pub small : length l ≤ 600
+  pub small : length l ≤ arena-width
   pub ended : length l ≤ length ends
   pub classed : length l ≤ length cs
   pub whole : NodesSpell (arena l tab ends)
@@ -46,7 +47,7 @@ Apart A c a b k Clash = ⊥
 Apart A c a b k (Join p q) = (p < A .nodes) × (q < A .nodes) × (c p ≡ c q → ⊥) × ((τ : ℕ → Term) → JoinsAll A τ a b k → Joins A τ p q)
 
 abbrev pub Clashes : Arena → (ℕ → ℕ) → Type 0
-Clashes A c = (i : ℕ) × (i < A .nodes) × (A .byte i < 128) × (A .byte (c i) ≡ A .byte i → ⊥)
+Clashes A c = (i : ℕ) × (i < A .nodes) × (A .byte i < first-variable) × (A .byte (c i) ≡ A .byte i → ⊥)
 
 -- nodes of two classes that every substitution that respects the classes makes one
 abbrev pub Linked : Arena → (ℕ → ℕ) → ℕ → ℕ → Type 0
@@ -57,9 +58,13 @@ StepIs A c i Done = ClosedAt A c i
 StepIs A c i Clash = Clashes A c
 StepIs A c i (Join p q) = Linked A c p q
 
+-- what the key of a variable's node has above its place: more than an arena has nodes
+abbrev pub behind-symbols : ℕ
+behind-symbols = 1024
+
 -- symbols come before variables, and smaller nodes before larger
 unfoldable pub key : List ℕ → ℕ → ℕ
-key l r = if ltb (at l r) 128 then r else (r + 1024)
+key l r = if ltb (at l r) first-variable then r else (r + behind-symbols)
 
 unfoldable pub relabelled : ℕ → ℕ → ℕ → ℕ
 relabelled from to b = if eqb b from then to else b

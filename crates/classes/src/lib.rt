@@ -3,7 +3,12 @@ ghost use mathlib.Core.Path.{_≡_};
 ghost use mathlib.Core.List.{map};
 ghost use Prim.Native.Nat.{_<_, _≤_};
 ghost use lib.ListN.{length};
+ghost use Rattle.limits.specs.Limits.{two-byte-values, arena-width};
 ghost use Rattle.classes.specs.Steps.{at, arena, Ready, SpellsSome, Apart, StepIs, key, relabelled, joined, ClosedTo};
+use limits::VARIABLE;
+
+// What the key of a variable's node has above its place: more than an arena has nodes.
+const BEHIND_SYMBOLS: usize = 1024;
 
 pub enum Step {
     // Nothing is to be joined here.
@@ -16,7 +21,7 @@ pub enum Step {
 
 // A node as an index.
 pub fn wide(b: u16) -> usize
-    ensures { λ r. ⌜ (r ≡ b) × (r < 65536) ⌝ }
+    ensures { λ r. ⌜ (r ≡ b) × (r < two-byte-values) ⌝ }
 {
     b as usize
 }
@@ -60,7 +65,7 @@ fn step_at(nodes: &[u8], table: &[u8], ends: &[u16], class: &[u16], i: usize) ->
         return Step::Done;
     }
     let f = nodes[i];
-    if f >= 128 {
+    if f >= VARIABLE {
         return Step::Done;
     }
     if nodes[r] != f {
@@ -72,14 +77,14 @@ fn step_at(nodes: &[u8], table: &[u8], ends: &[u16], class: &[u16], i: usize) ->
 
 // Symbols come before variables, and smaller nodes before larger.
 fn key(nodes: &[u8], r: u16) -> usize
-    requires { ⌜ (r < length (now nodes)) × (length (now nodes) ≤ 600) ⌝ }
+    requires { ⌜ (r < length (now nodes)) × (length (now nodes) ≤ arena-width) ⌝ }
     ensures { λ k. ⌜ k ≡ key (now (nodes .entry)) r ⌝ }
 {
     let i = wide(r);
-    if nodes[i] < 128 {
+    if nodes[i] < VARIABLE {
         return i;
     }
-    i + 1024
+    i + BEHIND_SYMBOLS
 }
 
 fn relabel_node(b: u16, from: u16, to: u16) -> u16
@@ -103,7 +108,7 @@ fn relabel(class: &mut [u16], from: u16, to: u16)
 
 // The classes of nodes a and b become one.
 pub fn join(nodes: &[u8], class: &mut [u16], a: usize, b: usize)
-    requires { ⌜ (a < length (now nodes)) × (b < length (now nodes)) × (length (now nodes) ≤ 600) × (length (now nodes) ≤ length (now class)) ⌝ }
+    requires { ⌜ (a < length (now nodes)) × (b < length (now nodes)) × (length (now nodes) ≤ arena-width) × (length (now nodes) ≤ length (now class)) ⌝ }
     requires { ⌜ (at (now class) a < length (now nodes)) × (at (now class) b < length (now nodes)) ⌝ }
     ensures { λ r. ⌜ now (class .exit) ≡ joined (now (nodes .entry)) (now (class .entry)) a b ⌝ }
 {

@@ -20,7 +20,8 @@ module _ (tab l₁ r₁ l₂ r₂ : List ℕ) (p e : ℕ) (q : e ≡ p + skip ta
   after = from-drop l₂ e ∙ ap (λ k. drop k l₂) q
 
   -- there is room for the last two runs, however far the variables are moved
-  module _ (n₀ n₁ n₂ n₃ n₄ : List ℕ) (a b c d u v : ℕ) (g₁ : Lays n₀ 0 l₂ 0 n₁ a) (g₂ : Lays n₁ a l₁ u n₂ b) (g₃ : Lays n₂ b (take (p - 0) (drop 0 l₂)) 0 n₃ c) (g₄ : Lays n₃ c r₁ v n₄ d)
+  module _ (n₀ n₁ n₂ n₃ n₄ : List ℕ) (a b c d u v : ℕ) (g₁ : Lays n₀ 0 l₂ 0 n₁ a) (g₂ : Lays n₁ a l₁ u n₂ b) (g₃ : Lays n₂ b (take (p - 0) (drop 0 l₂)) 0 n₃ c)
+      (g₄ : Lays n₃ c r₁ v n₄ d)
       (m₁ : length l₁ ≤ 120) (m₂ : length r₁ ≤ 120) (m₃ : length l₂ ≤ 120) (m₄ : length r₂ ≤ 120) (m₅ : 600 ≤ length n₀) where
     ends-four : d ≡ length l₂ + length l₁ + p + length r₁
     ends-four = omega (arith, g₁ .ends, g₂ .ends, g₃ .ends, g₄ .ends, ap length before, length-take-le p l₂ (omega arith))

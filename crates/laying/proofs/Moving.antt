@@ -57,7 +57,8 @@ module _ (nodes₀ : List ℕ) (w : ℕ) (t : List ℕ) (up : ℕ) (nodes : List
             ∙ take-suc-set nodes (w + i) v (omega (arith, g .same))
             ∙ ap₂ (λ a b. a ++ (b ∷ [])) (g .bytes) e
             ∙ append-assoc (take w nodes₀) (map (moved up) (take i t)) (moved up (getD t i 0) ∷ [])
-            ∙ ap (λ z. take w nodes₀ ++ z) (sym (map-append (moved up) (take i t) (getD t i 0 ∷ [])) ∙ ap (map (moved up)) (sym (take-suc t i 0 h) ∙ ap (λ z. take z t) (sym (add-one i))));
+            ∙ ap (λ z. take w nodes₀ ++ z)
+            (sym (map-append (moved up) (take i t) (getD t i 0 ∷ [])) ∙ ap (map (moved up)) (sym (take-suc t i 0 h) ∙ ap (λ z. take z t) (sym (add-one i))));
       }
 
   pub laying-end : length t ≤ i → Lays nodes₀ w t up nodes (w + i)
@@ -66,8 +67,10 @@ module _ (nodes₀ : List ℕ) (w : ℕ) (t : List ℕ) (up : ℕ) (nodes : List
       record { same = g .same; ends = omega arith; bytes = g .bytes ∙ ap (λ z. take w nodes₀ ++ map (moved up) z) (take-all i t h) }
 
 -- one more run, and one that stays as it is
-pub lays-more : (nodes : List ℕ) (w : ℕ) (t : List ℕ) (up : ℕ) (nodes′ : List ℕ) (r : ℕ) → Lays nodes w t up nodes′ r → (l : List ℕ) → take w nodes ≡ l → take r nodes′ ≡ l ++ map (moved up) t
+pub lays-more : (nodes : List ℕ) (w : ℕ) (t : List ℕ) (up : ℕ) (nodes′ : List ℕ) (r : ℕ) → Lays nodes w t up nodes′ r → (l : List ℕ) → take w nodes ≡ l →
+    take r nodes′ ≡ l ++ map (moved up) t
 lays-more nodes w t up nodes′ r g l e = g .bytes ∙ ap (λ z. z ++ map (moved up) t) e
 
-pub lays-same : (nodes : List ℕ) (w : ℕ) (t : List ℕ) (nodes′ : List ℕ) (r : ℕ) → Lays nodes w t 0 nodes′ r → (l s : List ℕ) → take w nodes ≡ l → t ≡ s → take r nodes′ ≡ l ++ s
+pub lays-same : (nodes : List ℕ) (w : ℕ) (t : List ℕ) (nodes′ : List ℕ) (r : ℕ) → Lays nodes w t 0 nodes′ r → (l s : List ℕ) → take w nodes ≡ l → t ≡ s →
+    take r nodes′ ≡ l ++ s
 lays-same nodes w t nodes′ r g l s e q = lays-more nodes w t 0 nodes′ r g l e ∙ ap (λ z. l ++ z) (map-none t ∙ q)

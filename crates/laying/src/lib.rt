@@ -2,17 +2,24 @@
 ghost use mathlib.Core.Path.{_≡_};
 ghost use Prim.Native.Nat.{_+_, _<_, _≤_};
 ghost use lib.ListN.{length};
+ghost use Rattle.limits.specs.Limits.{most-variables, most-nodes, arena-width};
 ghost use Rattle.laying.specs.Layout.{moved, Lays, LaysFour};
+
+// How far up the inner rule's variables move: behind every variable of the outer rule.
+const APART: u8 = limits::VARIABLES as u8;
+
+// From here on a byte moved up would be none: 240.
+const MOVABLE_END: u8 = (limits::BYTES - limits::VARIABLES) as u8;
 
 // A variable's byte so many variables up; a byte that cannot be moved stands for no variable of a rule.
 fn moved(b: u8, up: u8) -> u8
-    requires { ⌜ up ≤ 16 ⌝ }
+    requires { ⌜ up ≤ most-variables ⌝ }
     ensures { λ r. ⌜ r ≡ moved up b ⌝ }
 {
-    if b < 128 {
+    if b < limits::VARIABLE {
         return b;
     }
-    if b < 240 {
+    if b < MOVABLE_END {
         return b + up;
     }
     b
@@ -20,7 +27,7 @@ fn moved(b: u8, up: u8) -> u8
 
 // Bytes into the nodes at w, with their variables moved up: where they end.
 fn lay(nodes: &mut [u8], w: usize, t: &[u8], up: u8) -> usize
-    requires { ⌜ (w + length (now t) ≤ length (now nodes)) × (up ≤ 16) ⌝ }
+    requires { ⌜ (w + length (now t) ≤ length (now nodes)) × (up ≤ most-variables) ⌝ }
     ensures { λ r. ⌜ Lays (now (nodes .entry)) w (now (t .entry)) up (now (nodes .exit)) r ⌝ }
 {
     let mut i = 0;
@@ -41,15 +48,15 @@ pub fn lay_four(
     position: usize,
     nodes: &mut [u8],
 ) -> usize
-    requires { ⌜ (length (now l1) ≤ 120) × (length (now r1) ≤ 120) × (length (now l2) ≤ 120) × (length (now r2) ≤ 120) ⌝ }
-    requires { ⌜ (position < length (now l2)) × (600 ≤ length (now nodes)) ⌝ }
+    requires { ⌜ (length (now l1) ≤ most-nodes) × (length (now r1) ≤ most-nodes) × (length (now l2) ≤ most-nodes) × (length (now r2) ≤ most-nodes) ⌝ }
+    requires { ⌜ (position < length (now l2)) × (arena-width ≤ length (now nodes)) ⌝ }
     ensures { λ r. ⌜ LaysFour (now (table .entry)) (now (l1 .entry)) (now (r1 .entry)) (now (l2 .entry)) (now (r2 .entry)) position (now (nodes .entry)) (now (nodes .exit)) r ⌝ }
 {
     let e = terms::term_end(l2, table, position);
     let a = lay(nodes, 0, l2, 0);
-    let b = lay(nodes, a, l1, 16);
+    let b = lay(nodes, a, l1, APART);
     let c = lay(nodes, b, &l2[0..position], 0);
-    let d = lay(nodes, c, r1, 16);
+    let d = lay(nodes, c, r1, APART);
     let f = lay(nodes, d, &l2[e..], 0);
     lay(nodes, f, r2, 0)
 }

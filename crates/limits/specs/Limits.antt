@@ -1,9 +1,13 @@
 -- Document 01's limits, each once, and the sizes that follow from them. Assumes nothing.
-use Prim.Native.Nat.{ℕ, _+_, _*_}
+use Prim.Native.Nat.{ℕ, _+_, _*_, _-_}
 
 -- "Symbol n (0 to 15) is byte n."
 abbrev pub most-symbols : ℕ
 most-symbols = 16
+
+-- "arity 0 to 4"
+abbrev pub most-arity : ℕ
+most-arity = 4
 
 -- "Variable n (0 to 15) is byte 80 + n." "The taken pair has at most 16 different variables."
 abbrev pub most-variables : ℕ
@@ -13,6 +17,32 @@ most-variables = 16
 abbrev pub most-apart : ℕ
 most-apart = 2 * most-variables
 
+-- the values of a byte, and of two bytes: 65,536
+abbrev pub byte-values : ℕ
+byte-values = 256
+
+abbrev pub two-byte-values : ℕ
+two-byte-values = byte-values * byte-values
+
+-- the bytes of variable 0 and of variable 15: 80 and 8f, which are 128 and 143
+abbrev pub first-variable : ℕ
+first-variable = 0x80
+
+abbrev pub last-variable : ℕ
+last-variable = first-variable + (most-variables - 1)
+
+-- the byte behind those of the variables of two rules that are set apart: a0, 160
+abbrev pub variables-end : ℕ
+variables-end = first-variable + most-apart
+
+-- how many variables have a byte: 128
+abbrev pub variable-bytes : ℕ
+variable-bytes = byte-values - first-variable
+
+-- A cell is a node's byte, and so many times the size of its subterm: a byte's values.
+abbrev pub cell-base : ℕ
+cell-base = byte-values
+
 -- "side over 120 nodes", "Every term on the way is held to 120 nodes."
 abbrev pub most-nodes : ℕ
 most-nodes = 120
@@ -20,6 +50,10 @@ most-nodes = 120
 -- the nodes of a pair's two sides: 240
 abbrev pub most-pair : ℕ
 most-pair = 2 * most-nodes
+
+-- the nodes of an overlap's terms: two left sides, the left side with a right side in it, and a right side. 600
+abbrev pub arena-width : ℕ
+arena-width = 5 * most-nodes
 
 -- "tag 03, 0 to 16 times"
 abbrev pub most-equations : ℕ

@@ -3,14 +3,41 @@
 // "Symbol n (0 to 15) is byte n."
 pub const SYMBOLS: usize = 16;
 
+// The byte behind those of the symbols: 16.
+pub const SYMBOLS_END: u8 = SYMBOLS as u8;
+
+// "arity 0 to 4"
+pub const ARITY: u8 = 4;
+
 // "Variable n (0 to 15) is byte 80 + n." "The taken pair has at most 16 different variables."
 pub const VARIABLES: usize = 16;
+
+// The byte of variable 0: 80, 128.
+pub const VARIABLE: u8 = 0x80;
+
+// The same number as an index.
+pub const FIRST_VARIABLE: usize = VARIABLE as usize;
+
+// The byte of variable 15: 8f, 143.
+pub const LAST_VARIABLE: u8 = VARIABLE + (VARIABLES as u8 - 1);
+
+// The byte behind those of the variables of two rules that are set apart: a0, 160.
+pub const VARIABLES_END: u8 = VARIABLE + 2 * (VARIABLES as u8);
 
 // "side over 120 nodes", "Every term on the way is held to 120 nodes."
 pub const NODES: usize = 120;
 
 // The nodes of a pair's two sides: 240.
 pub const PAIR: usize = 2 * NODES;
+
+// The nodes of an overlap's terms: two left sides, the left side with a right side in it, and a right side. 600
+pub const ARENA: usize = 5 * NODES;
+
+// The values of a byte.
+pub const BYTES: usize = 256;
+
+// A cell is a node's byte, and so many times the size of its subterm: a byte's values.
+pub const CELL: u16 = BYTES as u16;
 
 // "tag 03, 0 to 16 times"
 pub const EQUATIONS: usize = 16;

@@ -125,7 +125,8 @@ module _ (T : List ℕ) (b j : ℕ) (B : List ℕ) (w : Within T B) (l : j < len
 
     module _ (h : x < 16) where
       -- a variable that is bound
-      bound-go : (r : ℕ) (tab : List ℕ) (n a : ℕ) (u v : Term) (bs : List Binding) → Again T a j r → Stands tab T n j u → Stands tab T n a v → Rep tab T n B bs → (c : Bool) → Says (v ≡ u) c →
+      bound-go : (r : ℕ) (tab : List ℕ) (n a : ℕ) (u v : Term) (bs : List Binding) → Again T a j r → Stands tab T n j u → Stands tab T n a v →
+          Rep tab T n B bs → (c : Bool) → Says (v ≡ u) c →
           BoundTo tab T n j u r B (if c then some bs else none)
       unfolding if_then_else_
       bound-go r tab n a u v bs g s o rep true y = (g .equal tab n u v s o y, rep)
@@ -166,13 +167,15 @@ module _ (T : List ℕ) (b j : ℕ) (B : List ℕ) (w : Within T B) (l : j < len
               go true e = rw (e, getD-set-same B x (j + 1) 0 (omega arith)) here
               go false e = rw (getD-set-other B x y (j + 1) 0 e) (w y m)
 
-          free-go : (tab : List ℕ) (m : ℕ) (u : Term) (bs : List Binding) → Stands tab T m j u → Rep tab T m B bs → (y : ℕ) → y < 16 → (c : Bool) → Says (y ≡ x) c →
+          free-go : (tab : List ℕ) (m : ℕ) (u : Term) (bs : List Binding) → Stands tab T m j u → Rep tab T m B bs → (y : ℕ) → y < 16 → (c : Bool) →
+              Says (y ≡ x) c →
               Slot tab T m (getD (set B x (j + 1)) y 0) (if c then some u else bound bs y)
           unfolding if_then_else_
           free-go tab m u bs s r y g true e = rw (e, getD-set-same B x (j + 1) 0 (omega arith), add-one j) s
           free-go tab m u bs s r y g false e = rw (getD-set-other B x y (j + 1) 0 e) (r y g)
 
-          free-bound : (tab : List ℕ) (m : ℕ) (u : Term) (bs : List Binding) → Stands tab T m j u → Rep tab T m B bs → (o : Option Term) → o ≡ none → BoundTo tab T m j u (j + n) (set B x (j + 1)) (bind-to x u bs o)
+          free-bound : (tab : List ℕ) (m : ℕ) (u : Term) (bs : List Binding) → Stands tab T m j u → Rep tab T m B bs → (o : Option Term) → o ≡ none →
+              BoundTo tab T m j u (j + n) (set B x (j + 1)) (bind-to x u bs o)
           unfolding bind-to bound
           free-bound tab m u bs s r none z = (ap (λ k. j + k) (nn ∙ stands-size tab T m j u s), λ y g. free-go tab m u bs s r y g (eqb y x) (eqb-says y x))
           free-bound tab m u bs s r (some a) z = absurd (none≢some (sym z))

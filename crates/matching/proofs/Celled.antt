@@ -61,7 +61,8 @@ mutual
 
 pub cells-unique : (tab : List ℕ) (x y : Term) (r s : List ℕ) → Wf 32 tab x → Wf 32 tab y → cells x ++ r ≡ cells y ++ s → x ≡ y
 cells-unique tab x y r s w v e =
-    let p : (z : Term) (l : List ℕ) → Wf 32 tab z → node-bytes (cells z ++ l) ≡ term-bytes z ++ node-bytes l = λ z l h. bytes-append (cells z) l ∙ ap (λ m. m ++ node-bytes l) (bytes-cells tab z h) in
+    let p : (z : Term) (l : List ℕ) → Wf 32 tab z → node-bytes (cells z ++ l) ≡ term-bytes z ++ node-bytes l =
+    λ z l h. bytes-append (cells z) l ∙ ap (λ m. m ++ node-bytes l) (bytes-cells tab z h) in
     unique 32 tab x y (node-bytes r) (node-bytes s) w v (sym (p x r w) ∙ ap node-bytes e ∙ p y s v) .0
 
 -- what stands at k
@@ -87,5 +88,6 @@ module _ (tab T : List ℕ) (n k : ℕ) (u : Term) (s : Stands tab T n k u) wher
 
   pub stands-length : k < length T → k + size u + length (s .rest) ≡ length T
   stands-length h =
-      let q : length T - k ≡ size u + length (s .rest) = sym (length-drop k T) ∙ ap length (s .text) ∙ length-append (cells u) (s .rest) ∙ ap (λ m. m + length (s .rest)) (length-cells u) in
+      let q : length T - k ≡ size u + length (s .rest) =
+      sym (length-drop k T) ∙ ap length (s .text) ∙ length-append (cells u) (s .rest) ∙ ap (λ m. m + length (s .rest)) (length-cells u) in
       omega arith

@@ -76,7 +76,10 @@ module _ (out₀ : List ℕ) (w : ℕ) (run out : List ℕ) (i : ℕ) (p : Paste
   pasted-length = let r = p .room in let f = p .few in ap length (p .text) ∙ length-paste out₀ w run i (omega arith) (p .few)
 
   pub paste-more : i < length run → Pasted out₀ w run (set out (w + i) (getD run i 0)) (i + 1)
-  paste-more h = let r = p .room in record { few = omega arith; room = r; text = ap (λ l. set l (w + i) (getD run i 0)) (p .text) ∙ rw (add-one i) (paste-suc out₀ w run i 0 (omega arith) h) }
+  paste-more h =
+      let r = p .room in
+      let t = ap (λ l. set l (w + i) (getD run i 0)) (p .text) in
+      record { few = omega arith; room = r; text = t ∙ rw (add-one i) (paste-suc out₀ w run i 0 (omega arith) h) }
 
   pub paste-done : (most n : ℕ) → n ≡ length run → n ≤ i → w + n ≤ most → Put out₀ out w most (w + n) run
   paste-done most n e h k =
@@ -96,7 +99,8 @@ pub piece-byte : (T B : List ℕ) (b k : ℕ) → k ≡ slot-of B b → k ≡ 0 
 unfolding piece piece-at
 piece-byte T B b k e z = rw (sym e ∙ z)
 
-pub piece-run : (T B : List ℕ) (b k c x n : ℕ) → k ≡ slot-of B b → (k ≡ 0 → ⊥) → c ≡ getD T (k - 1) 0 → x ≡ first-cell (k - 1) c → n ≡ c / 256 → x ∷ take (k + (n - 1) - k) (drop k T) ≡ piece T B b
+pub piece-run : (T B : List ℕ) (b k c x n : ℕ) → k ≡ slot-of B b → (k ≡ 0 → ⊥) → c ≡ getD T (k - 1) 0 → x ≡ first-cell (k - 1) c → n ≡ c / 256 →
+    x ∷ take (k + (n - 1) - k) (drop k T) ≡ piece T B b
 unfolding piece
 piece-run T B b k c x n s z p q r = rw (← s) (go k z p q)
   where
@@ -110,9 +114,11 @@ piece-run T B b k c x n s z p q r = rw (← s) (go k z p q)
 
 -- one cell, and then a run
 pub put-over-cell : (out out′ : List ℕ) (w most r c : ℕ) (p : List ℕ) → Put out out′ w most r (c ∷ []) → most < r → Put out out′ w most r (c ∷ p)
-put-over-cell out out′ w most r c p h l = record { same = h .same; next = λ m. absurd (omega arith); cells = λ m. absurd (omega arith); over = λ m. (let o = h .over l in omega arith) }
+put-over-cell out out′ w most r c p h l =
+    record { same = h .same; next = λ m. absurd (omega arith); cells = λ m. absurd (omega arith); over = λ m. (let o = h .over l in omega arith) }
 
-pub put-two : (out out′ out″ : List ℕ) (w most v r c : ℕ) (p : List ℕ) → Put out out′ w most v (c ∷ []) → v ≤ most → Put out′ out″ v most r p → Put out out″ w most r (c ∷ p)
+pub put-two : (out out′ out″ : List ℕ) (w most v r c : ℕ) (p : List ℕ) → Put out out′ w most v (c ∷ []) → v ≤ most → Put out′ out″ v most r p →
+    Put out out″ w most r (c ∷ p)
 put-two out out′ out″ w most v r c p h l k =
     let e : v ≡ w + 1 = h .next l in
     record {
@@ -146,7 +152,9 @@ module _ (T B right out₀ out : List ℕ) (most i w : ℕ) (f : PutSoFar T B ri
       in-right = omega arith;
       room = l;
       same = p .same ∙ f .same;
-      so-far = rw (p .cells l, add-one i) (append-assoc (take w out) (piece T B (getD right i 0)) (pieces T B (drop (suc i) right)) ∙ rw (← pieces-cons T B right i h) (f .so-far));
+      so-far =
+          rw (p .cells l, add-one i)
+          (append-assoc (take w out) (piece T B (getD right i 0)) (pieces T B (drop (suc i) right)) ∙ rw (← pieces-cons T B right i h) (f .so-far));
     }
 
     pub fill-over : most < r → (d : List ℕ) → Put out₀ out′ 0 most r (pieces T B right ++ d)
@@ -155,7 +163,8 @@ module _ (T B right out₀ out : List ℕ) (most i w : ℕ) (f : PutSoFar T B ri
         let b : List ℕ = pieces T B (drop (suc i) right) in
         let e : pieces T B right ≡ take w out ++ (a ++ b) = sym (f .so-far) ∙ ap (λ z. take w out ++ z) (pieces-cons T B right i h) in
         let n : length (pieces T B right) ≡ w + (length a + length b) =
-        ap length e ∙ length-append (take w out) (a ++ b) ∙ ap₂ _+_ (length-take-le w out (let q = f .room in let s = f .same in omega arith)) (length-append a b) in
+        ap length e ∙ length-append (take w out) (a ++ b)
+        ∙ ap₂ _+_ (length-take-le w out (let q = f .room in let s = f .same in omega arith)) (length-append a b) in
         record {
           same = p .same ∙ f .same;
           next = λ z. absurd (omega arith);
@@ -163,13 +172,16 @@ module _ (T B right out₀ out : List ℕ) (most i w : ℕ) (f : PutSoFar T B ri
           over = λ z. omega (arith, p .over l, length-append (pieces T B right) d, n);
         }
 
-  pub fill-done : length right ≤ i → (end : ℕ) (out′ : List ℕ) (r : ℕ) → Put out out′ w most r (take (length T - end) (drop end T)) → Put out₀ out′ 0 most r (pieces T B right ++ drop end T)
+  pub fill-done : length right ≤ i → (end : ℕ) (out′ : List ℕ) (r : ℕ) → Put out out′ w most r (take (length T - end) (drop end T)) →
+      Put out₀ out′ 0 most r (pieces T B right ++ drop end T)
   unfolding pieces
   fill-done h end out′ r p =
       let d : take (length T - end) (drop end T) ≡ drop end T = from-drop T end in
-      let e : take w out ≡ pieces T B right = sym (append-nil (take w out)) ∙ ap (λ z. take w out ++ pieces T B z) (sym (drop-of-length-le right h)) ∙ f .so-far in
+      let e : take w out ≡ pieces T B right =
+      sym (append-nil (take w out)) ∙ ap (λ z. take w out ++ pieces T B z) (sym (drop-of-length-le right h)) ∙ f .so-far in
       let lw : length (take w out) ≡ w = length-take-le w out (let q = f .room in let s = f .same in omega arith) in
-      let n : length (pieces T B right ++ drop end T) ≡ w + length (drop end T) = length-append (pieces T B right) (drop end T) ∙ ap (λ z. z + length (drop end T)) (sym (ap length e) ∙ lw) in
+      let n : length (pieces T B right ++ drop end T) ≡ w + length (drop end T) =
+      length-append (pieces T B right) (drop end T) ∙ ap (λ z. z + length (drop end T)) (sym (ap length e) ∙ lw) in
       let q : length (take (length T - end) (drop end T)) ≡ length (drop end T) = ap length d in
       record {
         same = p .same ∙ f .same;

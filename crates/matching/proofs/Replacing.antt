@@ -22,7 +22,8 @@ contracted t B T right len end e = rw e
 
 module _ (t out out′ p P : List ℕ) (most w : ℕ) (e : p ≡ P) (pt : Put out out′ 0 most w p) where
   pub replace-over : most < w → Put t t 0 most w P
-  replace-over h = record { same = refl; next = λ l. absurd (omega arith); cells = λ l. absurd (omega arith); over = λ l. subst (λ q. most < 0 + length q) e (pt .over l) }
+  replace-over h =
+      record { same = refl; next = λ l. absurd (omega arith); cells = λ l. absurd (omega arith); over = λ l. subst (λ q. most < 0 + length q) e (pt .over l) }
 
   pub replace-done : w ≤ most → (t′ : List ℕ) (r : ℕ) → Put t t′ 0 most r (take (w - 0) out′) → Put t t′ 0 most r P
   replace-done h t′ r q =

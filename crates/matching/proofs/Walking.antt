@@ -32,7 +32,8 @@ after-some : (o : Option (List Binding)) (k : List Binding → Option (List Bind
 after-some none k h = refl
 after-some (some bs) k h = h bs
 
-after-after : (o : Option (List Binding)) (j k : List Binding → Option (List Binding)) (l : List Binding → Option (List Binding)) → ((bs : List Binding) → l bs ≡ after (j bs) k) → after o l ≡ after (after o j) k
+after-after : (o : Option (List Binding)) (j k : List Binding → Option (List Binding)) (l : List Binding → Option (List Binding)) →
+    ((bs : List Binding) → l bs ≡ after (j bs) k) → after o l ≡ after (after o j) k
 after-after none j k l h = refl
 after-after (some bs) j k l h = h bs
 
@@ -56,7 +57,8 @@ unfolding join cells-all
 join-cells nil us = refl
 join-cells (cons t ts) us = ap (λ l. cells t ++ l) (join-cells ts us) ∙ sym (append-assoc (cells t) (cells-all ts) (cells-all us))
 
-matching-join : (ls xs ms ys : Terms) (bs : List Binding) → count ls ≡ count xs → matching-all (join ls ms) (join xs ys) bs ≡ after (matching-all ls xs bs) (λ q. matching-all ms ys q)
+matching-join : (ls xs ms ys : Terms) (bs : List Binding) → count ls ≡ count xs →
+    matching-all (join ls ms) (join xs ys) bs ≡ after (matching-all ls xs bs) (λ q. matching-all ms ys q)
 unfolding join matching-all count
 matching-join nil nil ms ys bs e = refl
 matching-join nil (cons x xs) ms ys bs e = absurd (omega arith)
@@ -81,7 +83,8 @@ pub record Going (tab left T : List ℕ) (n i j : ℕ) (B : List ℕ) (m : Optio
   pub answer : matching-all ls xs bs ≡ m
 
 abbrev pub Goes : List ℕ → List ℕ → ℕ → ℕ → List ℕ → Type 0
-Goes left T i j B = (tab : List ℕ) (l x : Term) → Wf 16 tab l → left ≡ term-bytes l → Stands tab T (size x) 0 x → Going tab left T (size x) i j B (matching l x [])
+Goes left T i j B =
+    (tab : List ℕ) (l x : Term) → Wf 16 tab l → left ≡ term-bytes l → Stands tab T (size x) 0 x → Going tab left T (size x) i j B (matching l x [])
 
 slot-none : (tab T : List ℕ) (n k : ℕ) → k ≡ 0 → Slot tab T n k none
 slot-none tab T n zero e = tt
@@ -108,7 +111,8 @@ goes-start left T B c tab l x w e s = record {
   answer = after-some (matching l x []) (λ q. matching-all nil nil q) (λ q. refl);
 }
 
-done-go : (tab T : List ℕ) (n : ℕ) (B : List ℕ) (ls xs : Terms) (bs : List Binding) (m : Option (List Binding)) → [] ≡ terms-bytes ls → count ls ≡ count xs → Rep tab T n B bs → matching-all ls xs bs ≡ m → MatchingIs tab T n true B m
+done-go : (tab T : List ℕ) (n : ℕ) (B : List ℕ) (ls xs : Terms) (bs : List Binding) (m : Option (List Binding)) → [] ≡ terms-bytes ls → count ls ≡ count xs →
+    Rep tab T n B bs → matching-all ls xs bs ≡ m → MatchingIs tab T n true B m
 unfolding terms-bytes term-bytes count matching-all
 done-go tab T n B nil nil bs m e c r a = subst (λ z. MatchingIs tab T n true B z) a (refl, r)
 done-go tab T n B nil (cons x xs) bs m e c r a = absurd (omega arith)
@@ -119,7 +123,9 @@ pub goes-done : (left T : List ℕ) (i j : ℕ) (B₀ B : List ℕ) → length l
 goes-done left T i j B₀ B h s w g = record {
   same = s;
   within = w;
-  answer = λ tab l x u e d. let o = g tab l x u e d in done-go tab T (size x) B (o .ls) (o .xs) (o .bs) (matching l x []) (sym (drop-of-length-le left h) ∙ o .pattern) (o .number) (o .held) (o .answer);
+  answer = λ tab l x u e d. let o = g tab l x u e d in
+      let f = sym (drop-of-length-le left h) ∙ o .pattern in
+      done-go tab T (size x) B (o .ls) (o .xs) (o .bs) (matching l x []) f (o .number) (o .held) (o .answer);
 }
 
 none-left : (b : ℕ) (p : List ℕ) (ls xs : Terms) (rest : List ℕ) → b ∷ p ≡ terms-bytes ls → count ls ≡ count xs → [] ≡ cells-all xs ++ rest → ⊥
@@ -129,20 +135,24 @@ none-left b p (cons l ls) nil rest e n d = omega arith
 none-left b p (cons l ls) (cons (var y) xs) rest e n d = nil≢cons d
 none-left b p (cons l ls) (cons (node f ys) xs) rest e n d = nil≢cons d
 
-pub goes-over : (left T : List ℕ) (i j : ℕ) (B₀ B : List ℕ) → i < length left → length T ≤ j → length B ≡ length B₀ → Within T B → Goes left T i j B → Matched left T B₀ false B
+pub goes-over : (left T : List ℕ) (i j : ℕ) (B₀ B : List ℕ) → i < length left → length T ≤ j → length B ≡ length B₀ → Within T B → Goes left T i j B →
+    Matched left T B₀ false B
 goes-over left T i j B₀ B h k s w g = record {
   same = s;
   within = w;
   answer = λ tab l x u e d. let o = g tab l x u e d in
-      absurd (none-left (getD left i 0) (drop (suc i) left) (o .ls) (o .xs) (o .rest) (sym (drop-cons left i 0 h) ∙ o .pattern) (o .number) (sym (drop-of-length-le T k) ∙ o .subject));
+      let f = sym (drop-cons left i 0 h) ∙ o .pattern in
+      absurd (none-left (getD left i 0) (drop (suc i) left) (o .ls) (o .xs) (o .rest) f (o .number) (sym (drop-of-length-le T k) ∙ o .subject));
 }
 
 -- one turn
 abbrev Turned : List ℕ → List ℕ → List ℕ → ℕ → ℕ → ℕ → List ℕ → Option (List Binding) → Type 0
 Turned tab left T n i r B m = (r ≡ 0 → m ≡ none) × ((r ≡ 0 → ⊥) → Going tab left T n (i + 1) r B m)
 
-module _ (tab left T : List ℕ) (n i j : ℕ) (B : List ℕ) (r : ℕ) (B′ : List ℕ) (h : i < length left) (k : j < length T) (a : Advanced T (getD left i 0) j B r B′) (m : Option (List Binding)) (rest : List ℕ) (tail : n + length rest ≡ length T) where
-  var-go : (x : Term) (ls xs : Terms) → Wfs 16 tab ls → Wfs 32 tab xs → count ls ≡ count xs → drop (suc i) left ≡ terms-bytes ls → drop j T ≡ cells x ++ (cells-all xs ++ rest) →
+module _ (tab left T : List ℕ) (n i j : ℕ) (B : List ℕ) (r : ℕ) (B′ : List ℕ) (h : i < length left) (k : j < length T) (a : Advanced T (getD left i 0) j B r B′)
+    (m : Option (List Binding)) (rest : List ℕ) (tail : n + length rest ≡ length T) where
+  var-go : (x : Term) (ls xs : Terms) → Wfs 16 tab ls → Wfs 32 tab xs → count ls ≡ count xs → drop (suc i) left ≡ terms-bytes ls →
+      drop j T ≡ cells x ++ (cells-all xs ++ rest) →
       (o : Option (List Binding)) → BoundTo tab T n j x r B′ o → after o (λ q. matching-all ls xs q) ≡ m → Turned tab left T n i r B′ m
   var-go x ls xs w v c p s none e q = (λ z. sym q, λ z. absurd (z e))
   var-go x ls xs w v c p s (some bs) e q = (
@@ -163,8 +173,10 @@ module _ (tab left T : List ℕ) (n i j : ℕ) (B : List ℕ) (r : ℕ) (B′ : 
     },
   )
 
-  node-go : (f g : ℕ) (ps ys ls xs : Terms) (bs : List Binding) → Wf 16 tab (node f ps) → Wf 32 tab (node g ys) → Wfs 16 tab ls → Wfs 32 tab xs → count ls ≡ count xs →
-      getD left i 0 ≡ f → drop (suc i) left ≡ terms-bytes ps ++ terms-bytes ls → getD T j 0 % 256 ≡ g → drop (suc j) T ≡ cells-all ys ++ (cells-all xs ++ rest) → Rep tab T n B bs →
+  node-go : (f g : ℕ) (ps ys ls xs : Terms) (bs : List Binding) → Wf 16 tab (node f ps) → Wf 32 tab (node g ys) → Wfs 16 tab ls → Wfs 32 tab xs →
+      count ls ≡ count xs →
+      getD left i 0 ≡ f → drop (suc i) left ≡ terms-bytes ps ++ terms-bytes ls → getD T j 0 % 256 ≡ g →
+      drop (suc j) T ≡ cells-all ys ++ (cells-all xs ++ rest) → Rep tab T n B bs →
       (c : Bool) → Says (f ≡ g) c → after (if c then matching-all ps ys bs else none) (λ q. matching-all ls xs q) ≡ m → Turned tab left T n i r B′ m
   unfolding if_then_else_ Wf
   node-go f g ps ys ls xs bs wf wg w v c e p d s o false ne q = (
@@ -200,17 +212,20 @@ module _ (tab left T : List ℕ) (n i j : ℕ) (B : List ℕ) (r : ℕ) (B′ : 
     wf = w;
     rest = cells-all xs ++ rest;
     text = e;
-    inside = omega (arith, sym (length-drop j T) ∙ ap length e ∙ length-append (cells x) (cells-all xs ++ rest), length-append (cells-all xs) rest, length-cells x);
+    inside =
+        omega (arith, sym (length-drop j T) ∙ ap length e ∙ length-append (cells x) (cells-all xs ++ rest), length-append (cells-all xs) rest, length-cells x);
   }
 
   turn-go : (ls xs : Terms) (bs : List Binding) → Wfs 16 tab ls → Wfs 32 tab xs → count ls ≡ count xs → getD left i 0 ∷ drop (suc i) left ≡ terms-bytes ls →
-      getD T j 0 ∷ drop (suc j) T ≡ cells-all xs ++ rest → drop j T ≡ cells-all xs ++ rest → Rep tab T n B bs → matching-all ls xs bs ≡ m → Turned tab left T n i r B′ m
+      getD T j 0 ∷ drop (suc j) T ≡ cells-all xs ++ rest → drop j T ≡ cells-all xs ++ rest → Rep tab T n B bs → matching-all ls xs bs ≡ m →
+      Turned tab left T n i r B′ m
   unfolding terms-bytes term-bytes cells-all cells Wfs Wf count matching-all matching
   turn-go nil xs bs w v c p s s′ o q = absurd (nil≢cons (sym p))
   turn-go (cons l ls) nil bs w v c p s s′ o q = absurd (omega arith)
   turn-go (cons (var y) ls) (cons x xs) bs w v c p s s′ o q =
       let st : Stands tab T n j x = stands x xs (v .0) (s′ ∙ append-assoc (cells x) (cells-all xs) rest) in
-      var-go x ls xs (w .1) (v .1) (omega arith) (cc) (s′ ∙ append-assoc (cells x) (cells-all xs) rest) (bind-to y x bs (bound bs y)) (a .variable y (cc) (w .0) tab n x st bs o) q
+      var-go x ls xs (w .1) (v .1) (omega arith) (cc) (s′ ∙ append-assoc (cells x) (cells-all xs) rest) (bind-to y x bs (bound bs y))
+      (a .variable y (cc) (w .0) tab n x st bs o) q
   turn-go (cons (node f ps) ls) (cons (var y) xs) bs w v c p s s′ o q = (
     λ z. sym q,
     λ z.
@@ -223,13 +238,17 @@ module _ (tab left T : List ℕ) (n i j : ℕ) (B : List ℕ) (r : ℕ) (B′ : 
   turn-go (cons (node f ps) ls) (cons (node g ys) xs) bs w v c p s s′ o q =
       let d : getD T j 0 ≡ g + 256 * suc (sizes ys) = cc in
       let b : g < 16 = v .0 .0 in
-      node-go f g ps ys ls xs bs (w .0) (v .0) (w .1) (v .1) (omega arith) (cc) (cc) (ap (λ z. z % 256) d ∙ cell-byte g (suc (sizes ys)) (omega arith)) (ap (drop 1) s ∙ append-assoc (cells-all ys) (cells-all xs) rest) o (eqb f g) (eqb-says f g) q
+      node-go f g ps ys ls xs bs (w .0) (v .0) (w .1) (v .1) (omega arith) (cc) (cc) (ap (λ z. z % 256) d ∙ cell-byte g (suc (sizes ys)) (omega arith))
+      (ap (drop 1) s ∙ append-assoc (cells-all ys) (cells-all xs) rest) o (eqb f g) (eqb-says f g) q
 
-turn : (tab left T : List ℕ) (n i j : ℕ) (B : List ℕ) (r : ℕ) (B′ : List ℕ) → i < length left → j < length T → Advanced T (getD left i 0) j B r B′ → (m : Option (List Binding)) → Going tab left T n i j B m → Turned tab left T n i r B′ m
+turn : (tab left T : List ℕ) (n i j : ℕ) (B : List ℕ) (r : ℕ) (B′ : List ℕ) → i < length left → j < length T → Advanced T (getD left i 0) j B r B′ →
+    (m : Option (List Binding)) → Going tab left T n i j B m → Turned tab left T n i r B′ m
 turn tab left T n i j B r B′ h k a m o =
-    turn-go tab left T n i j B r B′ h k a m (o .rest) (o .tail) (o .ls) (o .xs) (o .bs) (o .wfl) (o .wfx) (o .number) (sym (drop-cons left i 0 h) ∙ o .pattern) (sym (drop-cons T j 0 k) ∙ o .subject) (o .subject) (o .held) (o .answer)
+    turn-go tab left T n i j B r B′ h k a m (o .rest) (o .tail) (o .ls) (o .xs) (o .bs) (o .wfl) (o .wfx) (o .number) (sym (drop-cons left i 0 h) ∙ o .pattern)
+    (sym (drop-cons T j 0 k) ∙ o .subject) (o .subject) (o .held) (o .answer)
 
-module _ (left T : List ℕ) (i j : ℕ) (B : List ℕ) (r : ℕ) (B′ : List ℕ) (h : i < length left) (k : j < length T) (a : Advanced T (getD left i 0) j B r B′) (g : Goes left T i j B) where
+module _ (left T : List ℕ) (i j : ℕ) (B : List ℕ) (r : ℕ) (B′ : List ℕ) (h : i < length left) (k : j < length T) (a : Advanced T (getD left i 0) j B r B′)
+    (g : Goes left T i j B) where
   pub goes-on : (r ≡ 0 → ⊥) → Goes left T (i + 1) r B′
   goes-on z tab l x w e s = turn tab left T (size x) i j B r B′ h k a (matching l x []) (g tab l x w e s) .1 z
 
@@ -237,7 +256,9 @@ module _ (left T : List ℕ) (i j : ℕ) (B : List ℕ) (r : ℕ) (B′ : List �
   goes-wrong z B₀ q = record {
     same = q;
     within = a .within;
-    answer = λ tab l x w e s. subst (λ o. MatchingIs tab T (size x) false B′ o) (sym (turn tab left T (size x) i j B r B′ h k a (matching l x []) (g tab l x w e s) .0 z)) refl;
+    answer = λ tab l x w e s.
+        let none-found = turn tab left T (size x) i j B r B′ h k a (matching l x []) (g tab l x w e s) .0 z in
+        subst (λ o. MatchingIs tab T (size x) false B′ o) (sym none-found) refl;
   }
 
 -- what the loop keeps
@@ -251,7 +272,8 @@ pub record Here (left T B₀ B : List ℕ) (i j : ℕ) : Type 0 where
 pub here-start : (left T B₀ B : List ℕ) → length B ≡ length B₀ → Cleared B → Here left T B₀ B 0 0
 here-start left T B₀ B s c = record { in-left = omega arith; in-term = omega arith; same = s; within = cleared-within T B c; goes = goes-start left T B c }
 
-pub here-on : (left T B₀ B : List ℕ) (i j r : ℕ) (B′ : List ℕ) → i < length left → j < length T → Here left T B₀ B i j → Advanced T (getD left i 0) j B r B′ → (r ≡ 0 → ⊥) → Here left T B₀ B′ (i + 1) r
+pub here-on : (left T B₀ B : List ℕ) (i j r : ℕ) (B′ : List ℕ) → i < length left → j < length T → Here left T B₀ B i j → Advanced T (getD left i 0) j B r B′ →
+    (r ≡ 0 → ⊥) → Here left T B₀ B′ (i + 1) r
 here-on left T B₀ B i j r B′ h k o a z = record {
   in-left = omega arith;
   in-term = a .place;

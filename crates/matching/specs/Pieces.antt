@@ -4,20 +4,21 @@ use mathlib.Core.List.{List, [], _∷_, _++_}
 use Prim.Native.Nat.{ℕ, zero, suc, _+_, _-_, _/_, _%_, _<_, _≤_}
 use lib.Dec.{ltb}
 use lib.ListN.{length, getD, drop, take}
+use Rattle.limits.specs.Limits.{most-variables, first-variable, cell-base}
 use Rattle.terms.specs.Base.{if_then_else_}
 
 -- the place plus one of a variable's term, or 0
 unfoldable pub slot-of : List ℕ → ℕ → ℕ
-slot-of B b = if ltb b 128 then 0 else if ltb (b - 128) 16 then getD B (b - 128) 0 else 0
+slot-of B b = if ltb b first-variable then 0 else if ltb (b - first-variable) most-variables then getD B (b - first-variable) 0 else 0
 
 -- the first cell c of the term at a: at 0 stands the redex, which is not normal
 unfoldable pub first-cell : ℕ → ℕ → ℕ
-first-cell zero c = c % 256
+first-cell zero c = c % cell-base
 first-cell (suc a) c = c
 
 unfoldable pub piece-at : List ℕ → ℕ → ℕ → List ℕ
 piece-at T b zero = b ∷ []
-piece-at T b (suc a) = first-cell a (getD T a 0) ∷ take (getD T a 0 / 256 - 1) (drop (suc a) T)
+piece-at T b (suc a) = first-cell a (getD T a 0) ∷ take (getD T a 0 / cell-base - 1) (drop (suc a) T)
 
 -- what stands for the byte b
 unfoldable pub piece : List ℕ → List ℕ → ℕ → List ℕ

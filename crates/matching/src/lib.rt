@@ -1,33 +1,38 @@
-// Whether a term in cells is an instance of a left side, and the instance of a right side, put into a buffer. A cell is a node's byte, and 256 times the
+// Whether a term in cells is an instance of a left side, and the instance of a right side, put into a buffer. A cell is a node's byte, and `CELL` times the
 // size of its subterm where that is known to be normal. Entry x of `binds` is the place plus one of the term for the variable x, or 0.
 ghost use mathlib.Core.Path.{_≡_};
 ghost use mathlib.Core.Bool.{true};
 ghost use mathlib.Core.List.{[], _∷_, _++_};
 ghost use Prim.Native.Nat.{_+_, _*_, _/_, _%_, _<_, _≤_};
 ghost use lib.ListN.{length, getD, drop, take};
+ghost use Rattle.limits.specs.Limits.{most-variables, most-nodes, byte-values, two-byte-values, cell-base};
 ghost use Rattle.matching.specs.Held.{Within, Cleared, Again, Advanced, Matched};
 ghost use Rattle.matching.specs.Pieces.{Put, slot-of, first-cell, piece, pieces, replaced};
+use limits::CELL;
+use limits::FIRST_VARIABLE;
+use limits::VARIABLE;
+use limits::VARIABLES;
 
 // The node's byte.
 pub fn byte_of(c: u16) -> u8
-    ensures { λ r. ⌜ r ≡ c % 256 ⌝ }
+    ensures { λ r. ⌜ r ≡ c % cell-base ⌝ }
 {
-    (c % 256) as u8
+    (c % CELL) as u8
 }
 
 // The size of the subterm, or 0 where it is not known.
 pub fn size_of(c: u16) -> usize
-    ensures { λ r. ⌜ (r ≡ c / 256) × (r < 256) ⌝ }
+    ensures { λ r. ⌜ (r ≡ c / cell-base) × (r < byte-values) ⌝ }
 {
-    (c / 256) as usize
+    (c / CELL) as usize
 }
 
 // The cell with the size n.
 pub fn sized(c: u16, n: usize) -> u16
-    requires { ⌜ n < 256 ⌝ }
-    ensures { λ r. ⌜ r ≡ c % 256 + 256 * n ⌝ }
+    requires { ⌜ n < byte-values ⌝ }
+    ensures { λ r. ⌜ r ≡ c % cell-base + cell-base * n ⌝ }
 {
-    c % 256 + 256 * (n as u16)
+    c % CELL + CELL * (n as u16)
 }
 
 fn same_cells(a: &[u16], b: &[u16]) -> bool
@@ -48,11 +53,11 @@ fn same_cells(a: &[u16], b: &[u16]) -> bool
 
 // No variable has a place.
 fn clear(binds: &mut [u8])
-    requires { ⌜ 16 ≤ length (now binds) ⌝ }
+    requires { ⌜ most-variables ≤ length (now binds) ⌝ }
     ensures { λ _. ⌜ (length (now (binds .exit)) ≡ length (now (binds .entry))) × Cleared (now (binds .exit)) ⌝ }
 {
     let mut i = 0;
-    while i < 16 {
+    while i < VARIABLES {
         binds[i] = 0;
         i += 1;
     }
@@ -60,8 +65,8 @@ fn clear(binds: &mut [u8])
 
 // The end of the term at j where its cells are those of the term at a; 0 where they differ.
 fn again(t: &[u16], a: usize, j: usize) -> usize
-    requires { ⌜ (j < length (now t)) × (length (now t) ≤ 120) ⌝ }
-    requires { ⌜ (a < length (now t)) × (a + getD (now t) a 0 / 256 ≤ length (now t)) ⌝ }
+    requires { ⌜ (j < length (now t)) × (length (now t) ≤ most-nodes) ⌝ }
+    requires { ⌜ (a < length (now t)) × (a + getD (now t) a 0 / cell-base ≤ length (now t)) ⌝ }
     ensures { λ r. ⌜ Again (now (t .entry)) a j r ⌝ }
 {
     let n = size_of(t[a]);
@@ -78,18 +83,18 @@ fn again(t: &[u16], a: usize, j: usize) -> usize
 
 // One byte b of a left side against the node at j: the next place, or 0 where they differ.
 fn advance(b: u8, t: &[u16], j: usize, binds: &mut [u8]) -> usize
-    requires { ⌜ (j < length (now t)) × (length (now t) ≤ 120) ⌝ }
-    requires { ⌜ (16 ≤ length (now binds)) × Within (now t) (now binds) ⌝ }
+    requires { ⌜ (j < length (now t)) × (length (now t) ≤ most-nodes) ⌝ }
+    requires { ⌜ (most-variables ≤ length (now binds)) × Within (now t) (now binds) ⌝ }
     ensures { λ r. ⌜ Advanced (now (t .entry)) b j (now (binds .entry)) r (now (binds .exit)) ⌝ }
 {
-    if b < 128 {
+    if b < VARIABLE {
         if byte_of(t[j]) == b {
             return j + 1;
         }
         return 0;
     }
-    let x = terms::wide(b) - 128;
-    if x >= 16 {
+    let x = terms::wide(b) - FIRST_VARIABLE;
+    if x >= VARIABLES {
         return 0;
     }
     let k = terms::wide(binds[x]);
@@ -110,7 +115,7 @@ fn advance(b: u8, t: &[u16], j: usize, binds: &mut [u8]) -> usize
 
 // Whether the term at the start of t is an instance of left, and where its variables stand.
 pub fn matches(left: &[u8], t: &[u16], binds: &mut [u8]) -> bool
-    requires { ⌜ (length (now t) ≤ 120) × (16 ≤ length (now binds)) ⌝ }
+    requires { ⌜ (length (now t) ≤ most-nodes) × (most-variables ≤ length (now binds)) ⌝ }
     ensures { λ r. ⌜ Matched (now (left .entry)) (now (t .entry)) (now (binds .entry)) r (now (binds .exit)) ⌝ }
 {
     clear(binds);
@@ -131,7 +136,7 @@ pub fn matches(left: &[u8], t: &[u16], binds: &mut [u8]) -> bool
 
 // The cells of run into out at w, where at most `most` may stand: the next place, or most + 1.
 fn put_run(out: &mut [u16], w: usize, most: usize, run: &[u16]) -> usize
-    requires { ⌜ (w ≤ most) × (most ≤ length (now out)) × (most ≤ 65536) ⌝ }
+    requires { ⌜ (w ≤ most) × (most ≤ length (now out)) × (most ≤ two-byte-values) ⌝ }
     ensures { λ r. ⌜ Put (now (out .entry)) (now (out .exit)) w most r (now (run .entry)) ⌝ }
 {
     let n = run.len();
@@ -147,7 +152,7 @@ fn put_run(out: &mut [u16], w: usize, most: usize, run: &[u16]) -> usize
 }
 
 fn put_cell(out: &mut [u16], w: usize, most: usize, c: u16) -> usize
-    requires { ⌜ (w ≤ most) × (most ≤ length (now out)) × (most ≤ 65536) ⌝ }
+    requires { ⌜ (w ≤ most) × (most ≤ length (now out)) × (most ≤ two-byte-values) ⌝ }
     ensures { λ r. ⌜ Put (now (out .entry)) (now (out .exit)) w most r (c ∷ []) ⌝ }
 {
     if w >= most {
@@ -159,14 +164,14 @@ fn put_cell(out: &mut [u16], w: usize, most: usize, c: u16) -> usize
 
 // The place of a variable's term plus one; 0 for a symbol and a free variable.
 fn slot(b: u8, binds: &[u8]) -> usize
-    requires { ⌜ 16 ≤ length (now binds) ⌝ }
+    requires { ⌜ most-variables ≤ length (now binds) ⌝ }
     ensures { λ r. ⌜ r ≡ slot-of (now (binds .entry)) b ⌝ }
 {
-    if b < 128 {
+    if b < VARIABLE {
         return 0;
     }
-    let x = terms::wide(b) - 128;
-    if x >= 16 {
+    let x = terms::wide(b) - FIRST_VARIABLE;
+    if x >= VARIABLES {
         return 0;
     }
     terms::wide(binds[x])
@@ -177,15 +182,15 @@ fn first(c: u16, a: usize) -> u16
     ensures { λ r. ⌜ r ≡ first-cell a c ⌝ }
 {
     if a == 0 {
-        return c % 256;
+        return c % CELL;
     }
     c
 }
 
 // What stands for one byte b of a right side.
 fn put_piece(out: &mut [u16], w: usize, most: usize, b: u8, t: &[u16], binds: &[u8]) -> usize
-    requires { ⌜ (w ≤ most) × (most ≤ length (now out)) × (most ≤ 65536) ⌝ }
-    requires { ⌜ (length (now t) ≤ 120) × (16 ≤ length (now binds)) × Within (now t) (now binds) ⌝ }
+    requires { ⌜ (w ≤ most) × (most ≤ length (now out)) × (most ≤ two-byte-values) ⌝ }
+    requires { ⌜ (length (now t) ≤ most-nodes) × (most-variables ≤ length (now binds)) × Within (now t) (now binds) ⌝ }
     ensures { λ r. ⌜ Put (now (out .entry)) (now (out .exit)) w most r (piece (now (t .entry)) (now (binds .entry)) b) ⌝ }
 {
     let k = slot(b, binds);
@@ -209,8 +214,8 @@ fn contract(
     end: usize,
     binds: &[u8],
 ) -> usize
-    requires { ⌜ (most ≤ length (now out)) × (most ≤ 65536) × (end ≤ length (now t)) ⌝ }
-    requires { ⌜ (length (now t) ≤ 120) × (16 ≤ length (now binds)) × Within (now t) (now binds) ⌝ }
+    requires { ⌜ (most ≤ length (now out)) × (most ≤ two-byte-values) × (end ≤ length (now t)) ⌝ }
+    requires { ⌜ (length (now t) ≤ most-nodes) × (most-variables ≤ length (now binds)) × Within (now t) (now binds) ⌝ }
     ensures { λ r. ⌜ Put (now (out .entry)) (now (out .exit)) 0 most r (pieces (now (t .entry)) (now (binds .entry)) (now (right .entry)) ++ drop end (now (t .entry))) ⌝ }
 {
     let mut i = 0;
@@ -234,11 +239,11 @@ pub fn replace(
     right: &[u8],
     binds: &[u8],
 ) -> usize
-    requires { ⌜ (end ≤ len) × (len ≤ most) × (most ≤ length (now t)) × (most ≤ 120) ⌝ }
-    requires { ⌜ (16 ≤ length (now binds)) × Within (take len (now t)) (now binds) ⌝ }
+    requires { ⌜ (end ≤ len) × (len ≤ most) × (most ≤ length (now t)) × (most ≤ most-nodes) ⌝ }
+    requires { ⌜ (most-variables ≤ length (now binds)) × Within (take len (now t)) (now binds) ⌝ }
     ensures { λ r. ⌜ Put (now (t .entry)) (now (t .exit)) 0 most r (replaced (take len (now (t .entry))) (now (binds .entry)) (now (right .entry)) end) ⌝ }
 {
-    let mut out = [0u16; 120];
+    let mut out = [0u16; limits::NODES];
     let w = contract(&mut out, most, right, &t[0..len], end, binds);
     if w > most {
         return w;

@@ -39,12 +39,14 @@ without-none : (x : ℕ) → without x [] ≡ []
 unfolding without
 without-none x = refl
 
-comm-step : (x y z : ℕ) (l : List ℕ) → Dec (x ≡ z) → Dec (y ≡ z) → without x (without y l) ≡ without y (without x l) → without x (without y (z ∷ l)) ≡ without y (without x (z ∷ l))
+comm-step : (x y z : ℕ) (l : List ℕ) → Dec (x ≡ z) → Dec (y ≡ z) → without x (without y l) ≡ without y (without x l) →
+    without x (without y (z ∷ l)) ≡ without y (without x (z ∷ l))
 comm-step x y z l (yes p) (yes q) h = ap (without x) (without-yes y z l q) ∙ h ∙ sym (ap (without y) (without-yes x z l p))
 comm-step x y z l (yes p) (no q) h = ap (without x) (without-no y z l q) ∙ without-yes x z (without y l) p ∙ h ∙ sym (ap (without y) (without-yes x z l p))
 comm-step x y z l (no p) (yes q) h = ap (without x) (without-yes y z l q) ∙ h ∙ sym (ap (without y) (without-no x z l p) ∙ without-yes y z (without x l) q)
 comm-step x y z l (no p) (no q) h =
-    ap (without x) (without-no y z l q) ∙ without-no x z (without y l) p ∙ ap (_∷_ z) h ∙ sym (ap (without y) (without-no x z l p) ∙ without-no y z (without x l) q)
+    ap (without x) (without-no y z l q) ∙ without-no x z (without y l) p ∙ ap (_∷_ z) h
+    ∙ sym (ap (without y) (without-no x z l p) ∙ without-no y z (without x l) q)
 
 without-comm : (x y : ℕ) (l : List ℕ) → without x (without y l) ≡ without y (without x l)
 without-comm x y [] = ap (without x) (without-none y) ∙ without-none x ∙ sym (ap (without y) (without-none x) ∙ without-none y)
@@ -145,21 +147,25 @@ unfolding added if_then_else_
 added-new b ns h k = rw (le-ltb b 128 h, le-ltb (place-in b ns) (length ns) k) refl
 
 -- what is collected is the list of first occurrences
-collect-step : (ns : List ℕ) (b : ℕ) (l : List ℕ) → ((ms : List ℕ) → collect ms l ≡ ms ++ withouts ms (distinct (variable-bytes l))) → Dec (b < 128) → Dec (place-in b ns < length ns) →
+collect-step : (ns : List ℕ) (b : ℕ) (l : List ℕ) → ((ms : List ℕ) → collect ms l ≡ ms ++ withouts ms (distinct (variable-bytes l))) → Dec (b < 128) →
+    Dec (place-in b ns < length ns) →
     collect (added b ns) l ≡ ns ++ withouts ns (distinct (variable-bytes (b ∷ l)))
 collect-step ns b l f (yes h) d = ap (λ ms. collect ms l) (added-symbol b ns h) ∙ f ns ∙ ap (λ z. ns ++ withouts ns (distinct z)) (sym (vb-symbol b l h))
 collect-step ns b l f (no h) (yes k) =
     let v : 128 ≤ b = omega arith in
     let i = place-found b ns k in
     ap (λ ms. collect ms l) (added-old b ns v k) ∙ f ns
-    ∙ ap (λ z. ns ++ z) (sym (ap (λ z. withouts ns (distinct z)) (vb-variable b l v) ∙ unfold distinct in drop-cons-in ns b (without b (distinct (variable-bytes l))) i ∙ withouts-in ns b (distinct (variable-bytes l)) i))
+    ∙ ap (λ z. ns ++ z)
+    (sym (ap (λ z. withouts ns (distinct z)) (vb-variable b l v)
+    ∙ unfold distinct in drop-cons-in ns b (without b (distinct (variable-bytes l))) i ∙ withouts-in ns b (distinct (variable-bytes l)) i))
 collect-step ns b l f (no h) (no k) =
     let v : 128 ≤ b = omega arith in
     let n : In b ns → ⊥ = λ i. k (place-in-below b ns i) in
     ap (λ ms. collect ms l) (added-new b ns v (omega arith)) ∙ f (ns ++ (b ∷ []))
     ∙ append-assoc ns (b ∷ []) (withouts (ns ++ (b ∷ [])) (distinct (variable-bytes l)))
     ∙ ap (λ z. ns ++ (b ∷ z)) (withouts-snoc ns b (distinct (variable-bytes l)) ∙ sym (withouts-without ns b (distinct (variable-bytes l))))
-    ∙ ap (λ z. ns ++ z) (sym (ap (λ z. withouts ns (distinct z)) (vb-variable b l v) ∙ unfold distinct in keep-cons-out ns b (without b (distinct (variable-bytes l))) n))
+    ∙ ap (λ z. ns ++ z)
+    (sym (ap (λ z. withouts ns (distinct z)) (vb-variable b l v) ∙ unfold distinct in keep-cons-out ns b (without b (distinct (variable-bytes l))) n))
 
 collect-is : (ns l : List ℕ) → collect ns l ≡ ns ++ withouts ns (distinct (variable-bytes l))
 unfolding collect variable-bytes distinct

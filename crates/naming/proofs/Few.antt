@@ -28,7 +28,8 @@ few : {n : ℕ} {l : List ℕ} → Variables n l → length (collect [] l) ≤ n
 few {n} {l} v =
     let xs : List ℕ = v .numbers in
     let e : collect [] l ≡ map (λ x. 128 + x) (distinct xs) = collect-distinct l ∙ ap distinct (v .bytes) ∙ distinct-map (λ x. 128 + x) xs (up-inj xs) in
-    omega (arith, ap length e, length-map (distinct xs) (λ x. 128 + x), distinct-below n (distinct xs) (distinct-distinct xs) (λ x i. v .low x (in-distinct x xs i)))
+    let below = distinct-below n (distinct xs) (distinct-distinct xs) (λ x i. v .low x (in-distinct x xs i)) in
+    omega (arith, ap length e, length-map (distinct xs) (λ x. 128 + x), below)
 
 low-variables : (n : ℕ) (l : List ℕ) → ((b : ℕ) → In b l → b < 128 + n) → Variables n l
 low-variables n [] h = record { numbers = []; bytes = vb-none; low = λ x i. absurd (List·Memᴰ·not-nil i) }

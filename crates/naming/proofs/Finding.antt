@@ -34,11 +34,13 @@ found-place l n b r h f =
     (λ j q z. f .first j q (sym (getD-take n l j 0 (omega (arith, f .within))) ∙ z))
 
 -- the steps of the loops
-pub place-hit : (l : List ℕ) (n b i : ℕ) → n ≤ length l → i < n → ((j : ℕ) → j < i → getD l j 0 ≡ b → ⊥) → getD l i 0 ≡ b → (i ≡ place-in b (take n l)) × (i ≤ n)
+pub place-hit : (l : List ℕ) (n b i : ℕ) → n ≤ length l → i < n → ((j : ℕ) → j < i → getD l j 0 ≡ b → ⊥) → getD l i 0 ≡ b →
+    (i ≡ place-in b (take n l)) × (i ≤ n)
 place-hit l n b i h k f e = (found-place l n b i h (record { within = omega arith; hits = λ q. e; first = f }), omega arith)
 
 pub place-miss : (l : List ℕ) (n b i : ℕ) → n ≤ length l → n ≤ i → ((j : ℕ) → j < i → getD l j 0 ≡ b → ⊥) → (n ≡ place-in b (take n l)) × (n ≤ n)
-place-miss l n b i h k f = (found-place l n b n h (record { within = omega arith; hits = λ q. absurd (omega arith); first = λ j q. f j (omega arith) }), omega arith)
+place-miss l n b i h k f =
+    (found-place l n b n h (record { within = omega arith; hits = λ q. absurd (omega arith); first = λ j q. f j (omega arith) }), omega arith)
 
 pub place-next : (l : List ℕ) (b i : ℕ) → ((j : ℕ) → j < i → getD l j 0 ≡ b → ⊥) → (getD l i 0 ≡ b → ⊥) → (j : ℕ) → j < i + 1 → getD l j 0 ≡ b → ⊥
 place-next l b i f n j h e = go (decLt j i)
@@ -62,7 +64,8 @@ pub add-new : (d : List ℕ) (n b k : ℕ) → n < length d → 128 ≤ b → k 
 add-new d n b k h v e q =
     record {
       long = length-set d n b;
-      names = ap (λ z. take z (set d n b)) (add-one n) ∙ take-suc-set d n b h ∙ sym (added-new b (take n d) v (omega (arith, length-take-le n d (omega arith))));
+      names =
+          ap (λ z. take z (set d n b)) (add-one n) ∙ take-suc-set d n b h ∙ sym (added-new b (take n d) v (omega (arith, length-take-le n d (omega arith))));
       few = omega arith;
     }
 
@@ -85,7 +88,8 @@ collected-more l d e f i n r c h a =
       names = ap₂ collect (a .names) (ap (λ z. drop z l) (add-one i)) ∙ ap (λ z. collect (take n e) z) (sym (drop-cons l i 0 h)) ∙ c .names;
     }
 
-pub collected-end : (l d e : List ℕ) (i n : ℕ) → length l ≤ length d → Collected l d e i n → length l ≤ i → (length e ≡ length d) × (take n e ≡ collect [] l) × (n ≤ length e)
+pub collected-end : (l d e : List ℕ) (i n : ℕ) → length l ≤ length d → Collected l d e i n → length l ≤ i →
+    (length e ≡ length d) × (take n e ≡ collect [] l) × (n ≤ length e)
 unfolding collect
 collected-end l d e i n k c h =
     (c .long, ap (λ z. collect (take n e) z) (sym (drop-of-length-le l h)) ∙ c .names, omega (arith, c .few, c .within, c .long))
@@ -112,5 +116,6 @@ module _ (e : ℕ) (out : List ℕ) where
       (length (take (e - 0) (drop 0 out)) ≤ 240) × (length (collect [] (take (e - 0) (drop 0 out))) ≤ 127)
   front-ready h k few = rw front-is (omega (arith, length-take-le e out h), few)
 
-  pub front-back : (ys : List ℕ) → ys ≡ renamed-bytes (take (e - 0) (drop 0 out)) → take 0 out ++ (ys ++ drop (e - 0) (drop 0 out)) ≡ renamed-bytes (take e out) ++ drop e out
+  pub front-back : (ys : List ℕ) → ys ≡ renamed-bytes (take (e - 0) (drop 0 out)) →
+      take 0 out ++ (ys ++ drop (e - 0) (drop 0 out)) ≡ renamed-bytes (take e out) ++ drop e out
   front-back ys q = ap (λ z. z ++ drop (e - 0) out) q ∙ ap (λ z. renamed-bytes (take z out) ++ drop z out) (sub-zero e)

@@ -20,7 +20,8 @@ unfolding variable-bytes
 vb-append [] k = refl
 vb-append (b ∷ l) k = go (decLt b 128) (vb-append l k)
   where
-    go : Dec (b < 128) → variable-bytes (l ++ k) ≡ variable-bytes l ++ variable-bytes k → variable-bytes (b ∷ (l ++ k)) ≡ variable-bytes (b ∷ l) ++ variable-bytes k
+    go : Dec (b < 128) → variable-bytes (l ++ k) ≡ variable-bytes l ++ variable-bytes k →
+        variable-bytes (b ∷ (l ++ k)) ≡ variable-bytes (b ∷ l) ++ variable-bytes k
     go (yes h) e = vb-symbol b (l ++ k) h ∙ e ∙ ap (λ z. z ++ variable-bytes k) (sym (vb-symbol b l h))
     go (no h) e = let v : 128 ≤ b = omega arith in vb-variable b (l ++ k) v ∙ ap (_∷_ b) e ∙ ap (λ z. z ++ variable-bytes k) (sym (vb-variable b l v))
 
@@ -44,7 +45,8 @@ mutual
   pub vb-terms : (ts : Terms) → Lows ts → variable-bytes (terms-bytes ts) ≡ map (λ x. 128 + x) (variables-of ts)
   vb-terms nil w = vb-none
   vb-terms (cons t ts) w =
-      vb-append (term-bytes t) (terms-bytes ts) ∙ ap₂ _++_ (vb-term t (w .0)) (vb-terms ts (w .1)) ∙ sym (map-append (λ x. 128 + x) (variables t) (variables-of ts))
+      vb-append (term-bytes t) (terms-bytes ts) ∙ ap₂ _++_ (vb-term t (w .0)) (vb-terms ts (w .1))
+      ∙ sym (map-append (λ x. 128 + x) (variables t) (variables-of ts))
 
 pub up-inj : (l : List ℕ) (x y : ℕ) → In x l → In y l → 128 + x ≡ 128 + y → x ≡ y
 up-inj l x y i j e = omega arith
@@ -63,12 +65,14 @@ module _ (ds : List ℕ) where
 
     named-term : (t : Term) → Low t → map (named (map (λ x. 128 + x) ds)) (term-bytes t) ≡ term-bytes (subst-term (λ x. var (place-in x ds)) t)
     named-term (var x) w =
-        ap (λ z. z ∷ []) (named-variable (map (λ x. 128 + x) ds) (128 + x) (omega arith) ∙ ap (λ z. 128 + z) (place-in-map (λ x. 128 + x) x ds (up-inj (x ∷ ds))))
+        ap (λ z. z ∷ [])
+        (named-variable (map (λ x. 128 + x) ds) (128 + x) (omega arith) ∙ ap (λ z. 128 + z) (place-in-map (λ x. 128 + x) x ds (up-inj (x ∷ ds))))
     named-term (node f ts) w = ap₂ _∷_ (named-symbol (map (λ x. 128 + x) ds) f (w .0)) (named-terms ts (w .1))
 
     named-terms : (ts : Terms) → Lows ts → map (named (map (λ x. 128 + x) ds)) (terms-bytes ts) ≡ terms-bytes (subst-terms (λ x. var (place-in x ds)) ts)
     named-terms nil w = refl
-    named-terms (cons t ts) w = map-append (named (map (λ x. 128 + x) ds)) (term-bytes t) (terms-bytes ts) ∙ ap₂ _++_ (named-term t (w .0)) (named-terms ts (w .1))
+    named-terms (cons t ts) w =
+        map-append (named (map (λ x. 128 + x) ds)) (term-bytes t) (terms-bytes ts) ∙ ap₂ _++_ (named-term t (w .0)) (named-terms ts (w .1))
 
 -- numbering the bytes of terms is renaming the terms
 pub renamed-terms : (ts : Terms) → Lows ts → renamed-bytes (terms-bytes ts) ≡ terms-bytes (renames ts)

@@ -71,7 +71,8 @@ size-free A c z i r h e b =
     let x : A .byte (c i) ≡ 128 + (A .byte r - 128) = ap (A .byte) (sym e) ∙ omega arith in
     record { small = omega arith; lacks = λ q. absurd (omega arith); gives = λ q. (var (A .byte r - 128), free h x, omega arith) }
 
-pub size-made : (A : Arena) (c z : ℕ → ℕ) (i r k n : ℕ) → i < A .nodes → r ≡ c i → A .byte r < 128 → k ≡ A .arity (A .byte r) → Total A c z (r + 1) k n → SizeAt A c z i n
+pub size-made : (A : Arena) (c z : ℕ → ℕ) (i r k n : ℕ) → i < A .nodes → r ≡ c i → A .byte r < 128 → k ≡ A .arity (A .byte r) → Total A c z (r + 1) k n →
+    SizeAt A c z i n
 unfolding size
 size-made A c z i r k n h e b ek g =
     let t = subst₂ (λ x y. Total A c z (suc x) y n) e (ek ∙ ap (λ x. A .arity (A .byte x)) e) (subst (λ x. Total A c z x k n) (add-one r) g) in
@@ -87,12 +88,14 @@ module _ (l tab ends cs zs : List ℕ) (y : Sized l tab ends cs zs) where
       (u : Term) × Spells (arena l tab ends) (at cs) p u × (at zs p ≡ cap (size u))
   sized-at p n v s h e q = y .measured p (some-within (arena l tab ends) p n (length l) s h (omega arith)) (λ x. q (e ∙ x))
 
-  pub sized-arguments : (i r k : ℕ) → i < length l → r ≡ at cs i → at l r < 128 → k ≡ owes tab (at l r) → Sized l tab ends cs zs × SpellsSome (arena l tab ends) (r + 1) k
+  pub sized-arguments : (i r k : ℕ) → i < length l → r ≡ at cs i → at l r < 128 → k ≡ owes tab (at l r) →
+      Sized l tab ends cs zs × SpellsSome (arena l tab ends) (r + 1) k
   sized-arguments i r k h e b ek =
       (y, arguments (arena l tab ends) (y .ready .whole) r (at l r) k (r + 1) (ready-within l tab ends cs (y .ready) i r h e) refl b ek refl)
 
 -- a size that is known is the size, up to 120
-pub known-size : (l tab ends cs zs : List ℕ) → Sized l tab ends cs zs → SizesKnown (arena l tab ends) (at zs) true → (i : ℕ) (u : Term) → Spells (arena l tab ends) (at cs) i u → at zs i ≡ cap (size u)
+pub known-size : (l tab ends cs zs : List ℕ) → Sized l tab ends cs zs → SizesKnown (arena l tab ends) (at zs) true → (i : ℕ) (u : Term) →
+    Spells (arena l tab ends) (at cs) i u → at zs i ≡ cap (size u)
 known-size l tab ends cs zs y k i u p =
     let h = spells-within (arena l tab ends) p in
     let w = y .measured i h (k i h) in
@@ -125,7 +128,8 @@ noughts-set (z ∷ zs) zero v h e n = omega (arith, nought-0 z e, nought-1 v n)
 noughts-set (z ∷ zs) (suc i) v h e n = omega (arith, noughts-set zs i v (le-of-suc-le-suc h) e n)
 
 -- a size that was found
-module _ (l tab ends cs zs : List ℕ) (y : Sized l tab ends cs zs) (i k : ℕ) (h : i < length l) (z : at zs i ≡ 0) (g : SizeAt (arena l tab ends) (at cs) (at zs) i k) (p : 0 < k)
+module _ (l tab ends cs zs : List ℕ) (y : Sized l tab ends cs zs) (i k : ℕ) (h : i < length l) (z : at zs i ≡ 0)
+    (g : SizeAt (arena l tab ends) (at cs) (at zs) i k) (p : 0 < k)
   where
     above : k ≡ 0 → ⊥
     above e = omega arith

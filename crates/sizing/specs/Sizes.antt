@@ -2,15 +2,19 @@
 use mathlib.Core.Path.{_≡_}
 use mathlib.Core.Bool.{Bool, true, false}
 use mathlib.Core.List.{List}
-use Prim.Native.Nat.{ℕ, suc, _<_, _≤_, min}
+use Prim.Native.Nat.{ℕ, suc, _+_, _<_, _≤_, min}
 use lib.ListN.{length}
+use Rattle.limits.specs.Limits.{first-variable, most-nodes}
 use Rattle.terms.specs.Term.{Term, Terms, size, sizes}
 use Rattle.classes.specs.Arena.{Arena, Spells, SpellsAll, Among, Descends}
 use Rattle.classes.specs.Steps.{at, arena, Ready}
 
--- a size, and 121 for anything above 120
+-- any size above the limit: 121
+abbrev pub too-large : ℕ
+too-large = most-nodes + 1
+
 abbrev pub cap : ℕ → ℕ
-cap n = min n 121
+cap n = min n too-large
 
 -- the sizes known so far, 0 where none is
 abbrev pub Measured : Arena → (ℕ → ℕ) → (ℕ → ℕ) → Type 0
@@ -26,16 +30,16 @@ Unknown z i = z i ≡ 0
 
 -- one more than the sizes of k arguments from a on, or 0 where one of them is not known
 pub record Total (A : Arena) (c z : ℕ → ℕ) (a k r : ℕ) : Type 0 where
-  pub small : r ≤ 121
+  pub small : r ≤ too-large
   pub lacks : r ≡ 0 → Among A (Unknown z) a k
   pub gives : (r ≡ 0 → ⊥) → (us : Terms) × SpellsAll A c a k us × (r ≡ cap (suc (sizes us)))
 
 -- node i can have no size yet
 abbrev pub Lacks : Arena → (ℕ → ℕ) → (ℕ → ℕ) → ℕ → Type 0
-Lacks A c z i = (A .byte (c i) < 128) × Among A (Unknown z) (suc (c i)) (A .arity (A .byte (c i)))
+Lacks A c z i = (A .byte (c i) < first-variable) × Among A (Unknown z) (suc (c i)) (A .arity (A .byte (c i)))
 
 pub record SizeAt (A : Arena) (c z : ℕ → ℕ) (i r : ℕ) : Type 0 where
-  pub small : r ≤ 121
+  pub small : r ≤ too-large
   pub lacks : r ≡ 0 → Lacks A c z i
   pub gives : (r ≡ 0 → ⊥) → (u : Term) × Spells A c i u × (r ≡ cap (size u))
 

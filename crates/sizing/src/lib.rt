@@ -5,16 +5,19 @@ ghost use lib.ListN.{length};
 ghost use Rattle.classes.specs.Steps.{at, arena, Each, Ready, SpellsSome};
 ghost use Rattle.sizing.specs.Sizes.{cap, Sized, Total, SizeAt, SizedTo};
 
+// Any size above the limit: 121.
+const TOO_LARGE: usize = limits::NODES + 1;
+
 fn capped(x: usize) -> usize
     ensures { λ r. ⌜ r ≡ cap x ⌝ }
 {
-    if x > 121 {
-        return 121;
+    if x > TOO_LARGE {
+        return TOO_LARGE;
     }
     x
 }
 
-// One more than the sizes of k arguments from a on, at most 121; 0 where one is not known.
+// One more than the sizes of k arguments from a on, at most `TOO_LARGE`; 0 where one is not known.
 fn total(
     nodes: &[u8],
     table: &[u8],
@@ -50,7 +53,7 @@ fn size_at(nodes: &[u8], table: &[u8], ends: &[u16], class: &[u16], sizes: &[u8]
 {
     let r = classes::wide(class[i]);
     let f = nodes[r];
-    if f >= 128 {
+    if f >= limits::VARIABLE {
         return 1;
     }
     let k = terms::owed_by(table, f);

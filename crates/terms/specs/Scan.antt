@@ -4,7 +4,7 @@ use mathlib.Core.List.{List, [], _∷_}
 use Prim.Native.Nat.{ℕ, zero, suc, _+_}
 use lib.Dec.{ltb, leb}
 use lib.ListN.{length, getD}
-use Rattle.limits.specs.Limits.{most-symbols}
+use Rattle.limits.specs.Limits.{most-symbols, first-variable, last-variable}
 use Rattle.terms.specs.Base.{if_then_else_}
 use Rattle.terms.specs.declared.Ends.{Ends}
 use Rattle.terms.specs.declared.Ends.the-variants.{At, Bad}
@@ -25,7 +25,7 @@ skip tab (b ∷ l) (suc n) = suc (skip tab l (owes tab b + n))
 
 -- "Symbol n (0 to 15) is byte n. Variable n (0 to 15) is byte 80 + n.", over the symbols of the table [2.3, 2.4]
 unfoldable pub is-node : List ℕ → ℕ → Bool
-is-node tab b = ltb (b + b) (length tab) || leb 0x80 b && leb b 0x8f
+is-node tab b = ltb (b + b) (length tab) || leb first-variable b && leb b last-variable
 
 -- the end of the next n subterms, or the place of a byte that is no node; where the bytes end first, their end [2.9, 4.10]
 unfoldable pub scan : List ℕ → List ℕ → ℕ → ℕ → Ends

@@ -29,7 +29,8 @@ skip-add tab (b ∷ l) (suc m) n =
     rw (suc-add m n, e) (omega (arith, skip-add tab l (owes tab b + m) n))
 
 -- a hop over the first of k subterms
-pub hop-more : (l tab ends : List ℕ) (p q left k r : ℕ) → EndsFrom l tab ends p → p ≤ q → q < length l → 0 < left → q + skip tab (drop q l) left ≡ p + skip tab (drop p l) k → r ≡ at ends q →
+pub hop-more : (l tab ends : List ℕ) (p q left k r : ℕ) → EndsFrom l tab ends p → p ≤ q → q < length l → 0 < left →
+    q + skip tab (drop q l) left ≡ p + skip tab (drop p l) k → r ≡ at ends q →
     (q ≤ r) × (r ≤ length l) × (r + skip tab (drop r l) (left - 1) ≡ p + skip tab (drop p l) k)
 hop-more l tab ends p q zero k r f h h′ z e g = absurd (omega arith)
 hop-more l tab ends p q (suc n) k r f h h′ z e g =
@@ -37,7 +38,8 @@ hop-more l tab ends p q (suc n) k r f h h′ z e g =
     let b : suc n - 1 ≡ n = omega arith in
     let d : suc n ≡ 1 + n = omega arith in
     let c : skip tab (drop q l) (suc n) ≡ skip tab (drop q l) 1 + skip tab (drop r l) n =
-    ap (skip tab (drop q l)) d ∙ skip-add tab (drop q l) 1 n ∙ ap (λ z. skip tab (drop q l) 1 + skip tab z n) (drop-drop (skip tab (drop q l) 1) q l ∙ ap (λ z. drop z l) (sym a)) in
+    ap (skip tab (drop q l)) d ∙ skip-add tab (drop q l) 1 n
+    ∙ ap (λ z. skip tab (drop q l) 1 + skip tab z n) (drop-drop (skip tab (drop q l) 1) q l ∙ ap (λ z. drop z l) (sym a)) in
     let m : skip tab (drop q l) 1 ≤ length l - q = omega (arith, skip-most tab (drop q l) 1, length-drop q l) in
     (omega arith, omega arith, rw b (omega arith))
 
@@ -59,7 +61,8 @@ ended-start l tab ends = record { within = omega arith; long = refl; later = rec
 pub ended-later : (l tab ends₀ ends : List ℕ) (i : ℕ) → EndsSoFar l tab ends₀ ends i → 0 < i → EndsFrom l tab ends (i - 1 + 1)
 ended-later l tab ends₀ ends i f h = record { each = λ j a b. f .later .each j (omega arith) b }
 
-pub ended-less : (l tab ends₀ ends : List ℕ) (i v : ℕ) → EndsSoFar l tab ends₀ ends i → 0 < i → length l ≤ length ends₀ → EndAt l tab (i - 1) v → EndsSoFar l tab ends₀ (set ends (i - 1) v) (i - 1)
+pub ended-less : (l tab ends₀ ends : List ℕ) (i v : ℕ) → EndsSoFar l tab ends₀ ends i → 0 < i → length l ≤ length ends₀ → EndAt l tab (i - 1) v →
+    EndsSoFar l tab ends₀ (set ends (i - 1) v) (i - 1)
 ended-less l tab ends₀ ends i v f h k e =
     record {
       within = omega (arith, f .within);

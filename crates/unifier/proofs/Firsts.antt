@@ -39,7 +39,8 @@ first-new l firsts i b f g e h m q z = (
   omega arith,
 )
 
-pub first-old : (l firsts : List ℕ) (i b f : ℕ) → Firsts l firsts i → b ≡ at l i → 128 ≤ at l i → f ≡ at firsts b → (f ≡ 0 → ⊥) → FirstClass l i (f - 1) × (f - 1 ≤ i)
+pub first-old : (l firsts : List ℕ) (i b f : ℕ) → Firsts l firsts i → b ≡ at l i → 128 ≤ at l i → f ≡ at firsts b → (f ≡ 0 → ⊥) →
+    FirstClass l i (f - 1) × (f - 1 ≤ i)
 first-old l firsts i b f g e h q z =
     let s = g .some b (omega arith) (λ r. z (q ∙ r)) in
     let w : f - 1 < i = omega (arith, q, s .0) in (

@@ -30,7 +30,8 @@ mutual
   spells-lows none = tt
   spells-lows (more r s) = (spells-low r, spells-lows s)
 
-module _ (l tab : List ℕ) (n₁ n₂ : ℕ) (ends cs zs : List ℕ) (k : Solved l tab n₁ n₂ ends cs zs) (i : ℕ) (t : Term) (p : Spells (arena l tab ends) same i t) where
+module _ (l tab : List ℕ) (n₁ n₂ : ℕ) (ends cs zs : List ℕ) (k : Solved l tab n₁ n₂ ends cs zs) (i : ℕ) (t : Term)
+    (p : Spells (arena l tab ends) same i t) where
   abbrev the-instance : Term
   the-instance = subst-term (the-mgu l tab n₁ n₂ ends cs zs k) t
 

@@ -81,10 +81,15 @@ module _ (tab : List ℕ) (b have : ℕ) where
   formed-high h = record { most = omega arith; more = λ z. absurd (z refl); none = λ z ts w n u rest v e. none-by ts w n u rest v e .0 h }
 
   pub formed-gap : 16 ≤ b → b < 128 → Formed tab b have 0
-  formed-gap h k = record { most = omega arith; more = λ z. absurd (z refl); none = λ z ts w n u rest v e. let q = none-by ts w n u rest v e .1 k .0 in omega arith }
+  formed-gap h k =
+      record { most = omega arith; more = λ z. absurd (z refl); none = λ z ts w n u rest v e. let q = none-by ts w n u rest v e .1 k .0 in omega arith }
 
   pub formed-few : (k : ℕ) → k ≡ owes tab b → b < 16 → have < k → Formed tab b have 0
-  formed-few k q h l = record { most = omega arith; more = λ z. absurd (z refl); none = λ z ts w n u rest v e. let r = none-by ts w n u rest v e .1 (omega arith) .1 in omega arith }
+  formed-few k q h l = record {
+    most = omega arith;
+    more = λ z. absurd (z refl);
+    none = λ z ts w n u rest v e. let r = none-by ts w n u rest v e .1 (omega arith) .1 in omega arith;
+  }
 
   pub formed-variable : 128 ≤ b → b < 160 → Formed tab b have (have + 1)
   unfolding Wf Wfs count terms-bytes term-bytes
@@ -102,7 +107,8 @@ module _ (tab : List ℕ) (b have : ℕ) where
     most = omega arith;
     more = λ z ts w n.
         let s = split tab k ts w (omega arith) in
-        (cons (node b (s .first)) (s .rest), ((h, s .number ∙ q ∙ owes-symbol tab b h, s .first-wf), s .rest-wf), omega (arith, s .others), ap (λ x. b ∷ x) (s .bytes));
+        let number = s .number ∙ q ∙ owes-symbol tab b h in
+        (cons (node b (s .first)) (s .rest), ((h, number, s .first-wf), s .rest-wf), omega (arith, s .others), ap (λ x. b ∷ x) (s .bytes));
     none = λ z. absurd (omega arith);
   }
 
@@ -116,7 +122,8 @@ pub record Forest (l tab : List ℕ) (i have : ℕ) : Type 0 where
 
 pub forest-start : (l tab : List ℕ) → Forest l tab (length l) 0
 unfolding Wfs count terms-bytes
-forest-start l tab = record { within = omega arith; ts = nil; wf = tt; number = refl; bytes = let h : length l ≤ length l = omega arith in drop-of-length-le l h }
+forest-start l tab =
+    record { within = omega arith; ts = nil; wf = tt; number = refl; bytes = let h : length l ≤ length l = omega arith in drop-of-length-le l h }
 
 module _ (l tab : List ℕ) (i have : ℕ) (f : Forest l tab i have) (h : 0 < i) (r : ℕ) (g : Formed tab (getD l (i - 1) 0) have r) where
   here : drop (i - 1) l ≡ getD l (i - 1) 0 ∷ terms-bytes (f .ts)
@@ -136,7 +143,8 @@ module _ (l tab : List ℕ) (i have : ℕ) (f : Forest l tab i have) (h : 0 < i)
         let n : i - 1 < sizes ts = omega (arith, f .within, ap length e, length-bytes-all ts) in
         let s = subterms-there ts (i - 1) n in
         let a = around-in ts (i - 1) (s .0) (s .1) in
-        let b : getD l (i - 1) 0 ∷ terms-bytes (f .ts) ≡ term-bytes (s .0) ++ a .after = sym here ∙ ap (drop (i - 1)) (e ∙ a .holds) ∙ drop-at (a .before) (term-bytes (s .0) ++ a .after) (i - 1) (a .begins) in
+        let b : getD l (i - 1) 0 ∷ terms-bytes (f .ts) ≡ term-bytes (s .0) ++ a .after =
+        sym here ∙ ap (drop (i - 1)) (e ∙ a .holds) ∙ drop-at (a .before) (term-bytes (s .0) ++ a .after) (i - 1) (a .begins) in
         absurd (g .none z (f .ts) (f .wf) (f .number) (s .0) (a .after) (wf-subterm-in 32 tab ts (i - 1) (s .0) w (s .1)) b);
   }
 

@@ -32,7 +32,8 @@ pub record Classing (l class₀ class firsts : List ℕ) (i : ℕ) : Type 0 wher
 pub classing-start : (l class firsts : List ℕ) → length firsts ≡ 256 → ((b : ℕ) → at firsts b ≡ 0) → Classing l class class firsts 0
 classing-start l class firsts h z = record { filled = filled-start (FirstClass l) class; seen = firsts-start l firsts h z }
 
-pub classing-more : (l class₀ class firsts : List ℕ) (i b c : ℕ) → Classing l class₀ class firsts i → i < length class₀ → b ≡ at l i → b < 256 → FirstClass l i c × (c ≤ i) →
+pub classing-more : (l class₀ class firsts : List ℕ) (i b c : ℕ) → Classing l class₀ class firsts i → i < length class₀ → b ≡ at l i → b < 256 →
+    FirstClass l i c × (c ≤ i) →
     Classing l class₀ (set class i c) (set firsts b (c + 1)) (i + 1)
 classing-more l class₀ class firsts i b c g h e m f = record {
   filled = filled-more (FirstClass l) class₀ class i c (g .filled) h (f .0);
@@ -124,7 +125,8 @@ module _ (l tab ends : List ℕ) (f : Each (EndAt l tab) ends (length l)) where
   node-some p i n s g h k (yes q) = g i q (omega arith)
   node-some p i n s g h k (no q) = let e : p ≡ i = omega arith in subst (λ z. Some z) e s
 
-  cons-some : (p i a b : ℕ) → ((j : ℕ) → p ≤ j → j < p + a → Some j) → ((j : ℕ) → p + a ≤ j → j < p + a + b → Some j) → p ≤ i → i < p + (a + b) → Dec (i < p + a) → Some i
+  cons-some : (p i a b : ℕ) → ((j : ℕ) → p ≤ j → j < p + a → Some j) → ((j : ℕ) → p + a ≤ j → j < p + a + b → Some j) → p ≤ i → i < p + (a + b) →
+      Dec (i < p + a) → Some i
   cons-some p i a b g h k q (yes r) = g i k r
   cons-some p i a b g h k q (no r) = h i (omega arith) (omega arith)
 

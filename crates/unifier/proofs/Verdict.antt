@@ -22,7 +22,8 @@ use Rattle.unify.proofs.Unique.{most-general, mgu-unique, mgu-unique-pair}
 use Rattle.classes.proofs.Arena.{unifies-joins, solution, solution-mgu, image, never-circle}
 use Rattle.unifier.proofs.Starting.{laid-at}
 
-never-none : (A : Arena) (n₁ n₂ : ℕ) (s t : Term) → Spells A same n₁ s → Spells A same n₂ t → Never A n₁ n₂ → (o : Option (List Binding)) → mgu s t ≡ o → false ≡ is-some o
+never-none : (A : Arena) (n₁ n₂ : ℕ) (s t : Term) → Spells A same n₁ s → Spells A same n₂ t → Never A n₁ n₂ → (o : Option (List Binding)) → mgu s t ≡ o →
+    false ≡ is-some o
 unfolding is-some
 never-none A n₁ n₂ s t p q n none e = refl
 never-none A n₁ n₂ s t p q n (some b) e = absurd (n (unifier b) (unifies-joins A (unifier b) n₁ n₂ s t p q (mgu-right s t b e .unifies)))
@@ -37,7 +38,8 @@ unfolding rename
 size-rename t = size-vars _ t
 
 -- every node stands for a term
-pub solved-spells : (l tab : List ℕ) (n₁ n₂ : ℕ) (ends cs zs : List ℕ) → Solved l tab n₁ n₂ ends cs zs → (i : ℕ) → i < length l → (u : Term) × Spells (arena l tab ends) (at cs) i u
+pub solved-spells : (l tab : List ℕ) (n₁ n₂ : ℕ) (ends cs zs : List ℕ) → Solved l tab n₁ n₂ ends cs zs → (i : ℕ) → i < length l →
+    (u : Term) × Spells (arena l tab ends) (at cs) i u
 solved-spells l tab n₁ n₂ ends cs zs k i h = let w = k .sized .measured i h (k .known i h) in (w .0, w .1)
 
 module _ (l tab : List ℕ) (n₁ n₂ : ℕ) (ends cs zs : List ℕ) (k : Solved l tab n₁ n₂ ends cs zs) where
@@ -52,7 +54,9 @@ module _ (l tab : List ℕ) (n₁ n₂ : ℕ) (ends cs zs : List ℕ) (k : Solve
   module _ (s t : Term) (p : Spells (arena l tab ends) same n₁ s) (q : Spells (arena l tab ends) same n₂ t) where
     solved-mgu : Mgu s t the-mgu
     unfolding the-mgu
-    solved-mgu = solution-mgu (arena l tab ends) n₁ n₂ (at cs) (k .sized .ready .whole) (k .classes) (k .closed) (solved-spells l tab n₁ n₂ ends cs zs k) s t p q (k .started)
+    solved-mgu =
+        solution-mgu (arena l tab ends) n₁ n₂ (at cs) (k .sized .ready .whole) (k .classes) (k .closed) (solved-spells l tab n₁ n₂ ends cs zs k) s t p q
+        (k .started)
 
     some-there : (o : Option (List Binding)) → mgu s t ≡ o → true ≡ is-some o
     unfolding is-some
@@ -77,17 +81,20 @@ pub solved-decided : (l tab : List ℕ) (n₁ n₂ : ℕ) (ends cs zs : List ℕ
 solved-decided l tab n₁ n₂ ends cs zs k ts d s t p q =
     some-there l tab n₁ n₂ ends cs zs k s t (laid-at l tab ends (k .ended) ts d n₁ s p) (laid-at l tab ends (k .ended) ts d n₂ t q) (mgu s t) refl
 
-pub outcome-solved : (l tab : List ℕ) (n₁ n₂ : ℕ) (ends cs zs : List ℕ) (r : Bool) → SolvedIf l tab n₁ n₂ ends cs zs r → r ≡ true → Solved l tab n₁ n₂ ends cs zs
+pub outcome-solved : (l tab : List ℕ) (n₁ n₂ : ℕ) (ends cs zs : List ℕ) (r : Bool) → SolvedIf l tab n₁ n₂ ends cs zs r → r ≡ true →
+    Solved l tab n₁ n₂ ends cs zs
 outcome-solved l tab n₁ n₂ ends cs zs r o e = subst (λ k. SolvedIf l tab n₁ n₂ ends cs zs k) e o
 
 module _ (l tab : List ℕ) (n₁ n₂ : ℕ) (h : n₁ < length l) (h′ : n₂ < length l) (ends cs : List ℕ) (g : Joined l tab n₁ n₂ ends cs) (ds : List ℕ) where
-  pub begun-never : (zs : List ℕ) (r : Bool) → ClosedTo (arena l tab ends) (at cs) (at ds) r → r ≡ false → Decided l tab n₁ n₂ false × SolvedIf l tab n₁ n₂ ends ds zs false
+  pub begun-never : (zs : List ℕ) (r : Bool) → ClosedTo (arena l tab ends) (at cs) (at ds) r → r ≡ false →
+      Decided l tab n₁ n₂ false × SolvedIf l tab n₁ n₂ ends ds zs false
   begun-never zs r n e = (never (subst (λ x. ClosedTo (arena l tab ends) (at cs) (at ds) x) e n), tt)
     where
       never : ClosedTo (arena l tab ends) (at cs) (at ds) false → Decided l tab n₁ n₂ false
       never n = never-decided l tab n₁ n₂ ends (g .ended) (n n₁ n₂ (g .classes))
 
-  module _ (u : ClosedTo (arena l tab ends) (at cs) (at ds) true) (zs : List ℕ) (y : Sized l tab ends ds zs) (q : Descends (arena l tab ends) (at ds) (Unknown (at zs))) where
+  module _ (u : ClosedTo (arena l tab ends) (at cs) (at ds) true) (zs : List ℕ) (y : Sized l tab ends ds zs)
+      (q : Descends (arena l tab ends) (at ds) (Unknown (at zs))) where
     begun-solved : SizesKnown (arena l tab ends) (at zs) true → Solved l tab n₁ n₂ ends ds zs
     begun-solved w =
         record {
@@ -107,5 +114,6 @@ module _ (l tab : List ℕ) (n₁ n₂ : ℕ) (h : n₁ < length l) (h′ : n₂
     begun-outcome false w = (never-decided l tab n₁ n₂ ends (g .ended) (circle w), tt)
 
   -- from what the calls answer
-  pub begun-answer : (b : Bool) → ClosedTo (arena l tab ends) (at cs) (at ds) b → b ≡ true → (zs : List ℕ) (r : Bool) → SizedTo l tab ends ds zs r → Decided l tab n₁ n₂ r × SolvedIf l tab n₁ n₂ ends ds zs r
+  pub begun-answer : (b : Bool) → ClosedTo (arena l tab ends) (at cs) (at ds) b → b ≡ true → (zs : List ℕ) (r : Bool) → SizedTo l tab ends ds zs r →
+      Decided l tab n₁ n₂ r × SolvedIf l tab n₁ n₂ ends ds zs r
   begun-answer b u e zs r w = begun-outcome (subst (λ x. ClosedTo (arena l tab ends) (at cs) (at ds) x) e u) zs (w .sized) (w .descends) r (w .known)

@@ -19,7 +19,9 @@ use Rattle.classes.proofs.Arena.{spells-ones}
 pub put-append : (to : ℕ) (xs ys d : List ℕ) → put to (xs ++ ys) d ≡ put (to + length xs) ys (put to xs d)
 unfolding put
 put-append to [] ys d = let e : to + 0 ≡ to = omega arith in rw e refl
-put-append to (x ∷ xs) ys d = let e : to + suc (length xs) ≡ suc to + length xs = omega arith in put-append (suc to) xs ys (set d to x) ∙ ap (λ k. put k ys (put (suc to) xs (set d to x))) (sym e)
+put-append to (x ∷ xs) ys d =
+    let e : to + suc (length xs) ≡ suc to + length xs = omega arith in
+    put-append (suc to) xs ys (set d to x) ∙ ap (λ k. put k ys (put (suc to) xs (set d to x))) (sym e)
 
 -- of the terms spelt from p on, the first begins with the byte of p's root, and its arguments and the other terms are spelt
 record First (l tab ends cs : List ℕ) (p k : ℕ) (us : Terms) : Type 0 where
@@ -92,7 +94,8 @@ module _ (l tab ends cs : List ℕ) (p k to : ℕ) (d : List ℕ) (y : Ready l t
   module _ (r n : ℕ) (er : r ≡ at cs p) (en : n ≡ owes tab (at l r)) where
     first-args : SpellsAll (arena l tab ends) (at cs) (r + 1) n (F .ts)
     first-args =
-        subst₂ (λ x m. SpellsAll (arena l tab ends) (at cs) x m (F .ts)) (ap suc (sym er) ∙ sym (add-one r)) (ap (λ x. owes tab (at l x)) (sym er) ∙ sym en) (F .args)
+        subst₂ (λ x m. SpellsAll (arena l tab ends) (at cs) x m (F .ts)) (ap suc (sym er) ∙ sym (add-one r)) (ap (λ x. owes tab (at l x)) (sym er) ∙ sym en)
+        (F .args)
 
     pub room-first : RoomFor (arena l tab ends) (at cs) (r + 1) n (to + 1) (set d to (at l r))
     room-first =
@@ -126,7 +129,8 @@ module _ (l tab ends cs : List ℕ) (p k to : ℕ) (d : List ℕ) (y : Ready l t
         unfolding put
         bytes-at =
             h .bytes (F .vs) (rest-args q eq)
-            ∙ ap₂ (λ a b. put a (terms-bytes (F .vs)) b) here (g .bytes (F .ts) first-args ∙ ap₂ (λ a b. put a (terms-bytes (F .ts)) (set d to b)) (add-one to) (ap (at l) er))
+            ∙ ap₂ (λ a b. put a (terms-bytes (F .vs)) b) here
+            (g .bytes (F .ts) first-args ∙ ap₂ (λ a b. put a (terms-bytes (F .ts)) (set d to b)) (add-one to) (ap (at l) er))
             ∙ sym (ap (λ x. put to x d) (F .bytes) ∙ put-append (suc to) (terms-bytes (F .ts)) (terms-bytes (F .vs)) (set d to (at l (at cs p))))
           where
             here : next ≡ suc to + length (terms-bytes (F .ts))

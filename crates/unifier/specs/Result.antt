@@ -5,6 +5,7 @@ use mathlib.Core.List.{List, _∷_, _++_}
 use mathlib.Core.Option.{none, some}
 use Prim.Native.Nat.{ℕ, _+_, _-_, _<_, _≤_}
 use lib.ListN.{length, drop}
+use Rattle.limits.specs.Limits.{most-apart, byte-values, first-variable, variable-bytes}
 use Rattle.terms.specs.Base.{is-some}
 use Rattle.terms.specs.Term.{Term, Terms, term-bytes, terms-bytes, subterm-in, count}
 use Rattle.terms.specs.Scan.{skip}
@@ -16,7 +17,7 @@ use Rattle.sizing.specs.Sizes.{Sized, SizesKnown}
 
 -- the arena holds the terms ts, one after the other
 pub record Laid (l tab : List ℕ) (ts : Terms) : Type 0 where
-  pub wf : Wfs 128 tab ts
+  pub wf : Wfs variable-bytes tab ts
   pub bytes : l ≡ terms-bytes ts
 
 abbrev pub LaidOut : List ℕ → List ℕ → Type 0
@@ -25,13 +26,15 @@ LaidOut l tab = (ts : Terms) × Laid l tab ts
 -- b and the bytes of `have` terms are those of r terms, or can begin none
 pub record Formed (tab : List ℕ) (b have r : ℕ) : Type 0 where
   pub most : r ≤ have + 1
-  pub more : (r ≡ 0 → ⊥) → (ts : Terms) → Wfs 32 tab ts → count ts ≡ have → (us : Terms) × Wfs 32 tab us × (count us ≡ r) × (b ∷ terms-bytes ts ≡ terms-bytes us)
-  pub none : r ≡ 0 → (ts : Terms) → Wfs 32 tab ts → count ts ≡ have → (u : Term) (rest : List ℕ) → Wf 32 tab u → b ∷ terms-bytes ts ≡ term-bytes u ++ rest → ⊥
+  pub more : (r ≡ 0 → ⊥) → (ts : Terms) → Wfs most-apart tab ts → count ts ≡ have →
+      (us : Terms) × Wfs most-apart tab us × (count us ≡ r) × (b ∷ terms-bytes ts ≡ terms-bytes us)
+  pub none : r ≡ 0 → (ts : Terms) → Wfs most-apart tab ts → count ts ≡ have → (u : Term) (rest : List ℕ) → Wf most-apart tab u →
+      b ∷ terms-bytes ts ≡ term-bytes u ++ rest → ⊥
 
--- whether the bytes are those of terms with variables below 32
+-- whether the bytes are those of terms with variables below `most-apart`
 pub record IsTerms (l tab : List ℕ) (r : Bool) : Type 0 where
-  pub sound : r ≡ true → (ts : Terms) × (Wfs 32 tab ts × (l ≡ terms-bytes ts))
-  pub complete : (ts : Terms) → Wfs 32 tab ts → l ≡ terms-bytes ts → r ≡ true
+  pub sound : r ≡ true → (ts : Terms) × (Wfs most-apart tab ts × (l ≡ terms-bytes ts))
+  pub complete : (ts : Terms) → Wfs most-apart tab ts → l ≡ terms-bytes ts → r ≡ true
 
 abbrev pub EndAt : List ℕ → List ℕ → ℕ → ℕ → Type 0
 EndAt l tab i e = e ≡ i + skip tab (drop i l) 1
@@ -47,14 +50,15 @@ pub record FirstLike (l : List ℕ) (i r : ℕ) : Type 0 where
   pub first : (j : ℕ) → j < r → at l j ≡ at l i → ⊥
 
 pub record FirstClass (l : List ℕ) (i r : ℕ) : Type 0 where
-  pub symbol : at l i < 128 → r ≡ i
-  pub variable : 128 ≤ at l i → FirstLike l i r
+  pub symbol : at l i < first-variable → r ≡ i
+  pub variable : first-variable ≤ at l i → FirstLike l i r
 
 -- the entries of a table, for each variable's byte b: 0 where no node below i has it, else one more than the first that has
 pub record Firsts (l firsts : List ℕ) (i : ℕ) : Type 0 where
-  pub long : length firsts ≡ 256
-  pub none : (b : ℕ) → 128 ≤ b → b < 256 → at firsts b ≡ 0 → (j : ℕ) → j < i → at l j ≡ b → ⊥
-  pub some : (b : ℕ) → 128 ≤ b → (at firsts b ≡ 0 → ⊥) → (at firsts b ≤ i) × (at l (at firsts b - 1) ≡ b) × ((j : ℕ) → j + 1 < at firsts b → at l j ≡ b → ⊥)
+  pub long : length firsts ≡ byte-values
+  pub none : (b : ℕ) → first-variable ≤ b → b < byte-values → at firsts b ≡ 0 → (j : ℕ) → j < i → at l j ≡ b → ⊥
+  pub some : (b : ℕ) → first-variable ≤ b → (at firsts b ≡ 0 → ⊥) →
+      (at firsts b ≤ i) × (at l (at firsts b - 1) ≡ b) × ((j : ℕ) → j + 1 < at firsts b → at l j ≡ b → ⊥)
 
 -- the classes when the terms at nodes n₁ and n₂ have been joined
 pub record Joined (l tab : List ℕ) (n₁ n₂ : ℕ) (ends cs : List ℕ) : Type 0 where

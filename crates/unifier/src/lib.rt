@@ -3,6 +3,7 @@ mod start;
 
 ghost use Prim.Native.Nat.{_<_, _≤_};
 ghost use lib.ListN.{length};
+ghost use Rattle.limits.specs.Limits.{arena-width};
 ghost use Rattle.classes.specs.Steps.{at, arena, Ready};
 ghost use Rattle.unifier.specs.Result.{LaidOut, SolvedIf, Decided, Formed, IsTerms};
 ghost use Rattle.unifier.specs.Written.{RoomFor, WritesTerms};
@@ -17,7 +18,7 @@ pub fn unify(
     class: &mut [u16],
     sizes: &mut [u8],
 ) -> bool
-    requires { ⌜ (length (now nodes) ≤ 600) × (length (now nodes) ≤ length (now ends)) × (length (now nodes) ≤ length (now class)) × (length (now nodes) ≤ length (now sizes)) ⌝ }
+    requires { ⌜ (length (now nodes) ≤ arena-width) × (length (now nodes) ≤ length (now ends)) × (length (now nodes) ≤ length (now class)) × (length (now nodes) ≤ length (now sizes)) ⌝ }
     requires { ⌜ LaidOut (now nodes) (now table) × (a < length (now nodes)) × (b < length (now nodes)) ⌝ }
     ensures { λ r. ⌜ Decided (now (nodes .entry)) (now (table .entry)) a b r ⌝ }
     ensures { λ r. ⌜ SolvedIf (now (nodes .entry)) (now (table .entry)) a b (now (ends .exit)) (now (class .exit)) (now (sizes .exit)) r ⌝ }
@@ -31,16 +32,16 @@ pub fn unify(
 
 // How many terms stand from a byte b on that `have` terms follow; 0 where b can begin none.
 fn formed(table: &[u8], b: u8, have: usize) -> usize
-    requires { ⌜ have ≤ 600 ⌝ }
+    requires { ⌜ have ≤ arena-width ⌝ }
     ensures { λ r. ⌜ Formed (now (table .entry)) b have r ⌝ }
 {
-    if b >= 160 {
+    if b >= limits::VARIABLES_END {
         return 0;
     }
-    if b >= 128 {
+    if b >= limits::VARIABLE {
         return have + 1;
     }
-    if b >= 16 {
+    if b >= limits::SYMBOLS_END {
         return 0;
     }
     let k = terms::owed_by(table, b);
@@ -50,9 +51,9 @@ fn formed(table: &[u8], b: u8, have: usize) -> usize
     have - k + 1
 }
 
-// Whether the bytes are those of terms, one after the other, with variables below 32: a walk from the last byte to the first.
+// Whether the bytes are those of terms, one after the other, with variables below `most-apart`: a walk from the last byte to the first.
 pub fn laid_out(nodes: &[u8], table: &[u8]) -> bool
-    requires { ⌜ length (now nodes) ≤ 600 ⌝ }
+    requires { ⌜ length (now nodes) ≤ arena-width ⌝ }
     ensures { λ r. ⌜ IsTerms (now (nodes .entry)) (now (table .entry)) r ⌝ }
 {
     let mut have = 0;

@@ -2,13 +2,14 @@
 ghost use mathlib.Core.Path.{_≡_};
 ghost use Prim.Native.Nat.{_+_, _<_, _≤_};
 ghost use lib.ListN.{length, drop};
+ghost use Rattle.limits.specs.Limits.{arena-width};
 ghost use Rattle.terms.specs.Scan.{skip};
 ghost use Rattle.classes.specs.Steps.{Each};
 ghost use Rattle.unifier.specs.Result.{LaidOut, EndAt, EndsFrom, FirstClass, Firsts, Joined};
 
 // Where k subterms end that stand one after the other from p on, by the ends of the nodes there.
 fn hop(nodes: &[u8], table: &[u8], ends: &[u16], p: usize, k: usize) -> usize
-    requires { ⌜ (p ≤ length (now nodes)) × (length (now nodes) ≤ 600) × (length (now nodes) ≤ length (now ends)) ⌝ }
+    requires { ⌜ (p ≤ length (now nodes)) × (length (now nodes) ≤ arena-width) × (length (now nodes) ≤ length (now ends)) ⌝ }
     requires { ⌜ EndsFrom (now nodes) (now table) (now ends) p ⌝ }
     ensures { λ r. ⌜ (r ≡ p + skip (now (table .entry)) (drop p (now (nodes .entry))) k) × (r ≤ length (now (nodes .entry))) ⌝ }
 {
@@ -26,7 +27,7 @@ fn hop(nodes: &[u8], table: &[u8], ends: &[u16], p: usize, k: usize) -> usize
 
 // ends[i] is the node after the subterm of node i: from the last node to the first, since arguments come after their node.
 fn fill_ends(nodes: &[u8], table: &[u8], ends: &mut [u16])
-    requires { ⌜ (length (now nodes) ≤ 600) × (length (now nodes) ≤ length (now ends)) ⌝ }
+    requires { ⌜ (length (now nodes) ≤ arena-width) × (length (now nodes) ≤ length (now ends)) ⌝ }
     ensures { λ r. ⌜ length (now (ends .exit)) ≡ length (now (ends .entry)) ⌝ }
     ensures { λ r. ⌜ Each (EndAt (now (nodes .entry)) (now (table .entry))) (now (ends .exit)) (length (now (nodes .entry))) ⌝ }
 {
@@ -43,7 +44,7 @@ fn first_class(nodes: &[u8], firsts: &[u16], i: usize) -> usize
     requires { ⌜ (i < length (now nodes)) × Firsts (now nodes) (now firsts) i ⌝ }
     ensures { λ r. ⌜ FirstClass (now (nodes .entry)) i r × (r ≤ i) ⌝ }
 {
-    if nodes[i] < 128 {
+    if nodes[i] < limits::VARIABLE {
         return i;
     }
     let b = terms::wide(nodes[i]);
@@ -56,11 +57,11 @@ fn first_class(nodes: &[u8], firsts: &[u16], i: usize) -> usize
 
 // The classes at first: a table has, for each byte, one more than the class of the last node with it.
 fn fill_class(nodes: &[u8], class: &mut [u16])
-    requires { ⌜ (length (now nodes) ≤ 600) × (length (now nodes) ≤ length (now class)) ⌝ }
+    requires { ⌜ (length (now nodes) ≤ arena-width) × (length (now nodes) ≤ length (now class)) ⌝ }
     ensures { λ r. ⌜ length (now (class .exit)) ≡ length (now (class .entry)) ⌝ }
     ensures { λ r. ⌜ Each (FirstClass (now (nodes .entry))) (now (class .exit)) (length (now (nodes .entry))) ⌝ }
 {
-    let mut firsts = [0u16; 256];
+    let mut firsts = [0u16; limits::BYTES];
     let n = nodes.len();
     for i in 0..n {
         let c = first_class(nodes, &firsts, i);
@@ -72,7 +73,7 @@ fn fill_class(nodes: &[u8], class: &mut [u16])
 
 // The ends and the first classes, with the classes of nodes a and b as one.
 pub fn begin(nodes: &[u8], table: &[u8], a: usize, b: usize, ends: &mut [u16], class: &mut [u16])
-    requires { ⌜ (length (now nodes) ≤ 600) × (length (now nodes) ≤ length (now ends)) × (length (now nodes) ≤ length (now class)) ⌝ }
+    requires { ⌜ (length (now nodes) ≤ arena-width) × (length (now nodes) ≤ length (now ends)) × (length (now nodes) ≤ length (now class)) ⌝ }
     requires { ⌜ LaidOut (now nodes) (now table) × (a < length (now nodes)) × (b < length (now nodes)) ⌝ }
     ensures { λ r. ⌜ Joined (now (nodes .entry)) (now (table .entry)) a b (now (ends .exit)) (now (class .exit)) ⌝ }
 {

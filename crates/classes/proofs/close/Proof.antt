@@ -1,7 +1,8 @@
 -- `close`: passes over the nodes; the classes stay right, and where a pass has joined nothing the nodes before i are closed. Assumes nothing. A join
 -- lowers the sum of keys, else the pass goes on: `left-over` falls.
 -- Read first: specs/Steps (ClosedTo), proofs/Closing (Closing).
-use Rattle.classes.proofs.Closing.{Closing, left-over, closing-start, closing-done, closing-again, closing-rounds, closing-next, closing-falls, closing-clash, closing-requires, closing-more, closing-less}
+use Rattle.classes.proofs.Closing.{Closing, left-over, closing-start, closing-done, closing-again, closing-rounds, closing-next, closing-falls}
+use Rattle.classes.proofs.Closing.{closing-clash, closing-requires, closing-more, closing-less}
 use borrow.Author.Needs.{needs}
 use Rattle.classes.proofs.close.Statement.{statement}
 use Rattle.classes.proofs.close.Tie as tie

@@ -1,7 +1,8 @@
 -- `fill_sizes`: passes from the last node; sizes found are right, where a pass has found none no node from i on can have one, and where it has lost
 -- none each of them has one. Assumes nothing. A size found lowers the count of noughts, else the pass goes on: `size-left` falls.
 -- Read first: specs/Sizes (SizedTo), proofs/Sizing (Sizing).
-use Rattle.sizing.proofs.Sizing.{Sizing, size-left, sizing-start, sizing-all, sizing-circle, sizing-again, sizing-rounds, sizing-falls, sizing-room, sizing-requires, sizing-old, sizing-lost, sizing-found, sizing-fewer}
+use Rattle.sizing.proofs.Sizing.{Sizing, size-left, sizing-start, sizing-all, sizing-circle, sizing-again, sizing-rounds, sizing-falls, sizing-room}
+use Rattle.sizing.proofs.Sizing.{sizing-requires, sizing-old, sizing-lost, sizing-found, sizing-fewer}
 use native.Mathlib.Omega.{arith}
 use borrow.Author.Needs.{needs}
 use Rattle.sizing.proofs.fill_sizes.Statement.{statement}

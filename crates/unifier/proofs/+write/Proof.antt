@@ -5,7 +5,8 @@ use borrow.Author.Needs.{needs}
 use Prim.Native.Nat.{ℕ, _<_, _-_}
 use native.Mathlib.Omega.{arith}
 use lib.ListN.{length, length-set}
-use Rattle.unifier.proofs.Writing.{writes-none, room-class, room-node, room-ends, room-root, room-byte, room-first, room-second, next-above, next-long, writes-all}
+use Rattle.unifier.proofs.Writing.{writes-none, room-class, room-node, room-ends, room-root, room-byte, room-first, room-second, next-above, next-long}
+use Rattle.unifier.proofs.Writing.{writes-all}
 use borrow.Fn.Kinds.{In}
 use borrow.Fn.PlainCycle.{Measures, is, falls, and}
 use Rattle.unifier.proofs.write.Reads as write
