@@ -1,1 +1,5 @@
 pub mod Numbers
+pub mod Reading
+pub mod Fields
+pub mod Tables
+pub mod Scanned
