@@ -3,3 +3,4 @@ pub mod Reading
 pub mod Fields
 pub mod Tables
 pub mod Scanned
+pub mod Standing
