@@ -45,9 +45,9 @@ write-run o rules log left right before after r ql qr W tab waiting f I =
     })
 
 -- `accepted`
-pub accepted-run : (l : List ℕ) (e b n : ℕ) (slots lens slots′ lens′ rules waiting log before after : List ℕ) (o : Ran) (r : ℕ) → Filled l e n slots lens slots′ lens′ →
-    Runs (take (e - 3) (drop 3 l)) slots′ lens′ n b o (whole (o .state) rules waiting log) → WritesRun o rules log before after r → WritesProblem l e b n before after r
-accepted-run l e b n slots lens slots′ lens′ rules waiting log before after o r F R W P A =
+pub accepted-run : (l : List ℕ) (e b at n : ℕ) (slots lens slots′ lens′ rules waiting log before after : List ℕ) (o : Ran) (r : ℕ) → Filled l e at n slots lens slots′ lens′ →
+    Runs (take (e - 3) (drop 3 l)) slots′ lens′ n b o (whole (o .state) rules waiting log) → WritesRun o rules log before after r → WritesProblem l e b at n before after r
+accepted-run l e b at n slots lens slots′ lens′ rules waiting log before after o r F R W P A =
     let G : Given (take (e - 3) (drop 3 l)) slots′ lens′ n P =
     record { ranks = ap rank-of (A .symbols-are) ∙ ranks-are (take (e - 3) (drop 3 l)) (A .table .table); stored = F .stored b P A; counted = sym (A .number) } in
     W (take (e - 3) (drop 3 l)) waiting (run P) (R .answer P G (sym (A .budget-is)))
@@ -59,13 +59,13 @@ pub record Needs (l : List ℕ) (e b n : ℕ) : Type 0 where
   pub few : n ≤ 16
   pub budget : b ≤ 1000000
 
-pub accepted-needs : (l : List ℕ) (e b n : ℕ) → ((P : Problem) × ParsedAt l e b n P) → Needs l e b n
-accepted-needs l e b n (P, A) =
+pub accepted-needs : (l : List ℕ) (e b at n : ℕ) → ((P : Problem) × ParsedAt l e b at n P) → Needs l e b n
+accepted-needs l e b at n (P, A) =
     record {
       low = omega (arith, A .table .low);
       within = A .table .within;
       small = omega (arith, A .small);
-      few = parsed-few l e b n P A;
+      few = parsed-few l e b at n P A;
       budget = omega (arith, A .budget-is, accepts l P (A .is) .budget-few);
     }
 

@@ -63,5 +63,5 @@ module _ (before after : List ℕ) (r : ℕ) where
       (W _ refl refl refl refl (λ e k. zero≢one (cc)))
 
 -- `accepted`
-pub accepted-empty : (l : List ℕ) (e b n : ℕ) (before after : List ℕ) (r : ℕ) → n ≡ 0 → WritesEmpty b before after r → WritesProblem l e b n before after r
-accepted-empty l e b n before after r z W P A = W P (nothing (P .equations) (A .number ∙ z)) (A .budget-is)
+pub accepted-empty : (l : List ℕ) (e b at n : ℕ) (before after : List ℕ) (r : ℕ) → n ≡ 0 → WritesEmpty b before after r → WritesProblem l e b at n before after r
+accepted-empty l e b at n before after r z W P A = W P (nothing (P .equations) (A .number ∙ z)) (A .budget-is)

@@ -44,5 +44,5 @@ abbrev pub WritesEmpty : ℕ → List ℕ → List ℕ → ℕ → Type 0
 WritesEmpty b before after r = (P : Problem) → P .equations ≡ [] → P .budget ≡ b → Writes before (result-bytes (run P)) after r
 
 -- `accepted`
-abbrev pub WritesProblem : List ℕ → ℕ → ℕ → ℕ → List ℕ → List ℕ → ℕ → Type 0
-WritesProblem l e b n before after r = (P : Problem) → ParsedAt l e b n P → Writes before (result-bytes (run P)) after r
+abbrev pub WritesProblem : List ℕ → ℕ → ℕ → ℕ → ℕ → List ℕ → List ℕ → ℕ → Type 0
+WritesProblem l e b at n before after r = (P : Problem) → ParsedAt l e b at n P → Writes before (result-bytes (run P)) after r

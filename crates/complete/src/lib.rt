@@ -74,20 +74,21 @@ fn write_empty(budget: usize, result: &mut [u8]) -> usize
 fn accepted(
     problem: &[u8],
     table_end: usize,
+    equations: usize,
     count: usize,
     budget: usize,
     result: &mut [u8],
 ) -> usize
     requires { ⌜ (3 ≤ «table_end») × («table_end» ≤ length (now problem)) × (length (now problem) ≤ 65536) ⌝ }
     requires { ⌜ (count ≤ 16) × (budget ≤ 1000000) × (13726 ≤ length (now result)) ⌝ }
-    ensures { λ r. ⌜ WritesProblem (now (problem .entry)) «table_end» budget count (now (result .entry)) (now (result .exit)) r ⌝ }
+    ensures { λ r. ⌜ WritesProblem (now (problem .entry)) «table_end» budget equations count (now (result .entry)) (now (result .exit)) r ⌝ }
 {
     if count == 0 {
         return write_empty(budget, result);
     }
     let mut slots = [0u8; 3840];
     let mut lens = [0u8; 32];
-    inputs::fill(problem, table_end, count, &mut slots, &mut lens);
+    inputs::fill(problem, table_end, equations, count, &mut slots, &mut lens);
     let mut rules = [0u8; 7920];
     let mut waiting = [0u8; 7920];
     let mut log = [0u8; 5632];
@@ -123,9 +124,10 @@ pub fn complete(problem: &[u8], result: &mut [u8]) -> Completed
         problem::Input::Fine {
             table_end,
             budget,
+            equations,
             count,
         } => {
-            let n = accepted(problem, table_end, count, budget, result);
+            let n = accepted(problem, table_end, equations, count, budget, result);
             Completed::Written(n)
         }
     }

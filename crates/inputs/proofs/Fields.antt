@@ -20,8 +20,8 @@ use Rattle.store.specs.Slots.{SlotRoom}
 use Rattle.store.proofs.Listing.{layout-of, layout-more, stored-none, stored-behind}
 use Rattle.inputs.specs.Inputs.{PairAt, PutEquation, Filled}
 
-sides-at : (n : ℕ) (tab : List ℕ) (T : Table tab) (l : List ℕ) (at : ℕ) (q : Equation) → Both tab T l at q → HeldPair n 16 (q .sides) → PairAt tab l (at + 3) (q .sides)
-sides-at n tab T l at q b h =
+sides-at : (n : ℕ) (tab : List ℕ) (T : Table tab) (l : List ℕ) (at e : ℕ) (q : Equation) → Both tab T l at e q → HeldPair n 16 (q .sides) → PairAt tab l (at + 3) (q .sides)
+sides-at n tab T l at e q b h =
     let x : Term = q .sides .left in
     let rest-is : b .left .rest ≡ drop (at + 3 + size x) l =
     sym (drop-at (term-bytes x) (b .left .rest) (size x) (length-bytes x)) ∙ ap (drop (size x)) (sym (b .left .bytes)) ∙ drop-drop (size x) (at + 3) l in
@@ -44,15 +44,15 @@ laid-fields : (n : ℕ) (tab : List ℕ) (T : Table tab) (l : List ℕ) (at : �
 unfolding Laid InFields
 laid-fields n tab T l at [] h of-none = tt
 laid-fields n tab T l at (q ∷ es) h (of-cons k ks) =
-    (h .0, h .1, sides-at n tab T l at q (h .4) k, laid-fields n tab T l (h .0) es (h .5) ks)
+    (h .0, h .1, sides-at n tab T l at (h .0) q (h .4) k, laid-fields n tab T l (h .0) es (h .5) ks)
 
-pub parsed-fields : (l : List ℕ) (e b n : ℕ) (P : Problem) → ParsedAt l e b n P →
-    InFields (take (e - 3) (drop 3 l)) l (e + 7) (map (λ (q : Equation). q .sides) (P .equations))
-parsed-fields l e b n P A =
-    laid-fields (length (P .symbols)) (take (e - 3) (drop 3 l)) (A .table .table) l (e + 7) (P .equations) (parsed-laid l e b n P A) (accepts l P (A .is) .equations-fit)
+pub parsed-fields : (l : List ℕ) (e b at n : ℕ) (P : Problem) → ParsedAt l e b at n P →
+    InFields (take (e - 3) (drop 3 l)) l at (map (λ (q : Equation). q .sides) (P .equations))
+parsed-fields l e b at n P A =
+    laid-fields (length (P .symbols)) (take (e - 3) (drop 3 l)) (A .table .table) l at (P .equations) (parsed-laid l e b at n P A) (accepts l P (A .is) .equations-fit)
 
-pub parsed-few : (l : List ℕ) (e b n : ℕ) (P : Problem) → ParsedAt l e b n P → n ≤ 16
-parsed-few l e b n P A = omega (arith, A .number, accepts l P (A .is) .equations-few)
+pub parsed-few : (l : List ℕ) (e b at n : ℕ) (P : Problem) → ParsedAt l e b at n P → n ≤ 16
+parsed-few l e b at n P A = omega (arith, A .number, accepts l P (A .is) .equations-few)
 
 -- the first k are in their slots, and the rest is laid out from i on
 pub record Split (tab l bytes lens : List ℕ) (k i : ℕ) (ps : List Pair) : Type 0 where
@@ -111,15 +111,15 @@ whole : (tab l bytes lens : List ℕ) (i : ℕ) (ps first rest : List Pair) → 
 whole tab l bytes lens i ps first [] e n s = subst (λ z. Stored tab bytes lens 0 (map renamed z)) (sym (e ∙ append-nil first)) s
 whole tab l bytes lens i ps first (p ∷ rest) e n s = absurd (omega (arith, n, ap length e, length-append first (p ∷ rest)))
 
-pub fill-end : (l : List ℕ) (e count : ℕ) (b₀ l₀ bytes lens : List ℕ) (k i : ℕ) → SoFar (take (e - 3) (drop 3 l)) l (e + 7) b₀ l₀ bytes lens k i → k ≡ count → Filled l e count b₀ l₀ bytes lens
-fill-end l e count b₀ l₀ bytes lens k i s n = record {
+pub fill-end : (l : List ℕ) (e at count : ℕ) (b₀ l₀ bytes lens : List ℕ) (k i : ℕ) → SoFar (take (e - 3) (drop 3 l)) l at b₀ l₀ bytes lens k i → k ≡ count → Filled l e at count b₀ l₀ bytes lens
+fill-end l e at count b₀ l₀ bytes lens k i s n = record {
   same-bytes = s .same-bytes;
   same-lengths = s .same-lengths;
   layout = subst (Layout (take (e - 3) (drop 3 l)) bytes lens) n (s .layout);
   stored = λ b P A.
       let ps : List Pair = map (λ (q : Equation). q .sides) (P .equations) in
       let m : length ps ≡ k = length-map (P .equations) (λ (q : Equation). q .sides) ∙ A .number ∙ sym n in
-      let t = s .split ps (parsed-fields l e b count P A) (omega (arith, m)) in
+      let t = s .split ps (parsed-fields l e b at count P A) (omega (arith, m)) in
       subst (Stored (take (e - 3) (drop 3 l)) bytes lens 0) (map-map renamed (λ (q : Equation). q .sides) (P .equations))
       (whole (take (e - 3) (drop 3 l)) l bytes lens i ps (t .first) (t .rest) (t .is) (t .number ∙ sym m) (t .stored));
 }

@@ -49,8 +49,8 @@ abbrev pub inputs-of : Problem → List Pair
 inputs-of P = map (λ (e : Equation). renamed (e .sides)) (P .equations)
 
 -- `fill`
-pub record Filled (l : List ℕ) (table-end count : ℕ) (bytes lens bytes′ lens′ : List ℕ) : Type 0 where
+pub record Filled (l : List ℕ) (table-end at count : ℕ) (bytes lens bytes′ lens′ : List ℕ) : Type 0 where
   pub same-bytes : length bytes′ ≡ length bytes
   pub same-lengths : length lens′ ≡ length lens
   pub layout : Layout (take (table-end - 3) (drop 3 l)) bytes′ lens′ count
-  pub stored : (budget : ℕ) (P : Problem) → ParsedAt l table-end budget count P → Stored (take (table-end - 3) (drop 3 l)) bytes′ lens′ 0 (inputs-of P)
+  pub stored : (budget : ℕ) (P : Problem) → ParsedAt l table-end budget at count P → Stored (take (table-end - 3) (drop 3 l)) bytes′ lens′ 0 (inputs-of P)

@@ -77,13 +77,20 @@ fn put_equation(
     }
 }
 
-// The problem's equations, each renamed, in slots 0 .. count - 1. The table ends at `table_end`, and the equation fields start behind the budget field.
-pub fn fill(problem: &[u8], table_end: usize, count: usize, bytes: &mut [u8], lens: &mut [u8])
+// The problem's equations, each renamed, in slots 0 .. count - 1. The table ends at `table_end`, and the equation fields start at `equations`.
+pub fn fill(
+    problem: &[u8],
+    table_end: usize,
+    equations: usize,
+    count: usize,
+    bytes: &mut [u8],
+    lens: &mut [u8],
+)
     requires { ⌜ (3 ≤ «table_end») × («table_end» ≤ length (now problem)) × (length (now problem) ≤ 65536) ⌝ }
     requires { ⌜ (240 * count ≤ length (now bytes)) × (2 * count ≤ length (now lens)) × (count ≤ 33) ⌝ }
-    ensures { λ _. ⌜ Filled (now (problem .entry)) «table_end» count (now (bytes .entry)) (now (lens .entry)) (now (bytes .exit)) (now (lens .exit)) ⌝ }
+    ensures { λ _. ⌜ Filled (now (problem .entry)) «table_end» equations count (now (bytes .entry)) (now (lens .entry)) (now (bytes .exit)) (now (lens .exit)) ⌝ }
 {
-    let mut i = table_end + 7;
+    let mut i = equations;
     for k in 0..count {
         i = put_equation(problem, &problem[3..table_end], i, bytes, lens, k);
     }

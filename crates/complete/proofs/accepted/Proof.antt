@@ -27,7 +27,7 @@ entry-of-run at = entry-of-fill (fill-of-run at)
 returns : tie.Need-returns
 returns c =
     let in-then1 : tie.Then1 = search depth 0 in
-    accepted-empty _ _ _ _ _ _ _ (let p = in-then1 .if1 .taken in omega arith) (c .before .before .write-empty .ensures)
+    accepted-empty _ _ _ _ _ _ _ _ (let p = in-then1 .if1 .taken in omega arith) (c .before .before .write-empty .ensures)
 
 write-requires : tie.Need-write-requires
 write-requires c κs =
@@ -41,7 +41,7 @@ returns-2 : tie.Need-returns-2
 returns-2 c =
     let at-run : tie.After-run = search depth 0 in
     let at-fill = fill-of-run at-run in
-    accepted-run _ _ _ _ _ _ _ _ _ _ _ _ _ _ _ (at-fill .fill .ensures) (at-run .run .ensures) (c .before .before .write .ensures)
+    accepted-run _ _ _ _ _ _ _ _ _ _ _ _ _ _ _ _ (at-fill .fill .ensures) (at-run .run .ensures) (c .before .before .write .ensures)
 
 pub accepted-spec : {M : Type 1} → statement M
 accepted-spec =

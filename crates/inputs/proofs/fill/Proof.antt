@@ -9,11 +9,11 @@ use Rattle.inputs.proofs.fill.Statement.{statement}
 use Rattle.inputs.proofs.fill.Tie as tie
 
 abbrev Inv-loop : tie.InvT-loop
-Inv-loop problem table-end count bytes₀ lens₀ i₀ k₀ bytes lens i k =
-    (k ≤ count) × SoFar (take (table-end - 3) (drop 3 problem)) problem (table-end + 7) bytes₀ lens₀ bytes lens k i
+Inv-loop problem table-end equations count bytes₀ lens₀ i₀ k₀ bytes lens i k =
+    (k ≤ count) × SoFar (take (table-end - 3) (drop 3 problem)) problem equations bytes₀ lens₀ bytes lens k i
 
 abbrev μ-loop : tie.MeasureT-loop
-μ-loop problem table-end count bytes₀ lens₀ i₀ k₀ bytes lens i k = count - k
+μ-loop problem table-end equations count bytes₀ lens₀ i₀ k₀ bytes lens i k = count - k
 
 loop-holds : tie.Need-loop-holds Inv-loop μ-loop
 loop-holds c = (search needs, fill-start _ _ _ _ _)
@@ -50,7 +50,7 @@ same-length-2 c = c .before .loop .inv .1 .same-lengths
 returns : tie.Need-returns Inv-loop μ-loop
 returns c =
     let at-loop : tie.At-loop Inv-loop μ-loop = search depth 0 in
-    fill-end _ _ _ _ _ _ _ _ _ (at-loop .loop .inv .1) (let a = at-loop .loop .inv .0 in let b = c .loop-test .left in omega arith)
+    fill-end _ _ _ _ _ _ _ _ _ _ (at-loop .loop .inv .1) (let a = at-loop .loop .inv .0 in let b = c .loop-test .left in omega arith)
 
 pub fill-spec : {M : Type 1} → statement M
 fill-spec =
@@ -58,7 +58,6 @@ fill-spec =
     (tie.spec
     Inv-loop
     μ-loop
-    (λ c. search needs)
     loop-holds
     (λ c. search needs)
     (λ c. search needs)
