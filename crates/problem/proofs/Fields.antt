@@ -10,7 +10,7 @@ use lib.ListN.{length, take, drop, length-take, length-drop, drop-of-length-le}
 use borrow.Author.Tests.{lt-ltb, le-ltb, eq-eqb, ne-eqb, eqb-true, not-false}
 use Rattle.terms.proofs.Lists.{take-drop}
 use Rattle.terms.specs.Base.{number-from}
-use Rattle.reading.specs.Answers.{wrong-length, SymbolsAre}
+use Rattle.reading.specs.Answers.{WholeAt, wrong-length, SymbolsAre}
 use Rattle.reading.proofs.Reading.{from-bind, passed, no-ok, ok-injective, bind-ok, bind-refused}
 use Rattle.problem.specs.Problem.{ok, refused, _>>=_, refuse-if, ReadField, read-field, due, read-symbols, symbol-field, budget-field}
 use Rattle.problem.specs.Parser.{field-at, symbols-of, SymbolsAt}
@@ -43,14 +43,14 @@ module _ (tag : ℕ) (l : List ℕ) (at : ℕ) where
     pub due-cut : read-field at (drop at l) ≡ refused 3 at → due tag at (drop at l) ≡ refused 3 at
     due-cut e = due-is ∙ bind-refused _ e
 
-    module _ (found start e : ℕ) (F : (read-field at (drop at l) ≡ ok (field-at found l at e)) × (start ≡ at + 3) × (start ≤ e) × (e ≤ length l)) where
+    module _ (found start e : ℕ) (F : WholeAt l at found start e) where
       pub due-other-tag : (found ≡ tag → ⊥) → due tag at (drop at l) ≡ refused 4 at
       unfolding field-at _>>=_ refuse-if
-      due-other-tag t = due-is ∙ bind-ok _ (F .0) ∙ rw (ne-eqb found tag t) refl
+      due-other-tag t = due-is ∙ bind-ok _ (F .read) ∙ rw (ne-eqb found tag t) refl
 
       pub due-fine : found ≡ tag → (due tag at (drop at l) ≡ ok (field-at tag l at e)) × (at + 3 ≤ e) × (e ≤ length l)
       unfolding field-at _>>=_ refuse-if
-      due-fine t = (due-is ∙ bind-ok _ (F .0) ∙ rw (t, eq-eqb tag tag refl) refl, omega (arith, F .1, F .2), F .3)
+      due-fine t = (due-is ∙ bind-ok _ (F .read) ∙ rw (t, eq-eqb tag tag refl) refl, omega (arith, F .starts, F .low), F .within)
 
 pub contents-length : (tag : ℕ) (l : List ℕ) (at e : ℕ) → e ≤ length l → length (field-at tag l at e .contents) ≡ e - (at + 3)
 unfolding field-at

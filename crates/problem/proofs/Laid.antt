@@ -2,9 +2,9 @@
 -- Read first: specs/Parser, proofs/Sides.
 use mathlib.Core.Path.{_≡_, refl, ap, sym, _∙_}
 use mathlib.Core.List.{List, [], _∷_}
-use Prim.Native.Nat.{ℕ, zero, suc, _+_, _-_, _*_, _<_, _≤_}
+use Prim.Native.Nat.{ℕ, zero, suc, _+_, _-_, _≤_}
 use native.Mathlib.Omega.{arith}
-use lib.ListN.{length, take, drop, getD, length-drop}
+use lib.ListN.{length, take, drop, length-drop}
 use Rattle.problem.specs.Problem.{ok, ReadField, due, Equation, equation-field, equation-fields, Problem}
 use Rattle.problem.specs.Parser.{field-at, symbols-of, Table, ParsedAt}
 use Rattle.reading.proofs.Reading.{from-bind, no-ok, ok-injective}

@@ -1,14 +1,14 @@
 -- An equation field is a pair that fills its contents: a lemma for each return of `equation`. Assumes nothing.
 -- Read first: specs/Parser, reading/specs/Answers (read-pair, PairAt).
-use mathlib.Core.Path.{_≡_, refl, ap, _∙_}
+use mathlib.Core.Path.{_≡_, refl, _∙_}
 use mathlib.Core.List.{List, [], _∷_}
 use Prim.Native.Nat.{ℕ, zero, suc, _+_, _-_, _<_, _≤_}
 use native.Mathlib.Omega.{arith}
 use lib.ListN.{length, drop, length-drop}
 use Rattle.terms.specs.Term.{Pair}
 use Rattle.reading.specs.Answers.{between, read-pair, PairAt}
-use Rattle.reading.proofs.Reading.{bind-ok, bind-refused, from-bind, ok-injective}
-use Rattle.problem.specs.Problem.{Reading, ok, refused, _>>=_, ReadField, due, Symbol, Equation, equation-field, equation-fields}
+use Rattle.reading.proofs.Reading.{bind-ok, bind-refused}
+use Rattle.problem.specs.Problem.{Reading, ok, refused, _>>=_, ReadField, due, Symbol, equation-field, equation-fields}
 use Rattle.problem.specs.Parser.{field-at, symbols-of, FieldAt}
 
 -- what is done with the pair may be done behind it

@@ -6,7 +6,7 @@ use Prim.Native.Nat.{ℕ, zero, suc, _+_, _-_, _<_, _≤_}
 use native.Mathlib.Omega.{arith}
 use lib.ListN.{length, take, drop, length-append, length-drop, length-take, drop-of-length-le}
 use borrow.Author.Tests.{lt-ltb, le-ltb}
-use Rattle.problem.specs.Problem.{Reading, ok, refused, _>>=_, refuse-if, ReadField, due, Symbol, symbol-field, budget-field, Equation, equation-fields, Problem, parse}
+use Rattle.problem.specs.Problem.{Reading, ok, refused, _>>=_, refuse-if, due, Symbol, symbol-field, budget-field, Equation, equation-fields, Problem, parse}
 use Rattle.problem.specs.Parser.{field-at, symbols-of, SymbolsAt, FieldAt, parse-rest, RestAt, IsParsed, parsed-of}
 use Rattle.problem.specs.declared.Input.{Input}
 use Rattle.problem.specs.declared.Input.the-variants.{Fine, Refused as Bad}
@@ -83,7 +83,8 @@ module _ (tab l : List ℕ) (at : ℕ) where
       unfolding parse-rest field-at
       behind = bind-ok _ (d .0) ∙ bind-ok _ (B .0)
 
-      pub rest-equations-refused : (n p : ℕ) → equation-fields (symbols-of tab) 16 e (drop e l) ≡ refused n p → parse-rest (symbols-of tab) at (drop at l) ≡ refused n p
+      pub rest-equations-refused : (n p : ℕ) → equation-fields (symbols-of tab) 16 e (drop e l) ≡ refused n p →
+          parse-rest (symbols-of tab) at (drop at l) ≡ refused n p
       rest-equations-refused n p q = behind ∙ bind-refused _ q
 
       pub rest-fine : (n : ℕ) → ((es : List Equation) × (equation-fields (symbols-of tab) 16 e (drop e l) ≡ ok es) × (length es ≡ n)) →

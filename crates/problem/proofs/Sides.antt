@@ -2,7 +2,7 @@
 -- Read first: reading/proofs/Standing, proofs/Pairs, terms/specs/Flat.
 use mathlib.Core.Path.{_≡_, refl, ap, sym, _∙_, subst}
 use mathlib.Core.List.{List, [], _∷_, _++_, append-assoc}
-use Prim.Native.Nat.{ℕ, suc, _+_, _<_, _≤_}
+use Prim.Native.Nat.{ℕ, suc, _+_, _≤_}
 use native.Mathlib.Omega.{arith}
 use lib.ListN.{length, take, drop, length-take, length-drop, length-append, take-append-drop}
 use lib.Seq.{drop-append-le, drop-at, drop-drop}
@@ -37,7 +37,15 @@ module _ (tab : List ℕ) (T : Table tab) where
         ∙ ap (λ (m : List ℕ). m ++ drop e l) (P .filled) ∙ append-assoc (term-bytes x) (term-bytes y) (drop e l) in
         record {
           first-is = refl;
-          end-is = omega (arith, ap length (P .filled), length-append (term-bytes x) (term-bytes y), length-bytes x, length-bytes y, length-drop (at + 3) (take e l), length-take e l);
+          end-is = omega (
+            arith,
+            ap length (P .filled),
+            length-append (term-bytes x) (term-bytes y),
+            length-bytes x,
+            length-bytes y,
+            length-drop (at + 3) (take e l),
+            length-take e l,
+          );
           left-wf = P .left-wf;
           right-wf = P .right-wf;
           left = record { wf = widen 16 32 tab x (omega arith) (P .left-wf); rest = term-bytes y ++ drop e l; bytes = f };

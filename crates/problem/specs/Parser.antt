@@ -4,7 +4,7 @@ use mathlib.Core.Path.{_≡_}
 use mathlib.Core.List.{List}
 use Prim.Native.Nat.{ℕ, _+_, _-_, _≤_}
 use lib.ListN.{length, take, drop}
-use Rattle.limits.specs.Limits.{most-equations, most-problem, most-budget}
+use Rattle.limits.specs.Limits.{most-equations, most-problem}
 use Rattle.problem.specs.Problem.{Reading, ok, refused, _>>=_, due, Symbol, symbol-field, budget-field, Equation, equation-field, equation-fields, Problem, parse}
 use Rattle.problem.specs.declared.Input.{Input}
 use Rattle.problem.specs.declared.Input.the-variants.{Fine, Refused as Bad}

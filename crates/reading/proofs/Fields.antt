@@ -2,11 +2,10 @@
 -- Assumes nothing.
 -- Read first: specs/Forms (read-field), specs/Answers (field-at, IsField), terms/proofs/Numerals (number-back).
 use mathlib.Core.Path.{_≡_, refl, ap, sym, _∙_}
-use mathlib.Core.List.{List, [], _∷_, _++_, append-assoc}
+use mathlib.Core.List.{List, [], _∷_, _++_}
 use Prim.Native.Nat.{ℕ, _+_, _-_, _<_, _≤_}
 use native.Mathlib.Omega.{arith}
 use native.Mathlib.Nat.{add-zero}
-use lib.Dec.{ltb}
 use lib.ListN.{length, take, drop, getD, length-drop, length-append}
 use lib.Seq.{take-at, drop-at, drop-drop, getD-drop}
 use borrow.Author.Tests.{lt-ltb, le-ltb, ltb-false}
@@ -14,7 +13,7 @@ use Rattle.terms.specs.Base.{number-bytes, number-from, Field, field-bytes}
 use Rattle.terms.proofs.Lists.{take-drop}
 use Rattle.terms.proofs.Numerals.{number-back}
 use Rattle.reading.specs.Forms.{ok, refused, _>>=_, refuse-if, ReadField, read-field}
-use Rattle.reading.specs.Answers.{field-at}
+use Rattle.reading.specs.Answers.{field-at, WholeAt}
 use Rattle.reading.proofs.Reading.{from-bind, passed, no-ok, ok-injective}
 
 -- the length that the header says: m is what is left at `at`
@@ -37,7 +36,13 @@ module _ (at : ℕ) where
   over (a ∷ b ∷ d ∷ m) h k = rw (lt-ltb (length m) (said (a ∷ b ∷ d ∷ m)) (omega arith)) refl
 
   whole : (m : List ℕ) → 3 ≤ length m → said m ≤ length m - 3 →
-      read-field at m ≡ ok (record { first = at; tag = getD m 0 0; contents = take (said m) (drop 3 m); end = at + 3 + said m; rest = drop (said m) (drop 3 m) })
+      read-field at m ≡ ok (record {
+        first = at;
+        tag = getD m 0 0;
+        contents = take (said m) (drop 3 m);
+        end = at + 3 + said m;
+        rest = drop (said m) (drop 3 m);
+      })
   unfolding read-field _>>=_ refuse-if
   whole [] h k = absurd (omega arith)
   whole (a ∷ []) h k = absurd (omega arith)
@@ -55,16 +60,15 @@ module _ (l : List ℕ) (at : ℕ) where
     pub field-over : length l - at - 3 < n → read-field at (drop at l) ≡ refused 3 at
     field-over k = over at (drop at l) (omega (arith, length-drop at l)) (omega (arith, length-drop at l, said-is))
 
-    pub field-whole : n ≤ length l - at - 3 →
-        (read-field at (drop at l) ≡ ok (field-at (getD l at 0) l at (at + 3 + n))) × (at + 3 ≡ at + 3) × (at + 3 ≤ at + 3 + n) × (at + 3 + n ≤ length l)
-    unfolding field-at
-    field-whole k = (
-      whole at (drop at l) (omega (arith, length-drop at l)) (omega (arith, length-drop at l, said-is))
-          ∙ rw (said-is, getD-drop at l 0 0, add-zero at, drop-drop 3 at l, take-drop (at + 3) n l, drop-drop n (at + 3) l) refl,
-      refl,
-      omega arith,
-      omega arith,
-    )
+    module _ (k : n ≤ length l - at - 3) where
+      reads : read-field at (drop at l) ≡ ok (field-at (getD l at 0) l at (at + 3 + n))
+      unfolding field-at
+      reads =
+          whole at (drop at l) (omega (arith, length-drop at l)) (omega (arith, length-drop at l, said-is))
+          ∙ rw (said-is, getD-drop at l 0 0, add-zero at, drop-drop 3 at l, take-drop (at + 3) n l, drop-drop n (at + 3) l) refl
+
+      pub field-whole : n < 65536 → WholeAt l at (getD l at 0) (at + 3) (at + 3 + n)
+      field-whole f = record { read = reads; starts = refl; low = omega arith; within = omega arith; short = omega arith }
 
 -- what is read is the field of the bytes from its first place to its end
 pub record FieldIs (l : List ℕ) (at : ℕ) (f : ReadField) : Type 0 where
@@ -88,8 +92,8 @@ field-is l at f h = go (drop at l) refl h
         let fits : n ≤ length m = ltb-false (length m) n (passed _ 3 at u p) in
         let long : length (drop at l) ≡ 3 + length m = ap length e ∙ omega arith in
         let i : n ≡ number-from 0 (take 2 (drop (at + 1) l)) = sym (ap (λ (z : List ℕ). number-from 0 (take 2 z)) (sym (drop-drop 1 at l) ∙ ap (drop 1) e)) in
-        let w = field-whole l at n (omega (arith, length-drop at l)) i (omega (arith, length-drop at l)) in
-        record { tag = getD l at 0; end = at + 3 + n; is = ok-injective (sym h ∙ w .0); low = w .2; within = w .3 }
+        let w = reads l at n (omega (arith, length-drop at l)) i (omega (arith, length-drop at l)) in
+        record { tag = getD l at 0; end = at + 3 + n; is = ok-injective (sym h ∙ w); low = omega arith; within = omega (arith, length-drop at l) }
 
 -- a field that is written is read back, whatever stands behind it
 pub field-back : (at : ℕ) (f : Field) (more : List ℕ) → length (f .contents) < 65_536 →

@@ -4,3 +4,4 @@ pub mod Fields
 pub mod Tables
 pub mod Scanned
 pub mod Standing
+pub mod Ordered

@@ -119,7 +119,8 @@ module _ (Σ : List Symbol) where
   reads (suc depth) at [] p e = absurd (no-ok e)
   reads (suc depth) at (b ∷ bytes) p e = go (byte-of Σ b) refl (byte-is Σ b) (λ at bytes p e. reads depth at bytes p e)
     where
-      go : (k : Byte) → byte-of Σ b ≡ k → ByteIs Σ b (byte-of Σ b) → ((at : ℕ) (bytes : List ℕ) (p : ReadPart Term) → read-term Σ depth at bytes ≡ ok p → ReadsTo at bytes p) → ReadsTo at (b ∷ bytes) p
+      go : (k : Byte) → byte-of Σ b ≡ k → ByteIs Σ b (byte-of Σ b) →
+          ((at : ℕ) (bytes : List ℕ) (p : ReadPart Term) → read-term Σ depth at bytes ≡ ok p → ReadsTo at bytes p) → ReadsTo at (b ∷ bytes) p
       go (symbol f) k i ih =
           let j : ByteIs Σ b (symbol f) = rw k at i in
           from-bind _ _ p (rw (k, read-term) at e) λ ts e₁ e₂.
@@ -180,7 +181,8 @@ module _ (Σ : List Symbol) (few : length Σ ≤ 16) where
     read-back (node f ts) (suc d) at end rest o n h e =
         node-step f ts d at end (terms-bytes ts ++ rest) rest (o .0) (o .1) (read-back-all ts d (at + 1) end rest (o .2) (n .1) (omega arith) (omega arith))
 
-    pub read-back-all : (ts : Terms) (depth at end : ℕ) (rest : List ℕ) → OverAll Σ ts → MadeAll (λ f. f < length Σ) (λ x. x < 16) ts → sizes ts ≤ depth → end ≡ at + sizes ts →
+    pub read-back-all : (ts : Terms) (depth at end : ℕ) (rest : List ℕ) → OverAll Σ ts →
+        MadeAll (λ f. f < length Σ) (λ x. x < 16) ts → sizes ts ≤ depth → end ≡ at + sizes ts →
         read-terms (λ at bytes. read-term Σ depth at bytes) (count ts) at (terms-bytes ts ++ rest) ≡ ok (record { part = ts; end = end; rest = rest })
     read-back-all nil depth at end rest o n h e = nil-step depth at end rest (omega arith)
     read-back-all (cons t ts) depth at end rest o n h e =

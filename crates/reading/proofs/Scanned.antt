@@ -21,12 +21,13 @@ use Rattle.terms.proofs.Bytes.{length-bytes}
 use Rattle.terms.proofs.Scans.{owes-symbol, owes-other, scan-none}
 use Rattle.reading.specs.Forms.{Reading, ok, refused, _>>=_, refuse-if, Symbol, arity-of, rank-of, Byte, symbol, variable, neither, byte-of, ReadPart, read-term, read-terms, read-side}
 use Rattle.reading.specs.Answers.{symbols-of, Table, between, TermAt, IsTerm, SideAt, read-pair, PairAt}
-use Rattle.reading.proofs.Reading.{reads, no-ok, bind-ok, bind-refused}
+use Rattle.reading.proofs.Reading.{reads, bind-ok, bind-refused}
 
 -- the symbols of a table, by number
 module _ (default : Symbol) where
   pub at-symbol : (tab : List ℕ) (f : ℕ) → length (symbols-of tab) + length (symbols-of tab) ≡ length tab →
-      (getD (symbols-of tab) f default .arity ≡ getD tab (f + f) (default .arity)) × (getD (symbols-of tab) f default .rank ≡ getD tab (f + f + 1) (default .rank))
+      (getD (symbols-of tab) f default .arity ≡ getD tab (f + f) (default .arity))
+      × (getD (symbols-of tab) f default .rank ≡ getD tab (f + f + 1) (default .rank))
   unfolding symbols-of
   at-symbol [] f h = (refl, refl)
   at-symbol (a ∷ []) f h = absurd (omega arith)
@@ -97,7 +98,8 @@ module _ (tab : List ℕ) (T : Table tab) where
 
         go : (r : Reading (ReadPart Term)) → one at bytes ≡ r →
             ((m at : ℕ) (bytes : List ℕ) → length bytes < d → Follow (n + m) m at bytes (read-terms one n at bytes)) →
-            Follow (suc (n + m)) m at bytes (r >>= λ t. read-terms one n (t .end) (t .rest) >>= λ ts. ok (record { part = cons (t .part) (ts .part); end = ts .end; rest = ts .rest }))
+            Follow (suc (n + m)) m at bytes
+            (r >>= λ t. read-terms one n (t .end) (t .rest) >>= λ ts. ok (record { part = cons (t .part) (ts .part); end = ts .end; rest = ts .rest }))
         go (ok t) e ih = last t (read-terms one n (t .end) (t .rest)) e (ih m (t .end) (t .rest) (let s = shorter at bytes t e in omega arith))
         go (refused k q) e ih = rw e at (follow-one (n + m) at bytes h)
 
@@ -116,7 +118,8 @@ module _ (tab : List ℕ) (T : Table tab) where
   unfolding scan
   scan-empty at m = refl
 
-  after : (f n m at : ℕ) (b : ℕ) (bytes : List ℕ) (r : Reading (ReadPart Terms)) → scan tab (b ∷ bytes) at (suc m) ≡ scan tab bytes (at + 1) n → Follow n m (at + 1) bytes r →
+  after : (f n m at : ℕ) (b : ℕ) (bytes : List ℕ) (r : Reading (ReadPart Terms)) →
+      scan tab (b ∷ bytes) at (suc m) ≡ scan tab bytes (at + 1) n → Follow n m (at + 1) bytes r →
       Follow (suc m) m at (b ∷ bytes) (r >>= λ ts. ok (record { part = node f (ts .part); end = ts .end; rest = ts .rest }))
   unfolding _>>=_
   after f n m at b bytes (ok ts) e g = e ∙ g
@@ -128,7 +131,8 @@ module _ (tab : List ℕ) (T : Table tab) where
   follow (suc d) m at [] h = (refl, scan-empty at m)
   follow (suc d) m at (b ∷ bytes) h =
       go (byte-of (symbols-of tab) b) refl (byte-node b)
-      (λ n m at l k. follow-all (λ at bytes. read-term (symbols-of tab) d at bytes) d (λ m at bytes h. follow d m at bytes h) (λ at bytes p e. rest-shorter d at bytes p e) n m at l k)
+      (λ n m at l k. follow-all (λ at bytes. read-term (symbols-of tab) d at bytes) d
+      (λ m at bytes h. follow d m at bytes h) (λ at bytes p e. rest-shorter d at bytes p e) n m at l k)
     where
       go : (k : Byte) → byte-of (symbols-of tab) b ≡ k → ByteNode b (byte-of (symbols-of tab) b) →
           ((n m at : ℕ) (l : List ℕ) → length l < d → Follow (n + m) m at l (read-terms (λ at bytes. read-term (symbols-of tab) d at bytes) n at l)) →
@@ -152,10 +156,12 @@ module _ (tab : List ℕ) (T : Table tab) where
     reading = read-term (symbols-of tab) (suc (length (between l at end))) at (between l at end)
 
     wrong : (r : Reading (ReadPart Term)) (p : ℕ) → Follow 1 0 at (between l at end) r → Bad p ≡ scan tab (between l at end) at 1 → r ≡ refused 10 p
-    wrong (ok q) p f e = absurd (let g : At (q .end) ≡ Bad p = sym (scan-none tab (q .rest) (q .end)) ∙ sym f ∙ sym e in let z : _≡_ {A = ℕ} 0 1 = cc in omega arith)
+    wrong (ok q) p f e = absurd (let g : At (q .end) ≡ Bad p = sym (scan-none tab (q .rest) (q .end)) ∙ sym f ∙ sym e in
+        let z : _≡_ {A = ℕ} 0 1 = cc in omega arith)
     wrong (refused k q) p f e = let g : Bad q ≡ Bad p = sym (f .1) ∙ sym e in let h : q ≡ p = cc in ap₂ refused (f .0) h
 
-    right : (r : Reading (ReadPart Term)) (e : ℕ) → reading ≡ r → Follow 1 0 at (between l at end) r → At e ≡ scan tab (between l at end) at 1 → (x : Term) × TermAt tab l at end e x
+    right : (r : Reading (ReadPart Term)) (e : ℕ) → reading ≡ r → Follow 1 0 at (between l at end) r →
+        At e ≡ scan tab (between l at end) at 1 → (x : Term) × TermAt tab l at end e x
     right (refused k q) e i f s = absurd (let g : Bad q ≡ At e = sym (f .1) ∙ sym s in let z : _≡_ {A = ℕ} 0 1 = cc in omega arith)
     right (ok p) e i f s =
         let g : At (p .end) ≡ At e = sym (scan-none tab (p .rest) (p .end)) ∙ sym f ∙ sym s in
@@ -175,7 +181,8 @@ module _ (tab : List ℕ) (T : Table tab) where
         )
 
     pub term-is : (r : Ends) → r ≡ scan tab (drop at (take (end - 0) (drop 0 l))) at 1 → IsTerm tab l at end r
-    term-is r q = go r (q ∙ ap (λ z. scan tab (drop at (take z l)) at 1) (sub-zero end)) (follow (suc (length (between l at end))) 0 at (between l at end) (omega arith))
+    term-is r q = go r (q ∙ ap (λ z. scan tab (drop at (take z l)) at 1) (sub-zero end))
+        (follow (suc (length (between l at end))) 0 at (between l at end) (omega arith))
       where
         go : (r : Ends) → r ≡ scan tab (between l at end) at 1 → Follow 1 0 at (between l at end) reading → IsTerm tab l at end r
         go (At e) q f = right reading e refl f q

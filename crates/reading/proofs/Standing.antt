@@ -1,11 +1,10 @@
 -- What is read from bytes stands there: a term that is well-formed over the table, with its bytes at the front; a side of at most 120 nodes; a pair
 -- that fills the bytes. Assumes nothing.
 -- Read first: specs/Answers (read-pair), proofs/Reading, terms/specs/Flat (Wf).
-use mathlib.Core.Path.{_≡_, refl, ap, sym, _∙_, subst}
+use mathlib.Core.Path.{_≡_, ap, _∙_, subst}
 use mathlib.Core.List.{List, _++_, append-nil}
-use Prim.Native.Nat.{ℕ, _+_, _<_, _≤_}
+use Prim.Native.Nat.{ℕ, _<_, _≤_}
 use native.Mathlib.Omega.{arith}
-use lib.Dec.{ltb}
 use lib.ListN.{length}
 use borrow.Author.Tests.{ltb-false}
 use Rattle.terms.specs.Term.{Term, var, node, Terms, nil, cons, size, term-bytes, Pair}
@@ -72,5 +71,6 @@ module _ (tab : List ℕ) (T : Table tab) where
         left-small = X .1;
         right-small = Y .1;
         filled = X .0 .front
-            ∙ ap (λ (m : List ℕ). term-bytes (x .part) ++ m) (Y .0 .front ∙ ap (λ (m : List ℕ). term-bytes (y .part) ++ m) none ∙ append-nil (term-bytes (y .part)));
+            ∙ ap (λ (m : List ℕ). term-bytes (x .part) ++ m) (Y .0 .front
+            ∙ ap (λ (m : List ℕ). term-bytes (y .part) ++ m) none ∙ append-nil (term-bytes (y .part)));
       })

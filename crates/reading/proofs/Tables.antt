@@ -2,18 +2,18 @@
 -- nothing.
 -- Read first: specs/Forms (read-symbols), specs/Answers (check-symbols, IsSymbols).
 use mathlib.Core.Path.{_≡_, refl, ap, sym, _∙_}
-use mathlib.Core.Bool.{Bool, true, false, _||_}
+use mathlib.Core.Bool.{Bool, true, false}
 use mathlib.Core.List.{List, [], _∷_}
 use Prim.Native.Nat.{ℕ, zero, suc, _+_, _-_, _%_, _<_, _≤_}
 use native.Mathlib.Omega.{arith}
 use native.Mathlib.Numerals.{add-one}
-use lib.Dec.{eqb, ltb}
+use lib.Dec.{ltb}
 use lib.ListN.{length, drop, getD, length-drop}
 use lib.Seq.{drop-cons}
 use borrow.Author.Tests.{lt-ltb, le-ltb, eq-eqb, ne-eqb}
 use Rattle.terms.specs.Base.{member}
 use Rattle.reading.specs.Forms.{Reading, ok, refused, _>>=_, refuse-if, Symbol, read-symbols}
-use Rattle.reading.specs.Answers.{symbols-of, Table, ranks, check-symbols, wrong-length, SymbolsAre, IsRanked, IsSymbols}
+use Rattle.reading.specs.Answers.{symbols-of, ranks, check-symbols, wrong-length, SymbolsAre, IsRanked, IsSymbols}
 use Rattle.reading.specs.declared.Symbols.{Symbols}
 use Rattle.reading.specs.declared.Symbols.the-variants.{Fine, WrongLength, WrongByte, SameRank}
 use Rattle.reading.proofs.Reading.{bind-ok, bind-refused}
@@ -67,7 +67,8 @@ module _ (tab seen : List ℕ) (at i : ℕ) (h : i + 1 < length tab) where
       unfolding check-symbols _>>=_ refuse-if
       table-same-rank m = rw (two-bytes tab i h, le-ltb 4 _ k, le-ltb 15 _ j, ← m) refl
 
-      pub table-symbol : false ≡ member (getD tab (i + 1) 0) seen → check-symbols seen at (drop i tab) ≡ check-symbols (getD tab (i + 1) 0 ∷ seen) (at + 2) (drop (i + 2) tab)
+      pub table-symbol : false ≡ member (getD tab (i + 1) 0) seen →
+          check-symbols seen at (drop i tab) ≡ check-symbols (getD tab (i + 1) 0 ∷ seen) (at + 2) (drop (i + 2) tab)
       unfolding check-symbols _>>=_ refuse-if
       table-symbol m = rw (two-bytes tab i h, le-ltb 4 _ k, le-ltb 15 _ j, ← m) refl
 
@@ -117,7 +118,8 @@ pub read-is : (seen : List ℕ) (at : ℕ) (l : List ℕ) → read-symbols seen 
 unfolding read-symbols check-symbols symbols-of _>>=_
 read-is seen at [] = refl
 read-is seen at (a ∷ []) = refl
-read-is seen at (a ∷ r ∷ l) = read-step (ltb 4 a) (ltb 15 r) (member r seen) at (record { arity = a; rank = r }) (symbols-of l) _ _ (read-is (r ∷ seen) (at + 2) l)
+read-is seen at (a ∷ r ∷ l) = read-step (ltb 4 a) (ltb 15 r) (member r seen) at (record { arity = a; rank = r })
+    (symbols-of l) _ _ (read-is (r ∷ seen) (at + 2) l)
 
 -- `check_symbols`
 even-of : (l : List ℕ) → (length l % 2 ≡ 1 → ⊥) → length (symbols-of l) + length (symbols-of l) ≡ length l

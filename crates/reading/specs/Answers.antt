@@ -1,17 +1,18 @@
 -- What each reader answers, said by the definitions of Forms. Assumes nothing.
 use mathlib.Core.Path.{_≡_}
 use mathlib.Core.Bool.{Bool, true, false, _||_}
-use mathlib.Core.List.{List, [], _∷_}
+use mathlib.Core.List.{List, [], _∷_, _++_}
 use Prim.Native.Nat.{ℕ, zero, suc, _+_, _*_, _%_, _≤_, _<_}
 use lib.Dec.{eqb, ltb}
 use lib.ListN.{length, take, drop, getD}
 use Rattle.limits.specs.Limits.{most-symbols}
-use Rattle.terms.specs.Base.{member}
-use Rattle.terms.specs.Term.{Term, size, Pair}
+use Rattle.terms.specs.Base.{if_then_else_, member}
+use Rattle.terms.specs.Term.{Term, size, term-bytes, Pair, renamed}
+use Rattle.terms.specs.Flat.{Wf}
 use Rattle.terms.specs.declared.Ends.{Ends}
 use Rattle.terms.specs.declared.Ends.the-variants.{At as Ends-at, Bad}
 use Rattle.reading.specs.Stops.{cut-field, wrong-arity-or-rank, same-rank, wrong-term, large-side}
-use Rattle.reading.specs.Forms.{Reading, ok, refused, _>>=_, refuse-if, ReadField, read-field, Symbol, read-symbols, ReadPart, read-term, read-side}
+use Rattle.reading.specs.Forms.{Reading, ok, refused, _>>=_, refuse-if, ReadField, read-field, Symbol, read-symbols, read-term, read-side}
 use Rattle.reading.specs.declared.Field.{Field}
 use Rattle.reading.specs.declared.Field.the-variants.{Cut, At as Field-at}
 use Rattle.reading.specs.declared.Symbols.{Symbols}
@@ -25,9 +26,17 @@ use Rattle.reading.specs.declared.Pair.the-variants.{Filled, Wrong as Pa
 unfoldable pub field-at : ℕ → List ℕ → ℕ → ℕ → ReadField
 field-at tag l at e = record { first = at; tag = tag; contents = drop (at + 3) (take e l); end = e; rest = drop e l }
 
+-- a whole field of l at `at`, whose contents start at `start` and end at e
+pub record WholeAt (l : List ℕ) (at tag start e : ℕ) : Type 0 where
+  pub read : read-field at (drop at l) ≡ ok (field-at tag l at e)
+  pub starts : start ≡ at + 3
+  pub low : start ≤ e
+  pub within : e ≤ length l
+  pub short : e < start + 65536
+
 abbrev pub IsField : List ℕ → ℕ → Field → Type 0
 IsField l at Cut = read-field at (drop at l) ≡ refused cut-field at
-IsField l at (Field-at tag start e) = (read-field at (drop at l) ≡ ok (field-at tag l at e)) × (start ≡ at + 3) × (start ≤ e) × (e ≤ length l)
+IsField l at (Field-at tag start e) = WholeAt l at tag start e
 
 -- a table: two bytes a symbol, its arity and its rank
 unfoldable pub symbols-of : List ℕ → List Symbol
@@ -119,3 +128,19 @@ abbrev pub IsPair : List ℕ → List ℕ → ℕ → ℕ → Filling → Type 0
 IsPair tab l at end (Filled m) = (p : Pair) × PairAt tab l at end m p
 IsPair tab l at end (Pair-wrong p) = read-pair (symbols-of tab) at (between l at end) ≡ refused wrong-term p
 IsPair tab l at end (Pair-large p) = read-pair (symbols-of tab) at (between l at end) ≡ refused large-side p
+
+-- the byte of the next variable, behind the byte b, and bytes whose variables come in order
+unfoldable pub next-after : ℕ → ℕ → ℕ
+next-after next b = if eqb b next then suc next else next
+
+unfoldable pub ordered : ℕ → List ℕ → Bool
+ordered next [] = true
+ordered next (b ∷ l) =
+    let later : Bool = ordered (next-after next b) l in
+    if ltb next b then false else later
+
+-- is the pair that fills the bytes renamed
+abbrev pub IsRenamed : List ℕ → ℕ → ℕ → Bool → Type 0
+IsRenamed l at end r =
+    (n : ℕ) (tab : List ℕ) (p : Pair) → Wf n tab (p .left) → Wf n tab (p .right) → between l at end ≡ term-bytes (p .left) ++ term-bytes (p .right) →
+    (r ≡ true → renamed p ≡ p) × (renamed p ≡ p → r ≡ true)

@@ -1,9 +1,10 @@
-// Bytes read at a place: a number, a field, symbols, a term, a side, a pair. No answer has a refusal's number: each caller gives its own.
+// Bytes read at a place: a number, a field, symbols, a term, a side, a pair, and whether a pair is renamed. No
+// answer has a refusal's number: each caller gives its own.
 ghost use mathlib.Core.Path.{_≡_};
 ghost use Prim.Native.Nat.{_+_, _^_, _<_, _≤_};
 ghost use lib.ListN.{length, take, drop};
 ghost use Rattle.terms.specs.Base.{number-from, member};
-ghost use Rattle.reading.specs.Answers.{IsField, ranks, IsRanked, IsSymbols, Table, IsTerm, IsSide, IsPair};
+ghost use Rattle.reading.specs.Answers.{IsField, ranks, IsRanked, IsSymbols, Table, IsTerm, IsSide, IsPair, next-after, IsRenamed};
 
 // The number of so many bytes, high byte first, at a place.
 pub fn number(t: &[u8], at: usize, width: usize) -> usize
@@ -175,4 +176,33 @@ pub fn pair_at(t: &[u8], table: &[u8], at: usize, end: usize) -> Pair
             }
         },
     }
+}
+
+// The byte of the next variable, behind this one.
+fn next_after(next: usize, b: usize) -> usize
+    requires { ⌜ next ≤ 65536 ⌝ }
+    ensures { λ r. ⌜ r ≡ next-after next b ⌝ }
+{
+    if b == next {
+        return next + 1;
+    }
+    next
+}
+
+// Whether the pair that fills the bytes from a place to an end is renamed: its variables are 0, 1, 2 .. in order of first occurrence.
+pub fn is_renamed(t: &[u8], at: usize, end: usize) -> bool
+    requires { ⌜ (at ≤ end) × (end ≤ length (now t)) × (length (now t) ≤ 32768) ⌝ }
+    ensures { λ r. ⌜ IsRenamed (now (t .entry)) at end r ⌝ }
+{
+    let mut next: usize = 128;
+    let mut i = at;
+    while i < end {
+        let b = terms::wide(t[i]);
+        if b > next {
+            return false;
+        }
+        next = next_after(next, b);
+        i += 1;
+    }
+    true
 }

@@ -27,35 +27,27 @@ pub fn sides(problem: &[u8]) -> Equation
             budget: _,
             equations,
             count,
-        } => {
-            if count == 0 {
-                return Equation::Refused {
-                    number: problem::NOT_ONE_EQUATION,
-                    place: problem.len(),
-                };
-            }
-            match reading::field_at(problem, equations) {
-                // There is one: `parse` has read it.
-                reading::Field::Cut => Equation::Refused {
-                    number: problem::CUT_FIELD,
-                    place: equations,
-                },
-                reading::Field::At { tag: _, start, end } => {
-                    if count > 1 {
-                        return Equation::Refused {
-                            number: problem::NOT_ONE_EQUATION,
-                            place: end,
-                        };
-                    }
-                    let right = terms::term_end(problem, &problem[3..table_end], start);
-                    Equation::At {
-                        table_end,
-                        left: start,
-                        right,
-                        end,
-                    }
+        } => match reading::field_at(problem, equations) {
+            // What `parse` has accepted ends with whole fields: there is no equation.
+            reading::Field::Cut => Equation::Refused {
+                number: problem::NOT_ONE_EQUATION,
+                place: problem.len(),
+            },
+            reading::Field::At { tag: _, start, end } => {
+                if count > 1 {
+                    return Equation::Refused {
+                        number: problem::NOT_ONE_EQUATION,
+                        place: end,
+                    };
+                }
+                let right = terms::term_end(problem, &problem[3..table_end], start);
+                Equation::At {
+                    table_end,
+                    left: start,
+                    right,
+                    end,
                 }
             }
-        }
+        },
     }
 }

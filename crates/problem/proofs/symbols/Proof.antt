@@ -2,7 +2,7 @@
 -- Read first: specs/Parser (IsSymbols, SymbolsAt), proofs/Fields.
 use Rattle.reading.proofs.Reading.{bind-refused}
 use Rattle.problem.specs.Problem.{symbol-field}
-use Rattle.problem.proofs.Fields.{table-long, symbols-length, symbols-refused, symbols-fine}
+use Rattle.problem.proofs.Fields.{symbols-length, symbols-refused, symbols-fine}
 use native.Mathlib.Omega.{arith}
 use borrow.Author.Needs.{needs}
 use Rattle.problem.proofs.symbols.Statement.{statement}

@@ -18,7 +18,7 @@ returns-3 c =
     let in-else2 : tie.Else2 = search depth 0 in
     let at-number : tie.After-number = search depth 0 in
     let in-else1 : tie.Else1 = search depth 0 in
-    field-whole _ _ _ (in-else1 .if1 .left) (at-number .number .ensures .0) (in-else2 .if2 .left)
+    field-whole _ _ _ (in-else1 .if1 .left) (at-number .number .ensures .0) (in-else2 .if2 .left) (at-number .number .ensures .1)
 
 pub field-at-spec : {M : Type 1} → statement M
 field-at-spec =

@@ -1,6 +1,5 @@
 -- `pair_at`: a side, a side behind it, and nothing behind that; a lemma for each of its six returns. Assumes nothing.
 -- Read first: specs/Answers (IsPair), proofs/Scanned.
-use native.Mathlib.Omega.{arith}
 use Rattle.reading.proofs.Scanned.{pair-left, pair-right, pair-more, pair-fills}
 use borrow.Author.Needs.{needs}
 use Rattle.reading.proofs.pair_at.Statement.{statement}

@@ -1,17 +1,10 @@
--- `sides`: a lemma for each of its five returns: one equation, refused by `parse`, none, no whole field there, more than one. Assumes nothing.
+-- `sides`: a lemma for each of its four returns: more than one equation, refused by `parse`, none, one. Assumes nothing.
 -- Read first: specs/Places (IsSides, SidesAt), proofs/Singles.
 use native.Mathlib.Omega.{arith}
-use Rattle.single.proofs.Singles.{sides-unread, sides-none, sides-cut, sides-more, sides-at}
+use Rattle.single.proofs.Singles.{sides-unread, sides-none, sides-more, sides-at}
 use borrow.Author.Needs.{needs}
 use Rattle.single.proofs.sides.Statement.{statement}
 use Rattle.single.proofs.sides.Tie as tie
-
-returns : tie.Need-returns
-returns c =
-    let at-table-end : tie.After-table-end = search depth 0 in
-    let at-parse : tie.After-parse = search depth 0 in
-    let A = rw (at-table-end .table-end .given .1) at (at-parse .parse .ensures .1) in
-    sides-none _ _ _ _ _ (A .0) (A .1) (c .if1 .taken)
 
 field-at-requires : tie.Need-field-at-requires
 field-at-requires c κs =
@@ -19,16 +12,15 @@ field-at-requires c κs =
     let at-parse : tie.After-parse = search depth 0 in
     let A = rw (at-table-end .table-end .given .1) at (at-parse .parse .ensures .1) in A .1 .within
 
-returns-2 : tie.Need-returns-2
-returns-2 c =
+returns : tie.Need-returns
+returns c =
     let at-start : tie.After-start = search depth 0 in
     let at-field-at : tie.After-field-at = search depth 0 in
-    let in-else1 : tie.Else1 = search depth 0 in
     let at-table-end : tie.After-table-end = search depth 0 in
     let at-parse : tie.After-parse = search depth 0 in
     let A = rw (at-table-end .table-end .given .1) at (at-parse .parse .ensures .1) in
     let F = rw (at-start .start .given .1) at (at-field-at .field-at .ensures) in
-    sides-more _ _ _ _ _ (A .0) (A .1) (in-else1 .if1 .left) _ _ _ F (c .if2 .taken)
+    sides-more _ _ _ _ _ (A .0) (A .1) _ _ _ F (c .if1 .taken)
 
 sub-term-end : tie.Need-sub-term-end
 sub-term-end c =
@@ -56,33 +48,31 @@ term-end-requires c κs =
     let at-parse : tie.After-parse = search depth 0 in
     let A = rw (at-table-end .table-end .given .1) at (at-parse .parse .ensures .1) in
     let F = rw (at-start .start .given .1) at (at-field-at .field-at .ensures) in
-    (omega (arith, F .2, F .3), omega (arith, A .1 .small))
+    (omega (arith, F .low, F .within), omega (arith, A .1 .small))
 
-returns-3 : tie.Need-returns-3
-returns-3 c =
+returns-2 : tie.Need-returns-2
+returns-2 c =
     let at-parse : tie.After-parse = search depth 0 in
     sides-unread _ _ _ (rw (c .before .number .given .1) at (at-parse .parse .ensures .1))
 
-returns-4 : tie.Need-returns-4
-returns-4 c =
+returns-3 : tie.Need-returns-3
+returns-3 c =
     let at-field-at : tie.After-field-at = search depth 0 in
-    let in-else1 : tie.Else1 = search depth 0 in
     let at-table-end : tie.After-table-end = search depth 0 in
     let at-parse : tie.After-parse = search depth 0 in
     let A = rw (at-table-end .table-end .given .1) at (at-parse .parse .ensures .1) in
-    sides-cut _ _ _ _ _ (A .0) (A .1) (in-else1 .if1 .left) (rw (c .enum-told .given .1) at (at-field-at .field-at .ensures))
+    sides-none _ _ _ _ _ (A .0) (A .1) (rw (c .enum-told .given .1) at (at-field-at .field-at .ensures))
 
-returns-5 : tie.Need-returns-5
-returns-5 c =
-    let in-else2 : tie.Else2 = search depth 0 in
+returns-4 : tie.Need-returns-4
+returns-4 c =
+    let in-else1 : tie.Else1 = search depth 0 in
     let at-start : tie.After-start = search depth 0 in
     let at-field-at : tie.After-field-at = search depth 0 in
-    let in-else1 : tie.Else1 = search depth 0 in
     let at-table-end : tie.After-table-end = search depth 0 in
     let at-parse : tie.After-parse = search depth 0 in
     let A = rw (at-table-end .table-end .given .1) at (at-parse .parse .ensures .1) in
     let F = rw (at-start .start .given .1) at (at-field-at .field-at .ensures) in
-    sides-at _ _ _ _ _ (A .0) (A .1) (in-else1 .if1 .left) _ _ _ F (in-else2 .if2 .left) _ (c .term-end .ensures .1 .0)
+    sides-at _ _ _ _ _ (A .0) (A .1) _ _ _ F (in-else1 .if1 .left) _ (c .term-end .ensures .1 .0)
 
 pub sides-spec : {M : Type 1} → statement M
 sides-spec =
@@ -91,15 +81,14 @@ sides-spec =
     (λ c κs. search needs)
     (λ c. search needs)
     (λ c. search needs)
-    returns
     field-at-requires
     (λ c. search needs)
     (λ c. search needs)
-    returns-2
+    returns
     sub-term-end
     part-term-end-start
     part-term-end-end
     term-end-requires
+    returns-2
     returns-3
-    returns-4
-    returns-5)
+    returns-4)
