@@ -12,11 +12,10 @@ use Rattle.terms.proofs.Starts.{from, from-drop}
 use Rattle.order.specs.Order.{above, comparison}
 use Rattle.order.specs.Walk.{rank, IsCompared}
 use Rattle.problem.specs.Problem.{ok, refused, Symbol, rank-of}
-use Rattle.problem.proofs.Fields.{bind-ok, bind-refused}
+use Rattle.reading.proofs.Reading.{bind-ok, bind-refused}
 use Rattle.completion.specs.Calls.{Single, parse-single, compare-call}
 use Rattle.completion.proofs.Ranks.{ranks-are}
 use Rattle.single.specs.Places.{table, left-side, right-side, SidesAt}
-use Rattle.single.proofs.Singles.{left-starts, right-starts}
 use Rattle.calls.specs.Answers.{compared-told}
 use Rattle.calls.specs.declared.Compared.{Compared}
 use Rattle.calls.specs.declared.Compared.the-variants.{LeftAbove, RightAbove, Identical, Neither, Refused as Unread}
@@ -59,7 +58,7 @@ module _ (l : List ℕ) where
   module _ (e a b c : ℕ) (S : Single) (A : SidesAt l e a b c S) where
     module _ (n : ℕ) (h : IsCompared (table l e) (from l a) (from l b) n) where
       compared : n ≡ comparison (rank (table l e)) (left-side S) (right-side S)
-      compared = h (left-side S) (right-side S) (rw (from-drop l a) (left-starts l e a b c S A)) (rw (from-drop l b) (right-starts l e a b c S A))
+      compared = h (left-side S) (right-side S) (rw (from-drop l a) (A .left)) (rw (from-drop l b) (A .right))
 
       pub compare-range : (1 ≤ n) × (n ≤ 4)
       compare-range = rw compared (comparison-range (rank (table l e)) (left-side S) (right-side S))
@@ -67,6 +66,6 @@ module _ (l : List ℕ) where
       pub compare-read : (r : Compared) → compared-told r ≡ ok n → compared-told r ≡ compare-call l
       unfolding compare-call
       compare-read r q =
-          q ∙ ap ok (compared ∙ ap (λ (f : ℕ → ℕ). comparison f (left-side S) (right-side S)) (sym (ranks-are (table l e) (A .single .known)))
-          ∙ ap (λ (Σ : List Symbol). comparison (rank-of Σ) (left-side S) (right-side S)) (sym (A .single .symbols-are)))
-          ∙ sym (bind-ok _ (A .single .is))
+          q ∙ ap ok (compared ∙ ap (λ (f : ℕ → ℕ). comparison f (left-side S) (right-side S)) (sym (ranks-are (table l e) (A .known)))
+          ∙ ap (λ (Σ : List Symbol). comparison (rank-of Σ) (left-side S) (right-side S)) (sym (A .symbols-are)))
+          ∙ sym (bind-ok _ (A .is))

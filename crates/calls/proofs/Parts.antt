@@ -17,7 +17,6 @@ use Rattle.terms.proofs.Starts.{starts-inside}
 use Rattle.problem.specs.Problem.{refused}
 use Rattle.completion.specs.Calls.{Single, parse-single, Part, part-of, subterm-part, subterm-call}
 use Rattle.single.specs.Places.{table, left-side, SidesAt}
-use Rattle.single.proofs.Singles.{left-starts}
 use Rattle.calls.specs.Answers.{subterm-refused, PartAt}
 
 -- `subterm_bounds`
@@ -36,11 +35,11 @@ module _ (l : List ℕ) (p : ℕ) where
   module _ (e a b c : ℕ) (S : Single) (A : SidesAt l e a b c S) where
     part-is : subterm-part l p ≡ part-of (S .equation .first) p (subterm-at (left-side S) p)
     unfolding subterm-part
-    part-is = rw (A .single .is, subterm-part) refl
+    part-is = rw (A .is, subterm-part) refl
 
     refusal-is : subterm-refused l p ≡ leb (size (left-side S)) p
     unfolding subterm-refused
-    refusal-is = rw (A .single .is, subterm-refused) refl
+    refusal-is = rw (A .is, subterm-refused) refl
 
     pub bounds-past : b - a ≤ p → PartAt l p 0 0
     unfolding part-of
@@ -66,9 +65,9 @@ module _ (l : List ℕ) (p : ℕ) where
       unfolding part-of
       bounds-inside n q low high =
           let u = found .0 in
-          let s : Starts (table l e) (drop (a + p) l) u = rw (drop-drop p a l) at (starts-inside (table l e) (drop a l) (left-side S) p u (left-starts l e a b c S A) (found .1)) in
+          let s : Starts (table l e) (drop (a + p) l) u = rw (drop-drop p a l) at (starts-inside (table l e) (drop a l) (left-side S) p u (A .left) (found .1)) in
           let z : n - (a + p) ≡ size u = omega (arith, q u s) in
-          let w : S .equation .first + 3 + p ≡ a + p = omega (arith, A .single .first-is, A .left-is) in
+          let w : S .equation .first + 3 + p ≡ a + p = omega (arith, A .left-is) in
           let f : subterm-part l p ≡ record { start = S .equation .first + 3 + p; bytes = size u } = part-is ∙ ap (part-of (S .equation .first) p) (found .1) in
           record {
             start = sym (ap (λ (x : Part). x .start) f ∙ w);

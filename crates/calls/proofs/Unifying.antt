@@ -15,11 +15,10 @@ use Rattle.terms.proofs.Flats.{widen}
 use Rattle.terms.proofs.Bytes.{length-bytes}
 use Rattle.unify.specs.Unify.{mgu}
 use Rattle.problem.specs.Problem.{ok, refused, _>>=_, refuse-if}
-use Rattle.problem.proofs.Fields.{bind-ok, bind-refused}
+use Rattle.reading.proofs.Reading.{bind-ok, bind-refused}
 use Rattle.completion.specs.Calls.{Single, CommonInstance, instance, no-instance, instance-too-large, parse-single, unified, enough, unify-call, after-unify}
 use Rattle.completion.proofs.Accepts.{single-fits}
 use Rattle.single.specs.Places.{table, left-side, right-side, SidesAt}
-use Rattle.single.proofs.Singles.{left-starts, right-starts}
 use Rattle.instances.specs.Common.{found-of, SidesOf, TwoSides, SidesUnify}
 use Rattle.instances.specs.declared.Found.{Found}
 use Rattle.calls.specs.Answers.{unified-told, found-told, unify-returns, Unifies}
@@ -51,8 +50,8 @@ module _ (l d : List ℕ) where
     module _ (e a b c : ℕ) (S : Single) (A : SidesAt l e a b c S) where
       both-bytes : take (c - a) (drop a l) ≡ term-bytes (left-side S) ++ term-bytes (right-side S)
       both-bytes =
-          let s = left-starts l e a b c S A in
-          let t = right-starts l e a b c S A in
+          let s = A .left in
+          let t = A .right in
           let n : length (term-bytes (left-side S) ++ term-bytes (right-side S)) ≡ c - a =
           omega (arith, length-append (term-bytes (left-side S)) (term-bytes (right-side S)), length-bytes (left-side S), length-bytes (right-side S), A .right-is, A .end-is) in
           let r : s .rest ≡ term-bytes (right-side S) ++ t .rest =
@@ -63,10 +62,10 @@ module _ (l d : List ℕ) where
 
       unify-sides : SidesOf (take (c - a) (drop a l)) (table l e) (left-side S) (right-side S)
       unify-sides =
-          let k = single-fits l S (A .single .is) in
+          let k = single-fits l S (A .is) in
           record {
-            left = widen 32 128 (table l e) (left-side S) (omega arith) (A .single .left .wf);
-            right = widen 32 128 (table l e) (right-side S) (omega arith) (A .single .right .wf);
+            left = widen 32 128 (table l e) (left-side S) (omega arith) (A .left .wf);
+            right = widen 32 128 (table l e) (right-side S) (omega arith) (A .right .wf);
             small-left = k .fits .left .small;
             small-right = k .fits .right .small;
             bytes = both-bytes;
@@ -81,4 +80,4 @@ module _ (l d : List ℕ) where
       pub unify-answers : (f : Found) (r : Unified) (d′ : List ℕ) → SidesUnify (take (c - a) (drop a l)) (table l e) (b - a) f d d′ → unified-told r ≡ found-told f → Unifies (unify-call l (length d)) r d d′
       unify-answers f r d′ h q =
           let g = h .unifies (left-side S) (right-side S) unify-sides begins-at in
-          rw (call-is ∙ bind-ok _ (A .single .is)) (record { told = q ∙ ap found-told (g .answer) ∙ found-returns (unified (left-side S) (mgu (left-side S) (right-side S))); leaves = g .leaves })
+          rw (call-is ∙ bind-ok _ (A .is)) (record { told = q ∙ ap found-told (g .answer) ∙ found-returns (unified (left-side S) (mgu (left-side S) (right-side S))); leaves = g .leaves })

@@ -26,9 +26,9 @@ use Rattle.complete.specs.declared.Completed.the-variants.{Written, Refu
 use Rattle.complete.proofs.Delivering.{delivery}
 
 -- `accepted`
-pub accepted-run : (l : List ℕ) (e b n : ℕ) (inputs : Pairs) (before after : List ℕ) (o : Ran) (r : ℕ) → InputsRead l e n inputs →
-    Runs (take (e - 3) (drop 3 l)) inputs b o → Reports o before after r → WritesProblem l e b n before after r
-accepted-run l e b n inputs before after o r I R W P A =
+pub accepted-run : (l : List ℕ) (e b at n : ℕ) (inputs : Pairs) (before after : List ℕ) (o : Ran) (r : ℕ) → InputsRead l e at n inputs →
+    Runs (take (e - 3) (drop 3 l)) inputs b o → Reports o before after r → WritesProblem l e b at n before after r
+accepted-run l e b at n inputs before after o r I R W P A =
     let tab : List ℕ = take (e - 3) (drop 3 l) in
     let ranks : rank-of (P .symbols) ≡ rank tab = ap rank-of (A .symbols-are) ∙ ranks-are tab (A .table .table) in
     W .writes tab (run P) (R .answer P ranks (I .held b P A) (sym (A .budget-is)))
@@ -40,8 +40,8 @@ pub record Needs (l : List ℕ) (e b n : ℕ) : Type 0 where
   pub few : n ≤ most-equations
   pub budget : b ≤ most-budget
 
-pub accepted-needs : (l : List ℕ) (e b n : ℕ) → ((P : Problem) × ParsedAt l e b n P) → Needs l e b n
-accepted-needs l e b n (P, A) =
+pub accepted-needs : (l : List ℕ) (e b at n : ℕ) → ((P : Problem) × ParsedAt l e b at n P) → Needs l e b n
+accepted-needs l e b at n (P, A) =
     record {
       low = omega (arith, A .table .low);
       within = A .table .within;

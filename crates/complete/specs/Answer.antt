@@ -25,5 +25,5 @@ Delivery problem result (Written count) = Delivers problem (take count result)
 Delivery problem result (Refused number place) = Unit {0}
 
 -- `accepted`
-abbrev pub WritesProblem : List ℕ → ℕ → ℕ → ℕ → List ℕ → List ℕ → ℕ → Type 0
-WritesProblem l e b n before after r = (P : Problem) → ParsedAt l e b n P → Writes before (result-bytes (run P)) after r
+abbrev pub WritesProblem : List ℕ → ℕ → ℕ → ℕ → ℕ → List ℕ → List ℕ → ℕ → Type 0
+WritesProblem l e b at n before after r = (P : Problem) → ParsedAt l e b at n P → Writes before (result-bytes (run P)) after r

@@ -17,15 +17,16 @@ pub enum Completed {
 fn accepted(
     problem: &[u8],
     table_end: usize,
+    equations: usize,
     count: usize,
     budget: usize,
     result: &mut [u8],
 ) -> usize
     requires { ⌜ (3 ≤ «table_end») × («table_end» ≤ length (now problem)) × (length (now problem) ≤ 65536) ⌝ }
     requires { ⌜ (count ≤ most-equations) × (budget ≤ most-budget) × (most-result ≤ length (now result)) ⌝ }
-    ensures { λ r. ⌜ WritesProblem (now (problem .entry)) «table_end» budget count (now (result .entry)) (now (result .exit)) r ⌝ }
+    ensures { λ r. ⌜ WritesProblem (now (problem .entry)) «table_end» budget equations count (now (result .entry)) (now (result .exit)) r ⌝ }
 {
-    let inputs = inputs::read(problem, table_end, count);
+    let inputs = inputs::read(problem, table_end, equations, count);
     let ran = run::run(
         inputs,
         &problem[limits::FIELD_HEAD..table_end],
@@ -53,9 +54,10 @@ pub fn complete(problem: &[u8], result: &mut [u8]) -> Completed
         problem::Input::Fine {
             table_end,
             budget,
+            equations,
             count,
         } => {
-            let n = accepted(problem, table_end, count, budget, result);
+            let n = accepted(problem, table_end, equations, count, budget, result);
             Completed::Written(n)
         }
     }

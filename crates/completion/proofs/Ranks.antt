@@ -6,7 +6,7 @@ use Prim.Native.Nat.{ℕ}
 use Rattle.order.specs.Walk.{rank}
 use Rattle.problem.specs.Problem.{rank-of}
 use Rattle.problem.specs.Parser.{symbols-of, Table}
-use Rattle.problem.proofs.Scanned.{rank-is}
+use Rattle.reading.proofs.Scanned.{rank-is}
 
 pub ranks-are : (tab : List ℕ) → Table tab → rank-of (symbols-of tab) ≡ rank tab
 unfolding rank

@@ -1,20 +1,19 @@
 -- Fields are read back from their bytes, and a rule from its field. Assumes nothing.
 -- Read first: specs/Promise, problem/proofs/Reading.
-use mathlib.Core.Path.{_≡_, refl, sym, ap, ap₂, _∙_}
+use mathlib.Core.Path.{_≡_, refl, sym, ap, _∙_}
 use mathlib.Core.Bool.{false}
 use mathlib.Core.List.{List, [], _∷_, _++_, map, flatMap, append-nil}
 use Prim.Native.Nat.{ℕ, zero, suc, _+_, _/_, _%_, _≤_, _<_}
 use native.Mathlib.Omega.{arith}
 use lib.Dec.{eqb}
-use lib.ListN.{length, take, drop, length-append}
-use lib.Seq.{take-at, drop-at}
-use borrow.Author.Tests.{le-ltb}
+use lib.ListN.{length, length-append}
 use Rattle.terms.specs.Base.{if_then_else_, number-bytes, number-from, Field, field-bytes, Every, of-cons}
 use Rattle.terms.specs.Term.{Term, size, term-bytes}
 use Rattle.terms.proofs.Bytes.{length-bytes}
 use Rattle.terms.proofs.Limits.{Made}
 use Rattle.terms.proofs.Numerals.{number-back}
-use Rattle.problem.specs.Problem.{ok, _>>=_, refuse-if, read-field, read-term, Symbol}
+use Rattle.reading.proofs.Fields.{field-back}
+use Rattle.problem.specs.Problem.{ok, _>>=_, refuse-if, read-term, Symbol}
 use Rattle.problem.specs.Over.{Over}
 use Rattle.problem.proofs.Reading.{read-back}
 use Rattle.rewriting.specs.Overlap.{Rule}
@@ -24,21 +23,6 @@ use Rattle.completion.specs.Promise.{fields-from, fields-of, rule-of, ru
 pub two-back : (n : ℕ) → n < 65_536 → number-from 0 ((n / 256 % 256) ∷ (n % 256) ∷ []) ≡ n
 unfolding number-bytes
 two-back n h = number-back 2 n h
-
--- a field's header and contents, whatever stands behind them
-header : (at n tag high low : ℕ) (bytes : List ℕ) → number-from 0 (high ∷ low ∷ []) ≡ n → n ≤ length bytes →
-    read-field at (tag ∷ high ∷ low ∷ bytes) ≡ ok (record { first = at; tag = tag; contents = take n bytes; end = at + 3 + n; rest = drop n bytes })
-unfolding read-field _>>=_ refuse-if
-header at n tag high low bytes e l = rw (e, read-field) (rw (le-ltb (length bytes) n l) refl)
-
-pub field-back : (at : ℕ) (f : Field) (rest : List ℕ) → length (f .contents) < 65_536 →
-    read-field at (field-bytes f ++ rest) ≡ ok (record { first = at; tag = f .tag; contents = f .contents; end = at + 3 + length (f .contents); rest = rest })
-unfolding field-bytes number-bytes
-field-back at f rest h =
-    let n : ℕ = length (f .contents) in
-    header at n (f .tag) (n / 256 % 256) (n % 256) (f .contents ++ rest) (two-back n h) (omega (arith, length-append (f .contents) rest))
-    ∙ ap₂ (λ c r. ok (record { first = at; tag = f .tag; contents = c; end = at + 3 + n; rest = r })) (take-at (f .contents) rest n refl)
-    (drop-at (f .contents) rest n refl)
 
 -- so many fields, one behind the other
 pub fields-back : (more at : ℕ) (fs : List Field) → Every (λ f. length (f .contents) < 65_536) fs → length fs < more →

@@ -6,6 +6,7 @@ use Prim.Native.Nat.{ℕ, zero, suc, _+_, _-_, _*_, _<_, _≤_}
 use native.Mathlib.Omega.{arith}
 use lib.ListN.{length, getD, drop, take, replicate, length-append, length-replicate}
 use lib.Seq.{drop-at, drop-drop, getD-take, getD-drop}
+use Rattle.limits.specs.Limits.{most-equations}
 use Rattle.terms.specs.Term.{Term, size, term-bytes, renamed}
 use Rattle.terms.specs.Base.{Every, of-none, of-cons}
 use Rattle.terms.proofs.Bytes.{length-bytes}
@@ -22,9 +23,9 @@ use Rattle.slots.proofs.Listing.{all-none, all-one, all-join, all-moved, marked
 use Rattle.slots.proofs.Layouts.{layout-put}
 use Rattle.inputs.specs.Inputs.{marked, SidesAt, PutsEquation, InputsRead}
 
-sides-at : (n : ℕ) (tab : List ℕ) (T : Table tab) (l : List ℕ) (at : ℕ) (q : Equation) → Both tab T l at q → HeldPair n 16 (q .sides) →
+sides-at : (n : ℕ) (tab : List ℕ) (T : Table tab) (l : List ℕ) (at e : ℕ) (q : Equation) → Both tab T l at e q → HeldPair n 16 (q .sides) →
     SidesAt tab l (at + 3) (q .sides)
-sides-at n tab T l at q b h =
+sides-at n tab T l at e q b h =
     let x : Term = q .sides .left in
     let rest-is : b .left .rest ≡ drop (at + 3 + size x) l =
     sym (drop-at (term-bytes x) (b .left .rest) (size x) (length-bytes x)) ∙ ap (drop (size x)) (sym (b .left .bytes)) ∙ drop-drop (size x) (at + 3) l in
@@ -47,10 +48,10 @@ laid-fields : (n : ℕ) (tab : List ℕ) (T : Table tab) (l : List ℕ) (at : �
 unfolding Laid InFields
 laid-fields n tab T l at [] h of-none = tt
 laid-fields n tab T l at (q ∷ es) h (of-cons k ks) =
-    (h .0, h .1, sides-at n tab T l at q (h .4) k, laid-fields n tab T l (h .0) es (h .5) ks)
+    (h .0, h .1, sides-at n tab T l at (h .0) q (h .4) k, laid-fields n tab T l (h .0) es (h .5) ks)
 
-pub parsed-few : (l : List ℕ) (e b n : ℕ) (P : Problem) → ParsedAt l e b n P → n ≤ 16
-parsed-few l e b n P A = omega (arith, A .number, accepts l P (A .is) .equations-few)
+pub parsed-few : (l : List ℕ) (e b at n : ℕ) (P : Problem) → ParsedAt l e b at n P → n ≤ most-equations
+parsed-few l e b at n P A = omega (arith, A .number, accepts l P (A .is) .equations-few)
 
 -- the equation is the candidate in slot k
 abbrev pub Input : List ℕ → List ℕ → ℕ → Equation → Type 0
@@ -73,9 +74,9 @@ pub record Split (tab l slots : List ℕ) (k i : ℕ) (es : List Equation) : Typ
   pub held : AllFrom (Input tab slots) 0 first
   pub more : InFields tab l i rest
 
-pub record SoFar (l : List ℕ) (e count : ℕ) (slots : List ℕ) (k i : ℕ) : Type 0 where
+pub record SoFar (l : List ℕ) (e at count : ℕ) (slots : List ℕ) (k i : ℕ) : Type 0 where
   pub layout : Layout slots count
-  pub split : (b : ℕ) (P : Problem) → ParsedAt l e b count P → Split (take (e - 3) (drop 3 l)) l slots k i (P .equations)
+  pub split : (b : ℕ) (P : Problem) → ParsedAt l e b at count P → Split (take (e - 3) (drop 3 l)) l slots k i (P .equations)
 
 zeros-at : (n i : ℕ) → _≡_ {A = ℕ} (getD (replicate n 0) i 0) 0
 zeros-at zero i = refl
@@ -90,8 +91,8 @@ zeros-short n k = record { left = omega (arith, byte 6 (omega arith)); right = o
     byte a h =
         getD-take slot-width (drop (slot-width * k) (replicate n 0)) a 0 h ∙ getD-drop (slot-width * k) (replicate n 0) a 0 ∙ zeros-at n (slot-width * k + a)
 
-pub read-start : (l : List ℕ) (e count n : ℕ) → slot-width * count ≤ n → SoFar l e count (replicate n 0) 0 (e + 7)
-read-start l e count n h = record {
+pub read-start : (l : List ℕ) (e at count n : ℕ) → slot-width * count ≤ n → SoFar l e at count (replicate n 0) 0 at
+read-start l e at count n h = record {
   layout = record { room = omega (arith, length-replicate {A = ℕ} n 0); short = λ k _. zeros-short n k };
   split = λ b P A.
       let fits = accepts l P (A .is) .equations-fit in
@@ -102,7 +103,7 @@ read-start l e count n h = record {
         is = refl;
         number = refl;
         held = all-none (Input tab (replicate n 0)) 0;
-        more = laid-fields (length (P .symbols)) tab (A .table .table) l (e + 7) (P .equations) (parsed-laid l e b count P A) fits;
+        more = laid-fields (length (P .symbols)) tab (A .table .table) l at (P .equations) (parsed-laid l e b at count P A) fits;
       };
 }
 
@@ -125,9 +126,9 @@ module _ (tab l slots slots′ : List ℕ) (k i r : ℕ) (q : PutsEquation tab l
         more = subst (λ z. InFields tab l z rest) (sym (a .0)) (f .3);
       }
 
-pub read-more : (l : List ℕ) (e count : ℕ) (slots slots′ : List ℕ) (k i r : ℕ) → SoFar l e count slots k i → k < count →
-    PutsEquation (take (e - 3) (drop 3 l)) l i slots k slots′ r → SoFar l e count slots′ (k + 1) r
-read-more l e count slots slots′ k i r s h q = record {
+pub read-more : (l : List ℕ) (e at count : ℕ) (slots slots′ : List ℕ) (k i r : ℕ) → SoFar l e at count slots k i → k < count →
+    PutsEquation (take (e - 3) (drop 3 l)) l i slots k slots′ r → SoFar l e at count slots′ (k + 1) r
+read-more l e at count slots slots′ k i r s h q = record {
   layout = layout-put (s .layout) (q .only) (q .short (s .layout .short k h));
   split = λ b P A.
       let t = s .split b P A in
@@ -140,9 +141,9 @@ whole : (tab slots : List ℕ) (es first rest : List Equation) → es ≡ first 
 whole tab slots es first [] e n s = subst (AllFrom (Input tab slots) 0) (sym (e ∙ append-nil first)) s
 whole tab slots es first (q ∷ rest) e n s = absurd (omega (arith, ap length e, length-append first (q ∷ rest)))
 
-pub read-end : (l : List ℕ) (e count : ℕ) (slots : List ℕ) (k i : ℕ) → SoFar l e count slots k i → k ≡ count →
-    InputsRead l e count (record { bytes = slots; count = count })
-read-end l e count slots k i s n = record {
+pub read-end : (l : List ℕ) (e at count : ℕ) (slots : List ℕ) (k i : ℕ) → SoFar l e at count slots k i → k ≡ count →
+    InputsRead l e at count (record { bytes = slots; count = count })
+read-end l e at count slots k i s n = record {
   layout = s .layout;
   counted = refl;
   held = λ b P A.

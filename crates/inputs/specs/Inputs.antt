@@ -62,7 +62,7 @@ pub record PutsEquation (tab l : List ℕ) (at : ℕ) (slots : List ℕ) (k : �
 abbrev pub inputs-of : Problem → List Candidate
 inputs-of P = candidates waiting-input 1 (P .equations)
 
-pub record InputsRead (l : List ℕ) (table-end count : ℕ) (r : Pairs) : Type 0 where
+pub record InputsRead (l : List ℕ) (table-end equations count : ℕ) (r : Pairs) : Type 0 where
   pub layout : Layout (r .bytes) (r .count)
   pub counted : r .count ≡ count
-  pub held : (budget : ℕ) (P : Problem) → ParsedAt l table-end budget count P → Held (take (table-end - 3) (drop 3 l)) r (inputs-of P)
+  pub held : (budget : ℕ) (P : Problem) → ParsedAt l table-end budget equations count P → Held (take (table-end - 3) (drop 3 l)) r (inputs-of P)

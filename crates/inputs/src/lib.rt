@@ -15,9 +15,6 @@ const LAST_VARIABLE: u8 = 143;
 // The tag of an equation's field.
 const EQUATION: u8 = 3;
 
-// The bytes of the budget field, which stands between the symbols and the equations.
-const BUDGET_FIELD: usize = FIELD_HEAD + 4;
-
 // The end of the side that starts at `at`; at the latest it ends before a byte above the last variable's, and after 120 bytes.
 fn side_end(problem: &[u8], table: &[u8], at: usize) -> usize
     requires { ⌜ (at ≤ length (now problem)) × (length (now problem) ≤ 65536) ⌝ }
@@ -74,13 +71,13 @@ fn put_equation(problem: &[u8], table: &[u8], at: usize, slots: &mut [u8], k: us
     }
 }
 
-// The problem's equations. The table ends at `table_end`, and the equation fields start behind the budget field.
-pub fn read(problem: &[u8], table_end: usize, count: usize) -> Pairs
+// The problem's equations. The table ends at `table_end`, and the equation fields start at `equations`.
+pub fn read(problem: &[u8], table_end: usize, equations: usize, count: usize) -> Pairs
     requires { ⌜ (3 ≤ «table_end») × («table_end» ≤ length (now problem)) × (length (now problem) ≤ 65536) × (count ≤ most-equations) ⌝ }
-    ensures { λ r. ⌜ InputsRead (now (problem .entry)) «table_end» count r ⌝ }
+    ensures { λ r. ⌜ InputsRead (now (problem .entry)) «table_end» equations count r ⌝ }
 {
     let mut slots = [0u8; slots::ROOM];
-    let mut i = table_end + BUDGET_FIELD;
+    let mut i = equations;
     for k in 0..count {
         i = put_equation(problem, &problem[FIELD_HEAD..table_end], i, &mut slots, k);
     }

@@ -1,17 +1,15 @@
 -- Where the equations of an accepted problem lie: field behind field, each with the bytes of its two sides. Assumes nothing.
 -- Read first: specs/Parser, proofs/Sides.
 use mathlib.Core.Path.{_≡_, refl, ap, sym, _∙_}
-use mathlib.Core.Bool.{Bool, true, false}
 use mathlib.Core.List.{List, [], _∷_}
-use Prim.Native.Nat.{ℕ, zero, suc, _+_, _-_, _*_, _<_, _≤_}
+use Prim.Native.Nat.{ℕ, zero, suc, _+_, _-_, _≤_}
 use native.Mathlib.Omega.{arith}
-use lib.Dec.{ltb, eqb}
-use lib.ListN.{length, take, drop, getD, length-drop}
-use borrow.Author.Tests.{ltb-true, ltb-false, eqb-true, eqb-false}
+use lib.ListN.{length, take, drop, length-drop}
 use Rattle.problem.specs.Problem.{ok, ReadField, due, Equation, equation-field, equation-fields, Problem}
 use Rattle.problem.specs.Parser.{field-at, symbols-of, Table, ParsedAt}
-use Rattle.problem.proofs.Reading.{from-bind, no-ok, ok-injective}
-use Rattle.problem.proofs.Fields.{due-ended, due-short, due-past-end, due-other-tag, due-fine}
+use Rattle.reading.proofs.Reading.{from-bind, no-ok, ok-injective}
+use Rattle.reading.proofs.Fields.{field-is}
+use Rattle.problem.proofs.Fields.{due-read}
 use Rattle.problem.proofs.Sides.{Both, both-sides, first-of}
 
 -- A field that is due and read is the field of its bytes from its first place to its end.
@@ -21,37 +19,19 @@ pub record DueAt (tag : ℕ) (l : List ℕ) (at : ℕ) (f : ReadField) : Type 0 
   pub low : at + 3 ≤ end
   pub within : end ≤ length l
 
-module _ (tag : ℕ) (l : List ℕ) (at : ℕ) (f : ReadField) (h : due tag at (drop at l) ≡ ok f) where
-  n : ℕ
-  n = getD l (at + 1) 0 * 256 + getD l (at + 2) 0
-
-  pub due-at : DueAt tag l at f
-  unfolding n
-  due-at = one (ltb at (length l)) refl
-    where
-      four : 3 ≤ length l - at → n ≤ length l - at - 3 → (b : Bool) → eqb (getD l at 0) tag ≡ b → DueAt tag l at f
-      four p q true e =
-          let d = due-fine tag l at (getD l (at + 1) 0) (getD l (at + 2) 0) n p refl refl refl q (eqb-true _ _ e) in
-          record { end = at + 3 + n; is = ok-injective (sym h ∙ d .0); low = d .1; within = d .2 }
-      four p q false e = absurd (no-ok (sym (due-other-tag tag l at (getD l (at + 1) 0) (getD l (at + 2) 0) n p refl refl refl q (eqb-false _ _ e)) ∙ h))
-
-      three : 3 ≤ length l - at → (b : Bool) → ltb (length l - at - 3) n ≡ b → DueAt tag l at f
-      three p true e = absurd (no-ok (sym (due-past-end tag l at (getD l (at + 1) 0) (getD l (at + 2) 0) n p refl refl refl (ltb-true _ _ e)) ∙ h))
-      three p false e = four p (ltb-false _ _ e) (eqb (getD l at 0) tag) refl
-
-      two : at < length l → (b : Bool) → ltb (length l - at) 3 ≡ b → DueAt tag l at f
-      two p true e = absurd (no-ok (sym (due-short tag l at p (ltb-true _ _ e)) ∙ h))
-      two p false e = three (ltb-false _ _ e) (ltb (length l - at - 3) n) refl
-
-      one : (b : Bool) → ltb at (length l) ≡ b → DueAt tag l at f
-      one true e = two (ltb-true _ _ e) (ltb (length l - at) 3) refl
-      one false e = absurd (no-ok (sym (due-ended tag l at (ltb-false _ _ e)) ∙ h))
+pub due-at : (tag : ℕ) (l : List ℕ) (at : ℕ) (f : ReadField) → due tag at (drop at l) ≡ ok f → DueAt tag l at f
+unfolding field-at
+due-at tag l at f h =
+    let r = due-read tag at (drop at l) f h in
+    let G = field-is l at f (r .0) in
+    let t : G .tag ≡ tag = sym (ap (λ (f : ReadField). f .tag) (G .is)) ∙ r .1 in
+    record { end = G .end; is = G .is ∙ ap (λ n. field-at n l at (G .end)) t; low = G .low; within = G .within }
 
 module _ (tab : List ℕ) (T : Table tab) (l : List ℕ) where
   -- The equations from `at` on: each field starts where the one before it ends.
   unfoldable pub Laid : ℕ → List Equation → Type 0
   Laid at [] = length l ≤ at
-  Laid at (q ∷ qs) = (e : ℕ) × (due 0x03 at (drop at l) ≡ ok (field-at 0x03 l at e)) × (at + 3 ≤ e) × (e ≤ length l) × Both tab T l at q × Laid e qs
+  Laid at (q ∷ qs) = (e : ℕ) × (due 0x03 at (drop at l) ≡ ok (field-at 0x03 l at e)) × (at + 3 ≤ e) × (e ≤ length l) × Both tab T l at e q × Laid e qs
 
   ends-there : (more at : ℕ) (m : List ℕ) → equation-fields (symbols-of tab) more at m ≡ ok [] → length m ≡ 0
   unfolding equation-fields
@@ -81,6 +61,6 @@ module _ (tab : List ℕ) (T : Table tab) (l : List ℕ) where
       (D .end, F .due-is ∙ ap ok (D .is), D .low, D .within, both-sides tab T l at (D .end) (D .low) (D .within) q e, laid more (D .end) qs r)
 
 -- The equations of an accepted problem, from the end of its budget field on.
-pub parsed-laid : (l : List ℕ) (e b n : ℕ) (P : Problem) → (A : ParsedAt l e b n P) →
-    Laid (take (e - 3) (drop 3 l)) (A .table .table) l (e + 7) (P .equations)
-parsed-laid l e b n P A = laid (take (e - 3) (drop 3 l)) (A .table .table) l 16 (e + 7) (P .equations) (A .equations-are)
+pub parsed-laid : (l : List ℕ) (e b at n : ℕ) (P : Problem) → (A : ParsedAt l e b at n P) →
+    Laid (take (e - 3) (drop 3 l)) (A .table .table) l at (P .equations)
+parsed-laid l e b at n P A = laid (take (e - 3) (drop 3 l)) (A .table .table) l 16 at (P .equations) (A .equations-are)

@@ -1,6 +1,6 @@
 pub mod Reading
 pub mod Fields
-pub mod Scanned
+pub mod Pairs
 pub mod Parses
 pub mod Sides
 pub mod Laid

@@ -1,17 +1,17 @@
 -- The loop over equation fields, and the problem as a whole: a lemma for each step and each return. Assumes nothing.
--- Read first: specs/Parser, proofs/Fields, proofs/Scanned.
+-- Read first: specs/Parser, proofs/Fields, proofs/Pairs.
 use mathlib.Core.Path.{_≡_, refl, ap, sym, _∙_}
 use mathlib.Core.List.{List, [], _∷_, _++_, append-assoc, append-nil}
 use Prim.Native.Nat.{ℕ, zero, suc, _+_, _-_, _<_, _≤_}
 use native.Mathlib.Omega.{arith}
 use lib.ListN.{length, take, drop, length-append, length-drop, length-take, drop-of-length-le}
 use borrow.Author.Tests.{lt-ltb, le-ltb}
-use Rattle.problem.specs.Problem.{Reading, ok, refused, _>>=_, refuse-if, ReadField, due, Symbol, symbol-field, budget-field, Equation, equation-fields, Problem, parse}
-use Rattle.problem.specs.Parser.{field-at, symbols-of, SymbolsAt, BudgetAt, FieldAt, IsParsed, parsed-of}
+use Rattle.problem.specs.Problem.{Reading, ok, refused, _>>=_, refuse-if, due, Symbol, symbol-field, budget-field, Equation, equation-fields, Problem, parse}
+use Rattle.problem.specs.Parser.{field-at, symbols-of, SymbolsAt, FieldAt, parse-rest, RestAt, IsParsed, parsed-of}
 use Rattle.problem.specs.declared.Input.{Input}
 use Rattle.problem.specs.declared.Input.the-variants.{Fine, Refused as Bad}
-use Rattle.problem.proofs.Fields.{bind-ok, bind-refused}
-use Rattle.problem.proofs.Scanned.{one-more}
+use Rattle.reading.proofs.Reading.{bind-ok, bind-refused}
+use Rattle.problem.proofs.Pairs.{one-more}
 
 unfoldable pub prepend : List Equation → Reading (List Equation) → Reading (List Equation)
 prepend done (ok es) = ok (done ++ es)
@@ -66,6 +66,42 @@ module _ (tab l : List ℕ) (at : ℕ) where
     unfolding prepend
     fields-end h = (s .done ++ [], s .is ∙ rw (drop-of-length-le l h, none-behind (16 - count)) refl, ap length (append-nil (s .done)) ∙ s .number)
 
+-- `rest` returns
+module _ (tab l : List ℕ) (at : ℕ) where
+  pub rest-not-due : (n p : ℕ) → due 0x02 at (drop at l) ≡ refused n p → parse-rest (symbols-of tab) at (drop at l) ≡ refused n p
+  unfolding parse-rest
+  rest-not-due n p h = bind-refused _ h
+
+  module _ (e : ℕ) (d : (due 0x02 at (drop at l) ≡ ok (field-at 0x02 l at e)) × (at + 3 ≤ e) × (e ≤ length l)) where
+    pub rest-budget-refused : (n p : ℕ) → budget-field (field-at 0x02 l at e) ≡ refused n p → parse-rest (symbols-of tab) at (drop at l) ≡ refused n p
+    unfolding parse-rest
+    rest-budget-refused n p h = bind-ok _ (d .0) ∙ bind-refused _ h
+
+    module _ (b : ℕ) (B : (budget-field (field-at 0x02 l at e) ≡ ok b) × (e ≡ at + 7)) where
+      behind : parse-rest (symbols-of tab) at (drop at l) ≡
+          (equation-fields (symbols-of tab) 16 e (drop e l) >>= λ es. ok (record { symbols = symbols-of tab; budget = b; equations = es }))
+      unfolding parse-rest field-at
+      behind = bind-ok _ (d .0) ∙ bind-ok _ (B .0)
+
+      pub rest-equations-refused : (n p : ℕ) → equation-fields (symbols-of tab) 16 e (drop e l) ≡ refused n p →
+          parse-rest (symbols-of tab) at (drop at l) ≡ refused n p
+      rest-equations-refused n p q = behind ∙ bind-refused _ q
+
+      pub rest-fine : (n : ℕ) → ((es : List Equation) × (equation-fields (symbols-of tab) 16 e (drop e l) ≡ ok es) × (length es ≡ n)) →
+          (P : Problem) × RestAt tab l at b e n P
+      rest-fine n q = (
+        record { symbols = symbols-of tab; budget = b; equations = q .0 },
+        record {
+          is = behind ∙ bind-ok _ (q .1);
+          symbols-are = refl;
+          budget-is = refl;
+          begins = B .1;
+          within = d .2;
+          equations-are = q .1;
+          number = q .2;
+        },
+      )
+
 -- the problem
 bind-both : {A B C : Type 0} (m : Reading A) (f : A → Reading B) (g : A → B → Reading C) (n p : ℕ) → (m >>= f) ≡ refused n p →
     (m >>= λ a. f a >>= g a) ≡ refused n p
@@ -89,61 +125,44 @@ module _ (l : List ℕ) where
   parse-long h = answer-bad 2 8192 (rw (lt-ltb 8192 (length l) h) refl)
 
   module _ (h : length l ≤ 8192) where
-    rest-of : List Symbol → ReadField → Reading Problem
-    rest-of Σ s = due 0x02 (s .end) (s .rest) >>= λ b. budget-field b >>= λ budget. equation-fields Σ 16 (b .end) (b .rest) >>= λ es. ok (record { symbols = Σ; budget = budget; equations = es })
-
-    parse-is : parse l ≡ (due 0x01 0 l >>= λ s. symbol-field s >>= λ Σ. rest-of Σ s)
-    unfolding parse _>>=_ refuse-if rest-of
+    parse-is : parse l ≡ (due 0x01 0 l >>= λ s. symbol-field s >>= λ Σ. parse-rest Σ (s .end) (s .rest))
+    unfolding parse _>>=_ refuse-if parse-rest
     parse-is = rw (le-ltb 8192 (length l) h) refl
 
     pub parse-symbols-refused : (n p : ℕ) → (due 0x01 0 l >>= symbol-field) ≡ refused n p → Answer l (Bad n p)
-    parse-symbols-refused n p e = answer-bad n p (parse-is ∙ bind-both (due 0x01 0 l) symbol-field (λ s Σ. rest-of Σ s) n p e)
+    parse-symbols-refused n p e = answer-bad n p (parse-is ∙ bind-both (due 0x01 0 l) symbol-field (λ s Σ. parse-rest Σ (s .end) (s .rest)) n p e)
 
     module _ (e : ℕ) (S : SymbolsAt l e) where
       abbrev tab : List ℕ
       tab = take (e - 3) (drop 3 l)
 
-      budget-then : (n p : ℕ) → rest-of (symbols-of tab) (field-at 0x01 l 0 e) ≡ refused n p → parse l ≡ refused n p
-      budget-then n p q = parse-is ∙ bind-ok _ (S .field) ∙ bind-ok _ (S .read) ∙ q
+      parse-then : parse l ≡ parse-rest (symbols-of tab) e (drop e l)
+      unfolding field-at
+      parse-then = parse-is ∙ bind-ok _ (S .field) ∙ bind-ok _ (S .read)
 
-      rest-is : rest-of (symbols-of tab) (field-at 0x01 l 0 e) ≡
-          (due 0x02 e (drop e l) >>= λ b. budget-field b >>= λ budget. equation-fields (symbols-of tab) 16 (b .end) (b .rest) >>= λ es. ok (record { symbols = symbols-of tab; budget = budget; equations = es }))
-      unfolding rest-of field-at
-      rest-is = refl
+      pub parse-rest-refused : (n p : ℕ) → parse-rest (symbols-of tab) e (drop e l) ≡ refused n p → Answer l (Bad n p)
+      parse-rest-refused n p q = answer-bad n p (parse-then ∙ q)
 
-      pub parse-budget-refused : (n p : ℕ) → (due 0x02 e (drop e l) >>= budget-field) ≡ refused n p → Answer l (Bad n p)
-      parse-budget-refused n p q =
-          answer-bad n p (budget-then n p (rest-is ∙ bind-both (due 0x02 e (drop e l)) budget-field
-          (λ b budget. equation-fields (symbols-of tab) 16 (b .end) (b .rest) >>= λ es. ok (record { symbols = symbols-of tab; budget = budget; equations = es })) n p q))
-
-      module _ (b : ℕ) (B : BudgetAt l e b) where
-        behind : rest-of (symbols-of tab) (field-at 0x01 l 0 e) ≡
-            (equation-fields (symbols-of tab) 16 (e + 7) (drop (e + 7) l) >>= λ es. ok (record { symbols = symbols-of tab; budget = b; equations = es }))
-        unfolding field-at
-        behind = rest-is ∙ bind-ok _ (B .field) ∙ bind-ok _ (B .read)
-
-        pub parse-equations-refused : (n p : ℕ) → equation-fields (symbols-of tab) 16 (e + 7) (drop (e + 7) l) ≡ refused n p → Answer l (Bad n p)
-        parse-equations-refused n p q = answer-bad n p (budget-then n p (behind ∙ bind-refused _ q))
-
-        pub parse-fine : (n : ℕ) → ((es : List Equation) × (equation-fields (symbols-of tab) 16 (e + 7) (drop (e + 7) l) ≡ ok es) × (length es ≡ n)) → Answer l (Fine e b n)
-        unfolding parsed-of
-        parse-fine n q =
-            let P : Problem = record { symbols = symbols-of tab; budget = b; equations = q .0 } in
-            let is : parse l ≡ ok P = parse-is ∙ bind-ok _ (S .field) ∙ bind-ok _ (S .read) ∙ behind ∙ bind-ok _ (q .1) in
-            let z : 3 + (length (symbols-of tab) + length (symbols-of tab)) ≡ e =
-            omega (arith, S .table .even, length-take (e - 3) (drop 3 l), length-drop 3 l, S .low, S .within) in (
-              sym (ap parsed-of is ∙ rw (z, q .2) refl),
-              (
-                P,
-                record {
-                  is = is;
-                  small = h;
-                  table = S;
-                  symbols-are = refl;
-                  budget-is = refl;
-                  within = B .within;
-                  equations-are = q .1;
-                  number = q .2;
-                },
-              ),
-            )
+      pub parse-fine : (b at n : ℕ) (P : Problem) → RestAt tab l e b at n P → Answer l (Fine e b at n)
+      unfolding parsed-of
+      parse-fine b at n P R =
+          let is : parse l ≡ ok P = parse-then ∙ R .is in
+          let z : 3 + (length (P .symbols) + length (P .symbols)) ≡ e =
+          ap (λ (Σ : List Symbol). 3 + (length Σ + length Σ)) (R .symbols-are)
+          ∙ omega (arith, S .table .even, length-take (e - 3) (drop 3 l), length-drop 3 l, S .low, S .within) in
+          let w : e + 7 ≡ at = sym (R .begins) in (
+            sym (ap parsed-of is ∙ rw (z, R .budget-is, w, R .number) refl),
+            (
+              P,
+              record {
+                is = is;
+                small = h;
+                table = S;
+                symbols-are = R .symbols-are;
+                budget-is = R .budget-is;
+                within = R .within;
+                equations-are = R .equations-are;
+                number = R .number;
+              },
+            ),
+          )

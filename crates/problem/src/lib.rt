@@ -2,8 +2,8 @@
 ghost use mathlib.Core.Path.{_≡_};
 ghost use Prim.Native.Nat.{_+_, _<_, _≤_};
 ghost use lib.ListN.{length};
-ghost use Rattle.terms.specs.Base.{member};
-ghost use Rattle.problem.specs.Parser.{IsDue, ranks, IsTable, IsSymbols, IsBudget, Table, IsSide, IsEquation, IsField, IsFields, IsParsed, parsed-of};
+ghost use Rattle.reading.specs.Answers.{Table};
+ghost use Rattle.problem.specs.Parser.{IsDue, IsSymbols, IsBudget, IsEquation, IsEquations, IsRest, IsParsed, parsed-of};
 ghost use Rattle.problem.specs.Problem.{parse};
 
 // The numbers of document 01's refusals, as specs/Stops names them.
@@ -60,201 +60,98 @@ pub fn due(problem: &[u8], at: usize, tag: u8) -> Read
             place: at,
         };
     }
-    let left = problem.len() - at;
-    if left < 3 {
-        return Read::Refused {
+    match reading::field_at(problem, at) {
+        reading::Field::Cut => Read::Refused {
             number: CUT_FIELD,
             place: at,
-        };
+        },
+        reading::Field::At {
+            tag: found,
+            start: _,
+            end,
+        } => {
+            if found != tag {
+                return Read::Refused {
+                    number: WRONG_TAG,
+                    place: at,
+                };
+            }
+            Read::Value(end)
+        }
     }
-    let n = terms::wide(problem[at + 1]) * 256 + terms::wide(problem[at + 2]);
-    if left - 3 < n {
-        return Read::Refused {
-            number: CUT_FIELD,
-            place: at,
-        };
-    }
-    if problem[at] != tag {
-        return Read::Refused {
-            number: WRONG_TAG,
-            place: at,
-        };
-    }
-    Read::Value(at + 3 + n)
 }
 
-// Whether one of the first k symbols of the table has this rank.
-fn rank_seen(table: &[u8], k: usize, rank: u8) -> bool
-    requires { ⌜ k + k ≤ length (now table) ⌝ }
-    ensures { λ r. ⌜ r ≡ member rank (ranks (now (table .entry)) k) ⌝ }
-{
-    let mut j = k;
-    while j > 0 {
-        j -= 1;
-        if rank == table[j + j + 1] {
-            return true;
-        }
-    }
-    false
-}
-
-// The symbols of the table, whose bytes start at place 3.
-fn check_table(table: &[u8]) -> Read
-    requires { ⌜ length (now table) ≤ 32 ⌝ }
-    ensures { λ r. ⌜ IsTable (now (table .entry)) r ⌝ }
-{
-    let mut k: usize = 0;
-    while k + k + 1 < table.len() {
-        if table[k + k] > 4 {
-            return Read::Refused {
-                number: WRONG_ARITY_OR_RANK,
-                place: k + k + 3,
-            };
-        }
-        let rank = table[k + k + 1];
-        if rank > 15 {
-            return Read::Refused {
-                number: WRONG_ARITY_OR_RANK,
-                place: k + k + 4,
-            };
-        }
-        if rank_seen(table, k, rank) {
-            return Read::Refused {
-                number: SAME_RANK,
-                place: k + k + 4,
-            };
-        }
-        k += 1;
-    }
-    Read::Value(0)
-}
-
-// The symbol field: the place behind it.
-fn symbols(problem: &[u8]) -> Read
+// The symbol field: the place behind it. The table is the bytes from place 3 to there.
+pub fn symbols(problem: &[u8]) -> Read
     ensures { λ r. ⌜ IsSymbols (now (problem .entry)) r ⌝ }
 {
     match due(problem, 0, 0x01) {
         Read::Refused { number, place } => Read::Refused { number, place },
-        Read::Value(e) => {
-            let n = e - 3;
-            if n == 0 {
-                return Read::Refused {
-                    number: WRONG_SYMBOL_FIELD,
-                    place: 0,
-                };
-            }
-            if n % 2 == 1 {
-                return Read::Refused {
-                    number: WRONG_SYMBOL_FIELD,
-                    place: 0,
-                };
-            }
-            if n > 32 {
-                return Read::Refused {
-                    number: WRONG_SYMBOL_FIELD,
-                    place: 0,
-                };
-            }
-            match check_table(&problem[3..e]) {
-                Read::Refused { number, place } => Read::Refused { number, place },
-                Read::Value(_) => Read::Value(e),
-            }
-        }
-    }
-}
-
-// The budget field at `at`: the budget.
-fn budget(problem: &[u8], at: usize) -> Read
-    requires { ⌜ (at ≤ length (now problem)) × (length (now problem) ≤ 8192) ⌝ }
-    ensures { λ r. ⌜ IsBudget (now (problem .entry)) at r ⌝ }
-{
-    match due(problem, at, 0x02) {
-        Read::Refused { number, place } => Read::Refused { number, place },
-        Read::Value(e) => {
-            if e - at != 7 {
-                return Read::Refused {
-                    number: WRONG_BUDGET,
-                    place: at,
-                };
-            }
-            let a = terms::wide(problem[at + 3]) * 256 + terms::wide(problem[at + 4]);
-            let b = a * 256 + terms::wide(problem[at + 5]);
-            let n = b * 256 + terms::wide(problem[at + 6]);
-            if n > 1_000_000 {
-                return Read::Refused {
-                    number: WRONG_BUDGET,
-                    place: at,
-                };
-            }
-            Read::Value(n)
-        }
-    }
-}
-
-// The side of an equation that starts at `at`, in the bytes up to its field's end: the place behind it.
-fn side(t: &[u8], table: &[u8], at: usize) -> Read
-    requires { ⌜ Table (now table) ⌝ }
-    requires { ⌜ (at ≤ length (now t)) × (length (now t) ≤ 8192) ⌝ }
-    ensures { λ r. ⌜ IsSide (now (table .entry)) (now (t .entry)) at r ⌝ }
-{
-    match terms::checked_end(t, table, at) {
-        terms::Ends::Bad(place) => Read::Refused {
-            number: WRONG_TERM,
-            place,
-        },
-        terms::Ends::At(e) => {
-            if e - at > 120 {
-                return Read::Refused {
-                    number: LARGE_SIDE,
-                    place: at,
-                };
-            }
-            Read::Value(e)
-        }
-    }
-}
-
-// The equation field from `at` to `end`: both of its sides, and nothing behind them.
-fn equation(problem: &[u8], table: &[u8], at: usize, end: usize) -> Read
-    requires { ⌜ Table (now table) ⌝ }
-    requires { ⌜ (at + 3 ≤ end) × (end ≤ length (now problem)) × (length (now problem) ≤ 8192) ⌝ }
-    ensures { λ r. ⌜ IsEquation (now (table .entry)) (now (problem .entry)) at end r ⌝ }
-{
-    match side(&problem[0..end], table, at + 3) {
-        Read::Refused { number, place } => Read::Refused { number, place },
-        Read::Value(middle) => match side(&problem[0..end], table, middle) {
-            Read::Refused { number, place } => Read::Refused { number, place },
-            Read::Value(last) => {
-                if last < end {
-                    return Read::Refused {
-                        number: WRONG_TERM,
-                        place: last,
-                    };
-                }
-                Read::Value(last)
-            }
+        Read::Value(e) => match reading::check_symbols(&problem[3..e]) {
+            reading::Symbols::Fine => Read::Value(e),
+            reading::Symbols::WrongLength => Read::Refused {
+                number: WRONG_SYMBOL_FIELD,
+                place: 0,
+            },
+            reading::Symbols::WrongByte(place) => Read::Refused {
+                number: WRONG_ARITY_OR_RANK,
+                place: 3 + place,
+            },
+            reading::Symbols::SameRank(place) => Read::Refused {
+                number: SAME_RANK,
+                place: 3 + place,
+            },
         },
     }
+}
+
+// The budget field from `at` to `end`: the budget.
+fn budget(problem: &[u8], at: usize, end: usize) -> Read
+    requires { ⌜ (at + 3 ≤ end) × (end ≤ length (now problem)) ⌝ }
+    ensures { λ r. ⌜ IsBudget (now (problem .entry)) at end r ⌝ }
+{
+    let start = at + 3;
+    if end - start != 4 {
+        return Read::Refused {
+            number: WRONG_BUDGET,
+            place: at,
+        };
+    }
+    let n = reading::number(problem, start, 4);
+    if n > limits::BUDGET {
+        return Read::Refused {
+            number: WRONG_BUDGET,
+            place: at,
+        };
+    }
+    Read::Value(n)
 }
 
 // The equation field at `at`, behind `count` others: the place behind it.
-fn equation_field(problem: &[u8], table: &[u8], at: usize, count: usize) -> Read
+fn equation(problem: &[u8], table: &[u8], at: usize, count: usize) -> Read
     requires { ⌜ Table (now table) ⌝ }
     requires { ⌜ (at < length (now problem)) × (length (now problem) ≤ 8192) × (count ≤ 16) ⌝ }
-    ensures { λ r. ⌜ IsField (now (table .entry)) (now (problem .entry)) at count r ⌝ }
+    ensures { λ r. ⌜ IsEquation (now (table .entry)) (now (problem .entry)) at count r ⌝ }
 {
     match due(problem, at, 0x03) {
         Read::Refused { number, place } => Read::Refused { number, place },
         Read::Value(end) => {
-            if count == 16 {
+            if count == limits::EQUATIONS {
                 return Read::Refused {
                     number: MANY_EQUATIONS,
                     place: at,
                 };
             }
-            match equation(problem, table, at, end) {
-                Read::Refused { number, place } => Read::Refused { number, place },
-                Read::Value(_) => Read::Value(end),
+            match reading::pair_at(problem, table, at + 3, end) {
+                reading::Pair::Wrong(place) => Read::Refused {
+                    number: WRONG_TERM,
+                    place,
+                },
+                reading::Pair::Large(place) => Read::Refused {
+                    number: LARGE_SIDE,
+                    place,
+                },
+                reading::Pair::Filled(_) => Read::Value(end),
             }
         }
     }
@@ -264,12 +161,12 @@ fn equation_field(problem: &[u8], table: &[u8], at: usize, count: usize) -> Read
 fn equations(problem: &[u8], table: &[u8], at: usize) -> Read
     requires { ⌜ Table (now table) ⌝ }
     requires { ⌜ (at ≤ length (now problem)) × (length (now problem) ≤ 8192) ⌝ }
-    ensures { λ r. ⌜ IsFields (now (table .entry)) (now (problem .entry)) at r ⌝ }
+    ensures { λ r. ⌜ IsEquations (now (table .entry)) (now (problem .entry)) at r ⌝ }
 {
     let mut count: usize = 0;
     let mut i = at;
     while i < problem.len() {
-        match equation_field(problem, table, i, count) {
+        match equation(problem, table, i, count) {
             Read::Refused { number, place } => {
                 return Read::Refused { number, place };
             }
@@ -282,11 +179,47 @@ fn equations(problem: &[u8], table: &[u8], at: usize) -> Read
     Read::Value(count)
 }
 
+pub enum Rest {
+    // `count` equation fields, the first at `equations`.
+    Fine {
+        budget: usize,
+        equations: usize,
+        count: usize,
+    },
+    Refused {
+        number: u8,
+        place: usize,
+    },
+}
+
+// What follows the symbol field, over a given table and from a given place: the budget field, then the equation fields.
+pub fn parse_rest(problem: &[u8], table: &[u8], at: usize) -> Rest
+    requires { ⌜ Table (now table) ⌝ }
+    requires { ⌜ length (now problem) ≤ 8192 ⌝ }
+    ensures { λ r. ⌜ IsRest (now (table .entry)) (now (problem .entry)) at r ⌝ }
+{
+    match due(problem, at, 0x02) {
+        Read::Refused { number, place } => Rest::Refused { number, place },
+        Read::Value(end) => match budget(problem, at, end) {
+            Read::Refused { number, place } => Rest::Refused { number, place },
+            Read::Value(amount) => match equations(problem, table, end) {
+                Read::Refused { number, place } => Rest::Refused { number, place },
+                Read::Value(count) => Rest::Fine {
+                    budget: amount,
+                    equations: end,
+                    count,
+                },
+            },
+        },
+    }
+}
+
 pub enum Input {
-    // The table is the bytes from place 3 to `table_end`; `count` equation fields start at `table_end + 7`.
+    // The table is the bytes from place 3 to `table_end`; `count` equation fields start at `equations`.
     Fine {
         table_end: usize,
         budget: usize,
+        equations: usize,
         count: usize,
     },
     Refused {
@@ -298,23 +231,25 @@ pub enum Input {
 pub fn parse(problem: &[u8]) -> Input
     ensures { λ r. ⌜ (r ≡ parsed-of (parse (now (problem .entry)))) × IsParsed (now (problem .entry)) r ⌝ }
 {
-    if problem.len() > 8192 {
+    if problem.len() > limits::PROBLEM {
         return Input::Refused {
             number: LONG_PROBLEM,
-            place: 8192,
+            place: limits::PROBLEM,
         };
     }
     match symbols(problem) {
         Read::Refused { number, place } => Input::Refused { number, place },
-        Read::Value(e) => match budget(problem, e) {
-            Read::Refused { number, place } => Input::Refused { number, place },
-            Read::Value(amount) => match equations(problem, &problem[3..e], e + 7) {
-                Read::Refused { number, place } => Input::Refused { number, place },
-                Read::Value(count) => Input::Fine {
-                    table_end: e,
-                    budget: amount,
-                    count,
-                },
+        Read::Value(e) => match parse_rest(problem, &problem[3..e], e) {
+            Rest::Refused { number, place } => Input::Refused { number, place },
+            Rest::Fine {
+                budget,
+                equations,
+                count,
+            } => Input::Fine {
+                table_end: e,
+                budget,
+                equations,
+                count,
             },
         },
     }

@@ -7,7 +7,7 @@ use native.Mathlib.Omega.{arith}
 use lib.ListN.{length, take}
 use Rattle.completion.proofs.Writing.{written-front}
 use Rattle.problem.specs.Problem.{Reading, ok, refused}
-use Rattle.problem.proofs.Reading.{no-ok, ok-injective}
+use Rattle.reading.proofs.Reading.{no-ok, ok-injective}
 use Rattle.completion.specs.Calls.{complete-call, after-complete, Writes}
 use Rattle.completion.specs.Settle.{settle}
 use Rattle.completion.proofs.Capacity.{complete-writes}

@@ -8,7 +8,7 @@ use lib.ListN.{length}
 use Rattle.completion.proofs.Writing.{complete-is}
 use Rattle.terms.proofs.Every.{every-map}
 use Rattle.problem.specs.Problem.{Reading, ok, refused, _>>=_, Problem, parse}
-use Rattle.problem.proofs.Reading.{no-ok, ok-injective}
+use Rattle.reading.proofs.Reading.{no-ok, ok-injective}
 use Rattle.completion.specs.Turn.{run}
 use Rattle.completion.specs.Calls.{result-fields, result-bytes, complete-call, Writes}
 use Rattle.completion.specs.Settle.{settle}

@@ -100,16 +100,15 @@ pub fn put_lines(out: &mut [u8], result: &[u8]) -> usize
     let mut i = 0;
     let mut a = 0;
     while i < result.len() {
-        if result.len() - i < 3 {
-            return a;
+        match reading::field_at(result, i) {
+            reading::Field::Cut => {
+                return a;
+            }
+            reading::Field::At { tag, start, end } => {
+                a = put_line(out, a, tag, &result[start..end]);
+                i = end;
+            }
         }
-        let n = 256 * terms::wide(result[i + 1]) + terms::wide(result[i + 2]);
-        if result.len() - i - 3 < n {
-            return a;
-        }
-        let e = i + 3 + n;
-        a = put_line(out, a, result[i], &result[i + 3..e]);
-        i = e;
     }
     a
 }

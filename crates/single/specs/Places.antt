@@ -5,13 +5,11 @@ use Prim.Native.Nat.{ℕ, _+_, _-_, _≤_}
 use lib.ListN.{length, take, drop}
 use Rattle.terms.specs.Term.{Term, size}
 use Rattle.terms.specs.Flat.{Starts}
+use Rattle.reading.specs.Answers.{symbols-of, Table}
 use Rattle.problem.specs.Problem.{ok, refused}
-use Rattle.problem.specs.Parser.{symbols-of, Table}
-use Rattle.problem.specs.declared.Read.{Read}
-use Rattle.problem.specs.declared.Read.the-variants.{Value, Refused}
 use Rattle.completion.specs.Calls.{Single, parse-single}
 use Rattle.single.specs.declared.Equation.{Equation}
-use Rattle.single.specs.declared.Equation.the-variants.{At, Refused as Unread}
+use Rattle.single.specs.declared.Equation.the-variants.{At, Refused}
 
 -- the table of a problem, and the two sides of its only equation
 abbrev pub table : List ℕ → ℕ → List ℕ
@@ -23,31 +21,21 @@ left-side S = S .equation .sides .left
 abbrev pub right-side : Single → Term
 right-side S = S .equation .sides .right
 
--- a problem with one equation field, whose table ends at e: where its sides start
-pub record SingleAt (l : List ℕ) (e : ℕ) (S : Single) : Type 0 where
+-- a problem with one equation field, whose table ends at e: its sides begin at a and b, and the second ends at c
+pub record SidesAt (l : List ℕ) (e a b c : ℕ) (S : Single) : Type 0 where
   pub is : parse-single l ≡ ok S
   pub small : length l ≤ 8192
   pub symbols-are : S .symbols ≡ symbols-of (table l e)
   pub known : Table (table l e)
   pub low : 5 ≤ e
-  pub high : e ≤ 35
-  pub within : e + 10 ≤ length l
-  pub first-is : S .equation .first ≡ e + 7
-  pub left : Starts (table l e) (drop (e + 10) l) (left-side S)
-  pub right : Starts (table l e) (drop (e + 10 + size (left-side S)) l) (right-side S)
-
-abbrev pub IsSingle : List ℕ → Read → Type 0
-IsSingle l (Value e) = (S : Single) × SingleAt l e S
-IsSingle l (Refused n p) = parse-single l ≡ refused n p
-
--- its sides begin at a and b, and the second ends at c
-pub record SidesAt (l : List ℕ) (e a b c : ℕ) (S : Single) : Type 0 where
-  pub single : SingleAt l e S
-  pub left-is : a ≡ e + 10
+  pub table-within : e ≤ length l
+  pub left-is : a ≡ S .equation .first + 3
   pub right-is : b ≡ a + size (left-side S)
   pub end-is : c ≡ b + size (right-side S)
   pub within : c ≤ length l
+  pub left : Starts (table l e) (drop a l) (left-side S)
+  pub right : Starts (table l e) (drop b l) (right-side S)
 
 abbrev pub IsSides : List ℕ → Equation → Type 0
 IsSides l (At e a b c) = (S : Single) × SidesAt l e a b c S
-IsSides l (Unread n p) = parse-single l ≡ refused n p
+IsSides l (Refused n p) = parse-single l ≡ refused n p

@@ -54,8 +54,8 @@ comparison-requires c κs =
     let problem = entry .args .problem .now in
     let A = rw (at-table-end .table-end .given .1) at (at-sides .sides .ensures) in
     record {
-      left = part-small problem (at-table-end .table-end .given .0 .1 .0) (A .1 .single .small);
-      right = part-small problem (at-table-end .table-end .given .0 .1 .1 .0) (A .1 .single .small);
+      left = part-small problem (at-table-end .table-end .given .0 .1 .0) (A .1 .small);
+      right = part-small problem (at-table-end .table-end .given .0 .1 .1 .0) (A .1 .small);
     }
 
 named-requires : tie.Need-named-requires

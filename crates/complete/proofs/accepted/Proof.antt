@@ -19,7 +19,7 @@ returns : tie.Need-returns
 returns c =
     let at-run : tie.After-run = search depth 0 in
     let at-read = read-of-run at-run in
-    accepted-run _ _ _ _ _ _ _ _ _ (at-read .read .ensures) (at-run .run .ensures) (c .before .before .report .ensures)
+    accepted-run _ _ _ _ _ _ _ _ _ _ (at-read .read .ensures) (at-run .run .ensures) (c .before .before .report .ensures)
 
 pub accepted-spec : {M : Type 1} → statement M
 accepted-spec =

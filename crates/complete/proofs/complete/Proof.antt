@@ -18,7 +18,7 @@ accepted-requires : tie.Need-accepted-requires
 accepted-requires c κs =
     let at-parse : tie.After-parse = search depth 0 in
     let in-else1 : tie.Else1 = search depth 0 in
-    let q = accepted-needs _ _ _ _ (rw (c .before .before .table-end .given .1) at (at-parse .parse .ensures .1)) in
+    let q = accepted-needs _ _ _ _ _ (rw (c .before .before .table-end .given .1) at (at-parse .parse .ensures .1)) in
     ((q .low, q .within, q .small), (q .few, q .budget, (let p = in-else1 .if1 .left in omega arith)))
 
 returns-2 : tie.Need-returns-2

@@ -13,16 +13,16 @@ use Rattle.inputs.proofs.read.Statement.{statement}
 use Rattle.inputs.proofs.read.Tie as tie
 
 abbrev Inv-loop : tie.InvT-loop
-Inv-loop problem table-end count slots₀ i₀ k₀ slots i k =
-    (k ≤ count) × (length slots ≡ most-pairs * slot-width) × SoFar problem table-end count slots k i
+Inv-loop problem table-end equations count slots₀ i₀ k₀ slots i k =
+    (k ≤ count) × (length slots ≡ most-pairs * slot-width) × SoFar problem table-end equations count slots k i
 
 abbrev μ-loop : tie.MeasureT-loop
-μ-loop problem table-end count slots₀ i₀ k₀ slots i k = count - k
+μ-loop problem table-end equations count slots₀ i₀ k₀ slots i k = count - k
 
 loop-holds : tie.Need-loop-holds Inv-loop μ-loop
 loop-holds c =
     let entry : tie.Start Inv-loop μ-loop = search depth 0 in
-    (search needs, length-replicate {A = ℕ} (most-pairs * slot-width) 0, read-start _ _ _ (most-pairs * slot-width) (let a = entry .pre .3 in omega arith))
+    (search needs, length-replicate {A = ℕ} (most-pairs * slot-width) 0, read-start _ _ _ _ (most-pairs * slot-width) (let a = entry .pre .3 in omega arith))
 
 put-equation-requires : tie.Need-put-equation-requires Inv-loop μ-loop
 put-equation-requires c κs =
@@ -42,19 +42,18 @@ loop-again c =
     let in-loop : tie.In-loop Inv-loop μ-loop = search depth 0 in
     let at-loop : tie.At-loop Inv-loop μ-loop = search depth 0 in
     let q = at-put-equation .put-equation .ensures in
-    (search needs, q .only .same ∙ at-loop .loop .inv .1, read-more _ _ _ _ _ _ _ _ (at-loop .loop .inv .2) (in-loop .loop-test .taken) q)
+    (search needs, q .only .same ∙ at-loop .loop .inv .1, read-more _ _ _ _ _ _ _ _ _ (at-loop .loop .inv .2) (in-loop .loop-test .taken) q)
 
 returns : tie.Need-returns Inv-loop μ-loop
 returns c =
     let at-loop : tie.At-loop Inv-loop μ-loop = search depth 0 in
-    read-end _ _ _ _ _ _ (at-loop .loop .inv .2) (let a = at-loop .loop .inv .0 in let b = c .loop-test .left in omega arith)
+    read-end _ _ _ _ _ _ _ (at-loop .loop .inv .2) (let a = at-loop .loop .inv .0 in let b = c .loop-test .left in omega arith)
 
 pub read-spec : {M : Type 1} → statement M
 read-spec =
     tie.close
     (tie.spec
     Inv-loop μ-loop
-    (λ c. search needs)
     loop-holds
     (λ c. search needs) (λ c. search needs) (λ c. search needs) (λ c. search needs) put-equation-requires
     (λ c. search needs) (λ c. search needs) loop-again

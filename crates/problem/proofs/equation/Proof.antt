@@ -1,72 +1,85 @@
--- `problem::equation` meets its contract. Assumes nothing.
--- Read first: proofs/Scanned.
-use Rattle.problem.proofs.Scanned.{equation-left-refused, equation-right-refused, equation-more, equation-fine, part-short}
+-- `equation`: what `due` and `pair_at` answer, with the numbers of the refusals. Assumes nothing.
+-- Read first: specs/Parser (IsEquation, FieldAt), proofs/Pairs.
+use native.Mathlib.Omega.{arith}
+use Rattle.problem.proofs.Pairs.{equation-not-due, equation-seventeenth, equation-refused, equation-fine}
 use borrow.Author.Needs.{needs}
 use Rattle.problem.proofs.equation.Statement.{statement}
 use Rattle.problem.proofs.equation.Tie as tie
 
-side-requires-2 : tie.Need-side-requires-2
-side-requires-2 c κs =
-    let at-side : tie.After-side = search depth 0 in
-    let entry : tie.Start = search depth 0 in
-    let X = rw (c .before .before .middle .given .1) at (at-side .side .ensures) in
-    (entry .pre .0, (X .1 .within, part-short _ (entry .pre .0) _ _ _ (entry .pre .1 .0) (entry .pre .1 .1) (entry .pre .1 .2)))
-
 returns : tie.Need-returns
 returns c =
-    let at-side2 : tie.After-side2 = search depth 0 in
-    let at-middle : tie.After-middle = search depth 0 in
-    let at-side : tie.After-side = search depth 0 in
+    let at-end : tie.After-end = search depth 0 in
+    let at-due : tie.After-due = search depth 0 in
     let entry : tie.Start = search depth 0 in
-    let X = rw (at-middle .middle .given .1) at (at-side .side .ensures) in
-    let Y = rw (c .before .before .last .given .1) at (at-side2 .side2 .ensures) in
-    equation-more _ (entry .pre .0) _ _ _ (entry .pre .1 .0) (entry .pre .1 .1) _ _ (X .1) _ _ (Y .1) (c .if1 .taken)
+    equation-seventeenth _ _ _ _ (entry .pre .1 .0) _ (rw (at-end .end .given .1) at (at-due .due .ensures)) (c .if1 .taken)
+
+add-pair-at : tie.Need-add-pair-at
+add-pair-at c =
+    let at-end : tie.After-end = search depth 0 in
+    let at-due : tie.After-due = search depth 0 in
+    let d = rw (at-end .end .given .1) at (at-due .due .ensures) in omega (arith, d .1, d .2)
+
+pair-at-requires : tie.Need-pair-at-requires
+pair-at-requires c κs =
+    let at-end : tie.After-end = search depth 0 in
+    let at-due : tie.After-due = search depth 0 in
+    let entry : tie.Start = search depth 0 in
+    let d = rw (at-end .end .given .1) at (at-due .due .ensures) in
+    (entry .pre .0, (d .1, d .2, omega (arith, entry .pre .1 .1)))
 
 returns-2 : tie.Need-returns-2
 returns-2 c =
-    let at-side : tie.After-side = search depth 0 in
+    let at-due : tie.After-due = search depth 0 in
     let entry : tie.Start = search depth 0 in
-    equation-left-refused _ (entry .pre .0) _ _ _ (entry .pre .1 .0) (entry .pre .1 .1) _ _
-    (rw (c .before .number .given .1) at (at-side .side .ensures))
+    equation-not-due _ _ _ _ (entry .pre .1 .0) _ _ (rw (c .before .number .given .1) at (at-due .due .ensures))
 
 returns-3 : tie.Need-returns-3
 returns-3 c =
-    let at-side2 : tie.After-side2 = search depth 0 in
-    let at-middle : tie.After-middle = search depth 0 in
-    let at-side : tie.After-side = search depth 0 in
+    let at-place : tie.After-place = search depth 0 in
+    let at-pair-at : tie.After-pair-at = search depth 0 in
+    let in-else1 : tie.Else1 = search depth 0 in
+    let at-end : tie.After-end = search depth 0 in
+    let at-due : tie.After-due = search depth 0 in
     let entry : tie.Start = search depth 0 in
-    let X = rw (at-middle .middle .given .1) at (at-side .side .ensures) in
-    equation-right-refused _ (entry .pre .0) _ _ _ (entry .pre .1 .0) (entry .pre .1 .1) _ _ (X .1) _ _
-    (rw (c .before .number2 .given .1) at (at-side2 .side2 .ensures))
+    equation-refused _ _ _ _ (entry .pre .1 .0) _ (rw (at-end .end .given .1) at (at-due .due .ensures)) (in-else1 .if1 .left)
+    (entry .pre .1 .2) _ _ (rw (at-place .place .given .1) at (at-pair-at .pair-at .ensures))
 
 returns-4 : tie.Need-returns-4
 returns-4 c =
-    let at-side2 : tie.After-side2 = search depth 0 in
-    let at-middle : tie.After-middle = search depth 0 in
-    let at-side : tie.After-side = search depth 0 in
+    let at-place2 : tie.After-place2 = search depth 0 in
+    let at-pair-at : tie.After-pair-at = search depth 0 in
+    let in-else1 : tie.Else1 = search depth 0 in
+    let at-end : tie.After-end = search depth 0 in
+    let at-due : tie.After-due = search depth 0 in
     let entry : tie.Start = search depth 0 in
-    let X = rw (at-middle .middle .given .1) at (at-side .side .ensures) in
-    let Y = rw (c .before .before .last .given .1) at (at-side2 .side2 .ensures) in
-    equation-fine _ (entry .pre .0) _ _ _ (entry .pre .1 .0) (entry .pre .1 .1) _ _ (X .1) _ _ (Y .1) (c .if1 .left)
+    equation-refused _ _ _ _ (entry .pre .1 .0) _ (rw (at-end .end .given .1) at (at-due .due .ensures)) (in-else1 .if1 .left)
+    (entry .pre .1 .2) _ _ (rw (at-place2 .place2 .given .1) at (at-pair-at .pair-at .ensures))
+
+returns-5 : tie.Need-returns-5
+returns-5 c =
+    let at-pair-at : tie.After-pair-at = search depth 0 in
+    let in-else1 : tie.Else1 = search depth 0 in
+    let at-end : tie.After-end = search depth 0 in
+    let at-due : tie.After-due = search depth 0 in
+    let entry : tie.Start = search depth 0 in
+    let p = rw (c .enum-told .given .1) at (at-pair-at .pair-at .ensures) in
+    equation-fine _ _ _ _ (entry .pre .1 .0) _ (rw (at-end .end .given .1) at (at-due .due .ensures)) (in-else1 .if1 .left)
+    (entry .pre .1 .2) _ (p .0) (p .1)
 
 pub equation-spec : {M : Type 1} → statement M
 equation-spec =
     tie.close
     (tie.spec
-    (λ c. search needs)
-    (λ c. search needs)
-    (λ c. search needs)
-    (λ c. search needs)
     (λ c κs. search needs)
     (λ c. search needs)
     (λ c. search needs)
-    (λ c. search needs)
-    (λ c. search needs)
-    (λ c. search needs)
-    side-requires-2
-    (λ c. search needs)
-    (λ c. search needs)
     returns
+    add-pair-at
+    pair-at-requires
+    (λ c. search needs)
+    (λ c. search needs)
+    (λ c. search needs)
     returns-2
     returns-3
-    returns-4)
+    returns-4
+    returns-5)

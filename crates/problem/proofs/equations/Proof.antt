@@ -1,5 +1,5 @@
--- `problem::equations` meets its contract. Assumes nothing.
--- Read first: proofs/Parses.
+-- `equations`: the invariant is that the fields before i are `count` equations; the bytes to come fall. Assumes nothing.
+-- Read first: specs/Parser (IsEquations), proofs/Parses (SoFar).
 use native.Mathlib.Omega.{arith}
 use Rattle.problem.proofs.Parses.{SoFar, fields-start, fields-turn, fields-bad, fields-end}
 use lib.ListN.{length}
@@ -19,21 +19,21 @@ loop-holds c = (search needs, search needs, fields-start _ _ _)
 
 returns : tie.Need-returns Inv-loop μ-loop
 returns c =
-    let at-equation-field : tie.After-equation-field Inv-loop μ-loop = search depth 0 in
+    let at-equation : tie.After-equation Inv-loop μ-loop = search depth 0 in
     let at-loop : tie.At-loop Inv-loop μ-loop = search depth 0 in
-    fields-bad _ _ _ _ _ (at-loop .loop .inv .2) _ _ (rw (c .before .number .given .1) at (at-equation-field .equation-field .ensures))
+    fields-bad _ _ _ _ _ (at-loop .loop .inv .2) _ _ (rw (c .before .number .given .1) at (at-equation .equation .ensures))
 
 loop-less : tie.Need-loop-less Inv-loop μ-loop
 loop-less c =
-    let at-equation-field : tie.After-equation-field Inv-loop μ-loop = search depth 0 in
-    let f = rw (c .before .end .given .1) at (at-equation-field .equation-field .ensures) in omega (arith, f .low, f .within)
+    let at-equation : tie.After-equation Inv-loop μ-loop = search depth 0 in
+    let f = rw (c .before .end .given .1) at (at-equation .equation .ensures) in omega (arith, f .low, f .within)
 
 loop-again : tie.Need-loop-again Inv-loop μ-loop
 loop-again c =
-    let at-equation-field : tie.After-equation-field Inv-loop μ-loop = search depth 0 in
+    let at-equation : tie.After-equation Inv-loop μ-loop = search depth 0 in
     let in-loop : tie.In-loop Inv-loop μ-loop = search depth 0 in
     let at-loop : tie.At-loop Inv-loop μ-loop = search depth 0 in
-    let f = rw (c .before .end .given .1) at (at-equation-field .equation-field .ensures) in
+    let f = rw (c .before .end .given .1) at (at-equation .equation .ensures) in
     (f .more, f .within, fields-turn _ _ _ _ _ (at-loop .loop .inv .2) (in-loop .loop-test .taken) _ f)
 
 returns-2 : tie.Need-returns-2 Inv-loop μ-loop

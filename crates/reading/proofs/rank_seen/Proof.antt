@@ -1,13 +1,13 @@
--- `problem::rank_seen` meets its contract. Assumes nothing.
--- Read first: proofs/Fields.
-use Rattle.problem.proofs.Fields.{seen-here, seen-before, seen-none}
-use Rattle.problem.specs.Parser.{ranks}
+-- `reading::rank_seen` meets its contract. Assumes nothing.
+-- Read first: proofs/Tables.
+use Rattle.reading.proofs.Tables.{seen-here, seen-before, seen-none}
+use Rattle.reading.specs.Answers.{ranks}
 use Rattle.terms.specs.Base.{member}
 use Prim.Native.Nat.{_≤_}
 use mathlib.Core.Path.{_≡_, refl, _∙_}
 use borrow.Author.Needs.{needs}
-use Rattle.problem.proofs.rank_seen.Statement.{statement}
-use Rattle.problem.proofs.rank_seen.Tie as tie
+use Rattle.reading.proofs.rank_seen.Statement.{statement}
+use Rattle.reading.proofs.rank_seen.Tie as tie
 
 abbrev Inv-loop : tie.InvT-loop
 Inv-loop table k rank j₀ j = (j ≤ k) × (member rank (ranks table j) ≡ member rank (ranks table k))

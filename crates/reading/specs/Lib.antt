@@ -1,0 +1,4 @@
+pub mod Stops
+pub mod Forms
+pub mod Over
+pub mod Answers
