@@ -88,8 +88,8 @@ module _ (tab l : List ℕ) (at : ℕ) where
       rest-equations-refused n p q = behind ∙ bind-refused _ q
 
       pub rest-fine : (n : ℕ) → ((es : List Equation) × (equation-fields (symbols-of tab) 16 e (drop e l) ≡ ok es) × (length es ≡ n)) →
-          (P : Problem) × RestAt tab l at b e n P
-      rest-fine n q = (
+          (P : Problem) × RestAt tab l at b (at + 7) n P
+      rest-fine n q = rw (← B .1) (
         record { symbols = symbols-of tab; budget = b; equations = q .0 },
         record {
           is = behind ∙ bind-ok _ (q .1);

@@ -179,6 +179,9 @@ fn equations(problem: &[u8], table: &[u8], at: usize) -> Read
     Read::Value(count)
 }
 
+// The budget field: its head, and four bytes.
+const BUDGET_FIELD: usize = limits::FIELD_HEAD + 4;
+
 pub enum Rest {
     // `count` equation fields, the first at `equations`.
     Fine {
@@ -204,9 +207,10 @@ pub fn parse_rest(problem: &[u8], table: &[u8], at: usize) -> Rest
             Read::Refused { number, place } => Rest::Refused { number, place },
             Read::Value(amount) => match equations(problem, table, end) {
                 Read::Refused { number, place } => Rest::Refused { number, place },
+                // `end`, which is not kept through the equations: the walk over them has no register to spare.
                 Read::Value(count) => Rest::Fine {
                     budget: amount,
-                    equations: end,
+                    equations: at + BUDGET_FIELD,
                     count,
                 },
             },
