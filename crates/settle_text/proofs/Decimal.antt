@@ -12,8 +12,7 @@ use lib.ListN.{length, set, length-set, length-append}
 use borrow.Author.Tests.{lt-ltb, le-ltb, ltb-false}
 use Rattle.terms.specs.Base.{if_then_else_}
 use Rattle.completion.specs.Settle.{decimal-in, decimal}
-use Rattle.store.specs.Slots.{patched}
-use Rattle.fields.specs.Puts.{Puts}
+use Rattle.fields.specs.Puts.{patched, Puts}
 use Rattle.fields.proofs.Appending.{patched-before, patched-one}
 
 in-small : (k n : ℕ) → n < 10 → decimal-in (suc k) n ≡ (48 + n) ∷ []

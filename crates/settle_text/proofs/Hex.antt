@@ -9,9 +9,9 @@ use lib.ListN.{length, getD, drop, drop-of-length-le}
 use lib.Seq.{drop-cons}
 use borrow.Author.Tests.{lt-ltb, le-ltb}
 use Rattle.terms.specs.Base.{if_then_else_}
+use Rattle.completion.specs.Calls.{written}
 use Rattle.completion.specs.Settle.{ascii, hex-digit, hex-byte, decimal, line}
-use Rattle.store.specs.Slots.{patched}
-use Rattle.fields.specs.Puts.{Puts, PutsSome, tagged}
+use Rattle.fields.specs.Puts.{patched, Puts, PutsSome, tagged}
 use Rattle.fields.proofs.Appending.{patched-none, patched-behind, patched-front}
 use Rattle.fields.proofs.Putting.{puts-length, puts-then, puts-counted}
 use Rattle.settle_text.specs.Text.{Refusal}
@@ -112,7 +112,7 @@ module _ (l l₁ l₂ l₃ l₄ l₅ : List ℕ) (number place a b r : ℕ) (roo
     (e₁ : l₁ ≡ patched 0 (114 ∷ 101 ∷ 102 ∷ 117 ∷ 115 ∷ 101 ∷ 100 ∷ 32 ∷ []) l) (p₂ : Puts l₁ 8 (length (decimal number)) (decimal number) l₂ a)
     (e₃ : l₃ ≡ patched a (32 ∷ 97 ∷ 116 ∷ 32 ∷ []) l₂) (p₄ : Puts l₃ (a + 4) (length (decimal place)) (decimal place) l₄ b) (p₅ : Puts l₄ b 1 (10 ∷ []) l₅ r) where
   pub puts-refused : (r ≤ 64) × Refusal number place l l₅ r
-  unfolding ascii
+  unfolding ascii written
   puts-refused =
       let one : length (decimal number) ≤ 20 = twenty-digits number n-few in
       let other : length (decimal place) ≤ 20 = twenty-digits place p-few in

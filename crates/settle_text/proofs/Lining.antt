@@ -13,9 +13,9 @@ use Rattle.reading.specs.Forms.{ok, refused, ReadField, read-field}
 use Rattle.reading.specs.Answers.{field-at, WholeAt}
 use Rattle.reading.proofs.Reading.{no-ok, ok-injective}
 use Rattle.reading.proofs.Fields.{field-back}
+use Rattle.completion.specs.Calls.{written}
 use Rattle.completion.specs.Settle.{line}
-use Rattle.store.specs.Slots.{patched}
-use Rattle.fields.specs.Puts.{PutsSome, tagged}
+use Rattle.fields.specs.Puts.{patched, PutsSome, tagged}
 use Rattle.fields.proofs.Appending.{patched-none, patched-behind, patched-front}
 use Rattle.fields.proofs.Putting.{puts-length}
 use Rattle.settle_text.specs.Text.{Lines}
@@ -137,6 +137,7 @@ module _ (result out₀ : List ℕ) (big : 4 * length result ≤ length out₀) 
   printing-room = let w : a ≤ 4 * i = p .room in let v : i ≤ length result = p .within in omega arith
 
   pub printing-end : length result ≤ i → Lines result out₀ out a
+  unfolding written
   printing-end l fs h e =
       let q : Lining result out₀ fs i a out = p .lines fs h e in
       let none : q .rest ≡ [] = no-bytes (q .rest) (sym (ap length (q .left)) ∙ omega (arith, length-drop i result)) in

@@ -118,9 +118,9 @@ pub fn put_refused(out: &mut [u8], number: usize, place: usize) -> usize
     requires { ⌜ 64 ≤ length (now out) ⌝ }
     ensures { λ r. ⌜ (r ≤ 64) × Refusal number place (now (out .entry)) (now (out .exit)) r ⌝ }
 {
-    store::paste(out, 0, b"refused ");
+    fields::paste(out, 0, b"refused ");
     let a = put_decimal(out, 8, number);
-    store::paste(out, a, b" at ");
+    fields::paste(out, a, b" at ");
     let b = put_decimal(out, a + 4, place);
     put_byte(out, b, b'\n')
 }
@@ -131,7 +131,7 @@ pub fn text(problem: &[u8], out: &mut [u8]) -> usize
     ensures { λ r. ⌜ Writes (now (out .entry)) (settle (now (problem .entry))) (now (out .exit)) r ⌝ }
     ensures { λ r. ⌜ r ≤ length (now (out .entry)) ⌝ }
 {
-    let mut result = [0u8; 16384];
+    let mut result = [0u8; limits::BUFFER];
     match complete::complete(problem, &mut result) {
         complete::Completed::Written(n) => put_lines(out, &result[0..n]),
         complete::Completed::Refused { number, place } => {
