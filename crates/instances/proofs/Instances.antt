@@ -6,6 +6,7 @@ use Prim.Native.Nat.{ℕ, _+_, _≤_}
 use native.Mathlib.Omega.{arith}
 use lib.ListN.{length, take, drop, length-take}
 use lib.Seq.{take-at, length-take-le}
+use Rattle.limits.specs.Limits.{most-nodes, most-pair}
 use Rattle.terms.specs.Base.{field-bytes}
 use Rattle.terms.specs.Term.{Term, Terms, nil, cons, size, sizes, term-bytes, terms-bytes}
 use Rattle.terms.proofs.Bytes.{length-bytes}
@@ -22,20 +23,20 @@ use Rattle.fields.proofs.Appending.{patched-front}
 use Rattle.instances.specs.Common.{instance-field, Spelt, WritesSpelt}
 
 -- `write_instance`
-pub front-room : (n : ℕ) (l : List ℕ) → n ≤ 120 → length l ≡ 120 → (n ≤ length l) × (n ≤ 240) × (length (collect [] (take n l)) ≤ 127)
+pub front-room : (n : ℕ) (l : List ℕ) → n ≤ most-nodes → length l ≡ most-nodes → (n ≤ length l) × (n ≤ most-pair) × (length (collect [] (take n l)) ≤ 127)
 front-room n l h k = (omega arith, omega arith, omega (arith, collect-few [] (take n l), length-take n l))
 
 module _ (l tab ends cs : List ℕ) (k : Spelt l tab ends cs) where
-  pub spelt-room : (us : Terms) × SpellsAll (arena l tab ends) (at cs) 0 1 us × (0 + sizes us ≤ 120)
+  pub spelt-room : (us : Terms) × SpellsAll (arena l tab ends) (at cs) 0 1 us × (0 + sizes us ≤ most-nodes)
   unfolding sizes
   spelt-room = (cons (k .term) nil, more (k .spells) no-more, omega (arith, k .small))
 
-  module _ (d e : List ℕ) (r : ℕ) (z : length d ≡ 120) (w : WritesTerms (arena l tab ends) (at cs) 0 1 0 d r e) where
+  module _ (d e : List ℕ) (r : ℕ) (z : length d ≡ most-nodes) (w : WritesTerms (arena l tab ends) (at cs) 0 1 0 d r e) where
     spelt-end : (u : Term) → Spells (arena l tab ends) (at cs) 0 u → r ≡ size u
     unfolding sizes
     spelt-end u p = omega (arith, w .ends (cons u nil) (more p no-more))
 
-    pub spelt-few : (r ≤ 120) × (length e ≡ 120)
+    pub spelt-few : (r ≤ most-nodes) × (length e ≡ most-nodes)
     spelt-few = (omega (arith, spelt-end (k .term) (k .spells), k .small), w .long ∙ z)
 
     spelt-bytes : (u : Term) → Spells (arena l tab ends) (at cs) 0 u → take r e ≡ term-bytes u
@@ -56,5 +57,5 @@ module _ (l tab ends cs : List ℕ) (k : Spelt l tab ends cs) where
           let c : (u : Term) → Spells (arena l tab ends) (at cs) 0 u → take r q ≡ renamed-bytes (term-bytes u)
           = λ u p. front-is ∙ ap renamed-bytes (spelt-bytes u p) in
           let k : n ≡ length (field-bytes (tagged 0x15 (take r q))) = omega (arith, f .next, f .counted) in
-          let w : d₁ ≡ written (field-bytes (tagged 0x15 (take r q))) d₀ = f .bytes ∙ patched-front _ d₀ in
+          let w : d₁ ≡ written (field-bytes (tagged 0x15 (take r q))) d₀ = unfold written in f .bytes ∙ patched-front (field-bytes (tagged 0x15 (take r q))) d₀ in
           record { count = λ u p. rw (c u p) at k; leaves = λ u p. rw (c u p) at w }

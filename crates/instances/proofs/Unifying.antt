@@ -9,6 +9,7 @@ use Prim.Native.Nat.{ℕ, _+_, _<_, _≤_}
 use native.Mathlib.Omega.{arith}
 use lib.ListN.{length, length-append}
 use borrow.Author.Tests.{lt-ltb, le-ltb}
+use Rattle.limits.specs.Limits.{most-nodes, most-pair}
 use Rattle.terms.specs.Base.{if_then_else_, is-some, field-bytes}
 use Rattle.terms.specs.Term.{Term, nil, cons, size, term-bytes, terms-bytes, subterm-in, subst-term}
 use Rattle.terms.specs.Flat.{Wf}
@@ -54,7 +55,7 @@ module _ (l tab : List ℕ) (s t : Term) (k : SidesOf l tab s t) where
 
 -- `common_instance` asks `unify`
 pub unify-asks : (l tab : List ℕ) (b : ℕ) → TwoSides l tab b →
-    ((length l ≤ 600) × (length l ≤ 240) × (length l ≤ 240) × (length l ≤ 240)) × (LaidOut l tab × (0 < length l) × (b < length l))
+    ((length l ≤ 600) × (length l ≤ most-pair) × (length l ≤ most-pair) × (length l ≤ most-pair)) × (LaidOut l tab × (0 < length l) × (b < length l))
 unify-asks l tab b k =
     let n = sides-length l tab (k .s) (k .t) (k .sides) in
     let p = size-pos (k .s) in
@@ -95,14 +96,14 @@ module _ (l tab : List ℕ) (b : ℕ) (ends cs zs : List ℕ) (h : Solved l tab 
     sizes-agree : size (under m s) ≡ size found
     sizes-agree = solved-sizes l tab 0 b ends cs zs h s t spelt (sides-spell l tab s t k b ends cs zs h e .1) m f s
 
-    large-found : 120 < at zs 0 → unified s (some m) ≡ instance-too-large
+    large-found : most-nodes < at zs 0 → unified s (some m) ≡ instance-too-large
     unfolding unified if_then_else_
-    large-found z = rw (lt-ltb 120 (size (under m s)) (omega (arith, sizes-agree, large-size l tab 0 b ends cs zs h 0 s spelt z))) refl
+    large-found z = rw (lt-ltb most-nodes (size (under m s)) (omega (arith, sizes-agree, large-size l tab 0 b ends cs zs h 0 s spelt z))) refl
 
-    field-found : at zs 0 ≤ 120 → unified s (some m) ≡ instance (instance-field found)
+    field-found : at zs 0 ≤ most-nodes → unified s (some m) ≡ instance (instance-field found)
     unfolding unified if_then_else_ instance-field
     field-found z =
-        rw (le-ltb 120 (size (under m s)) (omega (arith, sizes-agree, small-size l tab 0 b ends cs zs h 0 s spelt z)))
+        rw (le-ltb most-nodes (size (under m s)) (omega (arith, sizes-agree, small-size l tab 0 b ends cs zs h 0 s spelt z)))
         (ap (λ (x : List ℕ). instance (field-bytes (record { tag = 0x15; contents = x })))
         (ap term-bytes (renamed-twice (under m s)) ∙ sym (instance-renamed l tab 0 b ends cs zs h 0 s spelt s t spelt (sides-spell l tab s t k b ends cs zs h e .1) m f)))
 
@@ -110,7 +111,7 @@ module _ (l tab : List ℕ) (b : ℕ) (ends cs zs : List ℕ) (h : Solved l tab 
     the-found : (s t : Term) → SidesOf l tab s t → b ≡ size s → (m : List Binding) × (mgu s t ≡ some m)
     the-found s t k e = some-is (mgu s t) (sym y ∙ sides-decide l tab s t k b r a e)
 
-    pub answers-large : 120 < at zs 0 → (d : List ℕ) → SidesUnify l tab b TooLarge d d
+    pub answers-large : most-nodes < at zs 0 → (d : List ℕ) → SidesUnify l tab b TooLarge d d
     unfolding found-of after-unify
     answers-large z d =
         record {
@@ -120,7 +121,7 @@ module _ (l tab : List ℕ) (b : ℕ) (ends cs zs : List ℕ) (h : Solved l tab 
               rw g (record { answer = refl; leaves = refl });
         }
 
-    pub answers-instance : at zs 0 ≤ 120 → 0 < length l → (n : ℕ) (d d′ : List ℕ) → WritesSpelt l tab ends cs n d d′ → SidesUnify l tab b (Instance n) d d′
+    pub answers-instance : at zs 0 ≤ most-nodes → 0 < length l → (n : ℕ) (d d′ : List ℕ) → WritesSpelt l tab ends cs n d d′ → SidesUnify l tab b (Instance n) d d′
     unfolding found-of after-unify
     answers-instance z p n d d′ w =
         record {
@@ -132,7 +133,7 @@ module _ (l tab : List ℕ) (b : ℕ) (ends cs zs : List ℕ) (h : Solved l tab 
               rw g (record { answer = ap Instance (w .count u q); leaves = w .leaves u q });
         }
 
-  pub solved-spelt : at zs 0 ≤ 120 → 0 < length l → Spelt l tab ends cs
+  pub solved-spelt : at zs 0 ≤ most-nodes → 0 < length l → Spelt l tab ends cs
   solved-spelt z p = let (u, q, i) = h .sized .measured 0 p (h .known 0 p) in record { term = u; spells = q; small = omega arith }
 
 pub outcome-solved : (l tab : List ℕ) (b : ℕ) (ends cs zs : List ℕ) (r : Bool) → SolvedIf l tab 0 b ends cs zs r → r ≡ true → Solved l tab 0 b ends cs zs

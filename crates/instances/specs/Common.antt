@@ -3,6 +3,7 @@ use mathlib.Core.Path.{_≡_}
 use mathlib.Core.List.{List, _++_}
 use Prim.Native.Nat.{ℕ, _≤_}
 use lib.ListN.{length}
+use Rattle.limits.specs.Limits.{most-nodes}
 use Rattle.terms.specs.Term.{Term, size, term-bytes}
 use Rattle.terms.specs.Flat.{Wf}
 use Rattle.terms.specs.Base.{field-bytes}
@@ -19,8 +20,8 @@ use Rattle.instances.specs.declared.Found.the-variants.{Instance, Nothin
 pub record SidesOf (l tab : List ℕ) (s t : Term) : Type 0 where
   pub left : Wf 128 tab s
   pub right : Wf 128 tab t
-  pub small-left : size s ≤ 120
-  pub small-right : size t ≤ 120
+  pub small-left : size s ≤ most-nodes
+  pub small-right : size t ≤ most-nodes
   pub bytes : l ≡ term-bytes s ++ term-bytes t
 
 -- "one field, tag 15"
@@ -52,7 +53,7 @@ pub record SidesUnify (l tab : List ℕ) (b : ℕ) (r : Found) (d d′ : List �
 pub record Spelt (l tab ends cs : List ℕ) : Type 0 where
   pub term : Term
   pub spells : Spells (arena l tab ends) (at cs) 0 term
-  pub small : size term ≤ 120
+  pub small : size term ≤ most-nodes
 
 -- that term is written, renamed, in r bytes
 pub record WritesSpelt (l tab ends cs : List ℕ) (r : ℕ) (d d′ : List ℕ) : Type 0 where

@@ -23,11 +23,12 @@ returns c =
     (at-unify .unify .last .1 .1 .1 .1 .0) (at-unify .unify .last .1 .1 .1 .1 .1 .0)
     (at-unify .unify .last .1 .1 .1 .1 .1 .1 .0) (at-unify .unify .result) (at-unify .unify .ensures .1)
     (in-then1 .if1 .taken) in
-    answers-large _ _ _ _ _ _ h (at-unify .unify .result) (at-unify .unify .ensures .0) (in-then1 .if1 .taken) (c .if2 .taken) _
+    answers-large _ _ _ _ _ _ h (at-unify .unify .result) (at-unify .unify .ensures .0) (in-then1 .if1 .taken) (rw (c .before .wide .ensures .0) at (c .if2 .taken)) _
 
 write-instance-requires : tie.Need-write-instance-requires
 write-instance-requires c κs =
     let in-else2 : tie.Else2 = search depth 0 in
+    let at-wide : tie.After-wide = search depth 0 in
     let in-then1 : tie.Then1 = search depth 0 in
     let at-unify : tie.After-unify = search depth 0 in
     let entry = entry-of-unify at-unify in
@@ -35,11 +36,12 @@ write-instance-requires c κs =
     (at-unify .unify .last .1 .1 .1 .1 .0) (at-unify .unify .last .1 .1 .1 .1 .1 .0)
     (at-unify .unify .last .1 .1 .1 .1 .1 .1 .0) (at-unify .unify .result) (at-unify .unify .ensures .1)
     (in-then1 .if1 .taken) in
-    (h .sized .ready, (solved-spelt _ _ _ _ _ _ h (in-else2 .if2 .left) (unify-asks _ _ _ (entry .pre .0) .1 .1), entry .pre .1))
+    (h .sized .ready, (solved-spelt _ _ _ _ _ _ h (rw (at-wide .wide .ensures .0) at (in-else2 .if2 .left)) (unify-asks _ _ _ (entry .pre .0) .1 .1), entry .pre .1))
 
 returns-2 : tie.Need-returns-2
 returns-2 c =
     let in-else2 : tie.Else2 = search depth 0 in
+    let at-wide : tie.After-wide = search depth 0 in
     let in-then1 : tie.Then1 = search depth 0 in
     let at-unify : tie.After-unify = search depth 0 in
     let entry = entry-of-unify at-unify in
@@ -48,7 +50,7 @@ returns-2 c =
     (at-unify .unify .last .1 .1 .1 .1 .1 .1 .0) (at-unify .unify .result) (at-unify .unify .ensures .1)
     (in-then1 .if1 .taken) in
     answers-instance _ _ _ _ _ _ h (at-unify .unify .result) (at-unify .unify .ensures .0) (in-then1 .if1 .taken)
-    (in-else2 .if2 .left) (unify-asks _ _ _ (entry .pre .0) .1 .1) _ _ _ (c .before .before .write-instance .ensures)
+    (rw (at-wide .wide .ensures .0) at (in-else2 .if2 .left)) (unify-asks _ _ _ (entry .pre .0) .1 .1) _ _ _ (c .before .before .write-instance .ensures)
 
 returns-3 : tie.Need-returns-3
 returns-3 c =
@@ -64,6 +66,7 @@ common-instance-spec =
     (λ c. search needs)
     unify-requires
     (λ c. search needs)
+    (λ c κs. search needs)
     returns
     (λ c. search needs)
     (λ c. search needs)
