@@ -72,7 +72,7 @@ fn answer(found: instances::Found) -> Unified
 pub fn unify(problem: &[u8], result: &mut [u8]) -> Unified
     ensures { λ r. ⌜ Unifies (unify-call (now (problem .entry)) (length (now (result .entry)))) r (now (result .entry)) (now (result .exit)) ⌝ }
 {
-    if result.len() < 16384 {
+    if result.len() < limits::BUFFER {
         return Unified::Refused {
             number: problem::SHORT_BUFFER,
             place: 0,
