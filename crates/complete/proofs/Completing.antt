@@ -60,7 +60,8 @@ module _ (problem before : List ℕ) where
   unfolding complete-call enough refuse-if _>>=_
   refused-short h = rw (lt-ltb (length before) least-buffer h) refl
 
-  answered : (after : List ℕ) (r : Completed) (c : Reading (List ℕ)) → complete-call problem (length before) ≡ c → completed-told r ≡ counted c → after ≡ after-complete c before → Answered problem before after r
+  answered : (after : List ℕ) (r : Completed) (c : Reading (List ℕ)) → complete-call problem (length before) ≡ c →
+      completed-told r ≡ counted c → after ≡ after-complete c before → Answered problem before after r
   answered after r c e a b = record { answer = a ∙ ap counted (sym e); bytes = b ∙ ap (λ x. after-complete x before) (sym e) }
 
   pub answers-short : length before < least-buffer → Answered problem before before (Refused 1 0)
@@ -69,12 +70,15 @@ module _ (problem before : List ℕ) where
 
   pub answers-refused : least-buffer ≤ length before → (n at : ℕ) → parse problem ≡ refused n at → Answered problem before before (Refused n at)
   unfolding completed-told counted after-complete _>>=_
-  answers-refused h n at e = answered before (Refused n at) (refused n at) (complete-is problem (length before) h ∙ ap (λ x. x >>= λ P. ok (result-bytes (run P))) e) refl refl
+  answers-refused h n at e =
+      answered before (Refused n at) (refused n at) (complete-is problem (length before) h ∙ ap (λ x. x >>= λ P. ok (result-bytes (run P))) e) refl refl
 
-  pub answers-written : least-buffer ≤ length before → (P : Problem) → parse problem ≡ ok P → (after : List ℕ) (r : ℕ) → Writes before (result-bytes (run P)) after r → Answered problem before after (Written r)
+  pub answers-written : least-buffer ≤ length before → (P : Problem) → parse problem ≡ ok P → (after : List ℕ) (r : ℕ) →
+      Writes before (result-bytes (run P)) after r → Answered problem before after (Written r)
   unfolding completed-told counted after-complete _>>=_
   answers-written h P e after r w =
-      answered after (Written r) (ok (result-bytes (run P))) (complete-is problem (length before) h ∙ ap (λ x. x >>= λ P. ok (result-bytes (run P))) e) (ap ok (w .count)) (w .bytes)
+      answered after (Written r) (ok (result-bytes (run P))) (complete-is problem (length before) h ∙ ap (λ x. x >>= λ P. ok (result-bytes (run P))) e)
+      (ap ok (w .count)) (w .bytes)
 
   pub delivers : (after : List ℕ) (r : Completed) → Answered problem before after r → Delivery problem after r
   delivers after r a = delivery problem before after r (a .answer) (a .bytes)

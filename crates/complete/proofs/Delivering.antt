@@ -14,13 +14,15 @@ use Rattle.complete.specs.Answer.{completed-told, counted, Delivery}
 use Rattle.complete.specs.declared.Completed.{Completed}
 use Rattle.complete.specs.declared.Completed.the-variants.{Written, Refused}
 
-pub delivery : (problem before after : List ℕ) (r : Completed) → completed-told r ≡ counted (complete-call problem (length before)) → after ≡ after-complete (complete-call problem (length before)) before →
+pub delivery : (problem before after : List ℕ) (r : Completed) → completed-told r ≡ counted (complete-call problem (length before)) →
+    after ≡ after-complete (complete-call problem (length before)) before →
     Delivery problem after r
 unfolding Delivery completed-told counted after-complete
 delivery problem before after (Refused n at) a b = tt
 delivery problem before after (Written n) a b = go (complete-call problem (length before)) refl a b
   where
-    go : (c : Reading (List ℕ)) → complete-call problem (length before) ≡ c → ok n ≡ counted c → after ≡ after-complete c before → Delivers problem (take n after)
+    go : (c : Reading (List ℕ)) → complete-call problem (length before) ≡ c → ok n ≡ counted c → after ≡ after-complete c before →
+        Delivers problem (take n after)
     go (refused k at) e a b = absurd (no-ok (sym a))
     go (ok bytes) e a b =
         let q : n ≡ length bytes = ok-injective a in

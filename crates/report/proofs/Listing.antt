@@ -48,8 +48,10 @@ module _ {field : ℕ → Field} {fields : ℕ → ℕ → List Field} (S : Seri
   listing-start out at count =
       record { within = omega arith; same = refl; room = omega arith; to-do = rw (sub-zero count) refl; total = rw (sub-zero count) refl }
 
-  module _ (out₀ : List ℕ) (at count : ℕ) (room : at + width * count ≤ length out₀) (out : List ℕ) (i a : ℕ) (h : Listing fields width out₀ at count out i a) where
-    pub listing-more : (out′ : List ℕ) (r : ℕ) → i < count → PutsSome width out a 1 (field-bytes (field i)) out′ r → Listing fields width out₀ at count out′ (i + 1) r
+  module _ (out₀ : List ℕ) (at count : ℕ) (room : at + width * count ≤ length out₀) (out : List ℕ) (i a : ℕ)
+      (h : Listing fields width out₀ at count out i a) where
+    pub listing-more : (out′ : List ℕ) (r : ℕ) → i < count → PutsSome width out a 1 (field-bytes (field i)) out′ r →
+        Listing fields width out₀ at count out′ (i + 1) r
     listing-more out′ r l p =
         let x : List ℕ = field-bytes (field i) in
         let rest : List ℕ = bytes (i + 1) (count - (i + 1)) in

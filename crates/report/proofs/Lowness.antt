@@ -11,6 +11,7 @@ use lib.Dec.{ltb}
 use lib.ListN.{length, getD, drop, drop-of-length-le}
 use lib.Seq.{drop-cons}
 use borrow.Author.Tests.{ltb-true, lt-ltb, le-ltb}
+use Rattle.limits.specs.Limits.{most-apart}
 use Rattle.terms.proofs.Shape.{both-true}
 use Rattle.terms.specs.Base.{Every}
 use Rattle.terms.proofs.Every.{every-head, every-tail}
@@ -71,7 +72,8 @@ low-says (c ∷ l) h b i =
 
 -- so their names are few
 pub low-names : (left right : List ℕ) → low left ≡ true → low right ≡ true → length (collect [] (left ++ right)) ≤ 127
-low-names left right h k = omega (arith, names-few 32 (left ++ right) (λ b i. ⊎-elim (λ j. low-says left h b j) (λ j. low-says right k b j) (List·Memᴰ·append-cases left i)))
+low-names left right h k =
+    omega (arith, names-few most-apart (left ++ right) (λ b i. ⊎-elim (λ j. low-says left h b j) (λ j. low-says right k b j) (List·Memᴰ·append-cases left i)))
 
 every-low : (l : List ℕ) → Every (λ b. b < 160) l → low l ≡ true
 unfolding low
@@ -79,5 +81,5 @@ every-low [] h = refl
 every-low (b ∷ l) h = low-more b l (every-head h) ∙ every-low l (every-tail h)
 
 -- A term's bytes pass it.
-pub term-low : (tab : List ℕ) (t : Term) → Wf 32 tab t → (l : List ℕ) → l ≡ term-bytes t → low l ≡ true
-term-low tab t w l e = ap low e ∙ every-low (term-bytes t) (wf-bytes 32 tab t w)
+pub term-low : (tab : List ℕ) (t : Term) → Wf most-apart tab t → (l : List ℕ) → l ≡ term-bytes t → low l ≡ true
+term-low tab t w l e = ap low e ∙ every-low (term-bytes t) (wf-bytes most-apart tab t w)

@@ -51,7 +51,8 @@ module _ (tab slots : List ℕ) where
       let s = h .pair .sides in
       ap (tagged 0x12) (ap₂ _++_ (rule-number (slot slots k) (r .number) (h .mark)) (ap₂ _++_ (s .left-bytes) (s .right-bytes)))
 
-  rules-are : (k : ℕ) (rs : List Rule) (ws : List Candidate) → Holds tab slots k (map marked (held rs ws)) → slot-fields slots k (length rs) ≡ map rule-field rs
+  rules-are : (k : ℕ) (rs : List Rule) (ws : List Candidate) → Holds tab slots k (map marked (held rs ws)) →
+      slot-fields slots k (length rs) ≡ map rule-field rs
   unfolding slot-fields
   rules-are k [] ws h = refl
   rules-are k (r ∷ rs) ws h =
@@ -75,12 +76,14 @@ module _ (log : List ℕ) where
   unfolding logged-field entry-field logged
   one-entry k e h = ap (tagged 0x13) h
 
-  entries-are : (k : ℕ) (es : List Entry) (rest : List ℕ) → drop (logged-width * k) log ≡ flatMap logged es ++ rest → logged-fields log k (length es) ≡ map entry-field es
+  entries-are : (k : ℕ) (es : List Entry) (rest : List ℕ) → drop (logged-width * k) log ≡ flatMap logged es ++ rest →
+      logged-fields log k (length es) ≡ map entry-field es
   unfolding logged-fields flatMap
   entries-are k [] rest h = refl
   entries-are k (e ∷ es) rest h =
       let q : drop (logged-width * k) log ≡ logged e ++ (flatMap logged es ++ rest) = h ∙ append-assoc (logged e) (flatMap logged es) rest in
-      let here : take logged-width (drop (logged-width * k) log) ≡ logged e = ap (take logged-width) q ∙ take-at (logged e) (flatMap logged es ++ rest) logged-width (length-logged e) in
+      let here : take logged-width (drop (logged-width * k) log) ≡ logged e =
+      ap (take logged-width) q ∙ take-at (logged e) (flatMap logged es ++ rest) logged-width (length-logged e) in
       let next : logged-width * suc k ≡ logged-width * k + logged-width = omega arith in
       let behind : drop (logged-width * suc k) log ≡ flatMap logged es ++ rest =
       ap (λ (n : ℕ). drop n log) next ∙ sym (drop-drop logged-width (logged-width * k) log) ∙ ap (drop logged-width) q
@@ -107,7 +110,8 @@ forms-are tab one (neither-above e) f =
     let x : low left ≡ true = term-low tab (e .left) (k .left-wf) left (k .left-bytes) in
     let y : low right ≡ true = term-low tab (e .right) (k .right-wf) right (k .right-bytes) in
     let p : renamed-bytes (left ++ right) ≡ pair-bytes (renamed e) =
-    ap renamed-bytes (pair-is tab left right e k) ∙ pair-renamed e (wf-low most-apart tab (e .left) (k .left-wf)) (wf-low most-apart tab (e .right) (k .right-wf)) in
+    ap renamed-bytes (pair-is tab left right e k)
+    ∙ pair-renamed e (wf-low most-apart tab (e .left) (k .left-wf)) (wf-low most-apart tab (e .right) (k .right-wf)) in
     rw (x, y) (ap (λ c. field-bytes (tagged 0x14 c)) p ∙ sym (append-nil (field-bytes (tagged 0x14 (pair-bytes (renamed e))))))
 forms-are tab one spent f = refl
 forms-are tab one too-large f = refl

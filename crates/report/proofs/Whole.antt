@@ -34,7 +34,8 @@ module _ (out : List ℕ) (at : ℕ) where
       go RulesFull h = unfold forms-if in refl
       go LogFull h = unfold forms-if in refl
 
-  module _ (end : Ending) (pair left right : List ℕ) (neither : end ≡ NeitherAbove) (left-is : left ≡ left-of (slot pair 0)) (right-is : right ≡ right-of (slot pair 0)) where
+  module _ (end : Ending) (pair left right : List ℕ) (neither : end ≡ NeitherAbove)
+      (left-is : left ≡ left-of (slot pair 0)) (right-is : right ≡ right-of (slot pair 0)) where
     these : forms-if end pair ≡ forms-bytes left right
     unfolding forms-if
     these = rw (neither, left-is, right-is) refl
