@@ -35,7 +35,7 @@ pub extern "C" fn vb_unify(problem: &[u8], result: &mut [u8]) -> u64
     match calls::unify(problem, result) {
         calls::Unified::Instance(n) => code(1, 0, n),
         calls::Unified::Nothing => code(2, 0, 0),
-        calls::Unified::TooLarge => code(3, rewriting::TOO_LARGE, 0),
+        calls::Unified::TooLarge => code(3, rewriting::number(rewriting::End::TooLarge), 0),
         calls::Unified::Refused { number, place } => code(0, number, place),
     }
 }
