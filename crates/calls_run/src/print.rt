@@ -36,11 +36,11 @@ fn compared(problem: &[u8]) {
 }
 
 fn unified(problem: &[u8]) {
-    let mut result = [0u8; 16384];
+    let mut result = [0u8; limits::BUFFER];
     print(b", unify ");
     match calls::unify(problem, &mut result) {
         calls::Unified::Instance(n) => {
-            if n <= 16384 {
+            if n <= limits::BUFFER {
                 bytes(&result[0..n]);
             }
         }
@@ -51,7 +51,7 @@ fn unified(problem: &[u8]) {
 }
 
 pub fn short_buffer(problem: &[u8]) {
-    let mut result = [0u8; 16383];
+    let mut result = [0u8; limits::BUFFER - 1];
     print(b": unify ");
     if let calls::Unified::Refused { number, place } = calls::unify(problem, &mut result) {
         refused(number, place);
