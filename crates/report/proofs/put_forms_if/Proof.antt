@@ -18,9 +18,6 @@ use Rattle.slots.proofs.right.Reads as right-reads
 abbrev low-of-low2 : tie.After-low2 → tie.After-low
 low-of-low2 at = search depth 0
 
-abbrev entry-of-low : tie.After-low → tie.Start
-entry-of-low at = search depth 0
-
 -- the other ends
 not-neither : OneOf (0 ∷ 2 ∷ 3 ∷ 4 ∷ 5 ∷ []) 1 → ⊥
 not-neither = miss (0 ∷ 2 ∷ 3 ∷ 4 ∷ 5 ∷ []) 1 tt
