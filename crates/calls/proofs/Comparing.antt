@@ -1,5 +1,5 @@
 -- What `named` and `compare` tell: a lemma for each return. Assumes nothing.
--- Read first: specs/Answers (compared-told), single/specs/Places (SidesAt), order/specs/Walk (IsCompared).
+-- Read first: specs/Answers (compared-told), only_equation/specs/Places (SidesAt), order/specs/Walk (IsCompared).
 use mathlib.Core.Path.{_≡_, ap, sym, _∙_}
 use mathlib.Core.Bool.{Bool, true, false}
 use mathlib.Core.List.{List}
@@ -15,7 +15,7 @@ use Rattle.problem.specs.Problem.{ok, refused, Symbol, rank-of}
 use Rattle.reading.proofs.Reading.{bind-ok, bind-refused}
 use Rattle.completion.specs.Calls.{Single, parse-single, compare-call}
 use Rattle.completion.proofs.Ranks.{ranks-are}
-use Rattle.single.specs.Places.{table, left-side, right-side, SidesAt}
+use Rattle.only_equation.specs.Places.{table, left-side, right-side, SidesAt}
 use Rattle.calls.specs.Answers.{compared-told}
 use Rattle.calls.specs.declared.Compared.{Compared}
 use Rattle.calls.specs.declared.Compared.the-variants.{LeftAbove, RightAbove, Identical, Neither, Refused as Unread}

@@ -1,5 +1,5 @@
 -- The part that `subterm` hands back: a lemma for each return of `subterm_bounds`. Assumes nothing.
--- Read first: completion/specs/Calls (subterm-part), specs/Answers (PartAt), single/specs/Places (SidesAt).
+-- Read first: completion/specs/Calls (subterm-part), specs/Answers (PartAt), only_equation/specs/Places (SidesAt).
 use mathlib.Core.Path.{_≡_, refl, ap, ap₂, sym, _∙_}
 use mathlib.Core.List.{List}
 use mathlib.Core.Option.{Option, none, some}
@@ -16,7 +16,7 @@ use Rattle.terms.proofs.Positions.{subterm-below, subterm-is}
 use Rattle.terms.proofs.Starts.{starts-inside}
 use Rattle.problem.specs.Problem.{refused}
 use Rattle.completion.specs.Calls.{Single, parse-single, Part, part-of, subterm-part, subterm-call}
-use Rattle.single.specs.Places.{table, left-side, SidesAt}
+use Rattle.only_equation.specs.Places.{table, left-side, SidesAt}
 use Rattle.calls.specs.Answers.{subterm-refused, PartAt}
 
 -- `subterm_bounds`

@@ -1,6 +1,6 @@
 -- `unify` lays the two sides out for `instances::common_instance`, whose answer is the definition's: a lemma for each return, and for those of
 -- `answer`. Assumes nothing.
--- Read first: specs/Answers (Unifies, found-told), instances/specs/Common (SidesUnify, TwoSides), single/specs/Places (SidesAt).
+-- Read first: specs/Answers (Unifies, found-told), instances/specs/Common (SidesUnify, TwoSides), only_equation/specs/Places (SidesAt).
 use mathlib.Core.Path.{_≡_, refl, ap, sym, _∙_}
 use mathlib.Core.Bool.{true, false}
 use mathlib.Core.List.{List, _++_, append-assoc}
@@ -18,7 +18,7 @@ use Rattle.problem.specs.Problem.{ok, refused, _>>=_, refuse-if}
 use Rattle.reading.proofs.Reading.{bind-ok, bind-refused}
 use Rattle.completion.specs.Calls.{Single, CommonInstance, instance, no-instance, instance-too-large, parse-single, unified, enough, unify-call, after-unify}
 use Rattle.completion.proofs.Accepts.{single-fits}
-use Rattle.single.specs.Places.{table, left-side, right-side, SidesAt}
+use Rattle.only_equation.specs.Places.{table, left-side, right-side, SidesAt}
 use Rattle.instances.specs.Common.{found-of, SidesOf, TwoSides, SidesUnify}
 use Rattle.instances.specs.declared.Found.{Found}
 use Rattle.calls.specs.Answers.{unified-told, found-told, unify-returns, Unifies}

@@ -36,9 +36,9 @@ fn named(n: u8) -> Compared
 pub fn compare(problem: &[u8]) -> Compared
     ensures { λ r. ⌜ compared-told r ≡ compare-call (now (problem .entry)) ⌝ }
 {
-    match single::sides(problem) {
-        single::Equation::Refused { number, place } => Compared::Refused { number, place },
-        single::Equation::At {
+    match only_equation::sides(problem) {
+        only_equation::Equation::Refused { number, place } => Compared::Refused { number, place },
+        only_equation::Equation::At {
             table_end,
             left,
             right,
@@ -78,9 +78,9 @@ pub fn unify(problem: &[u8], result: &mut [u8]) -> Unified
             place: 0,
         };
     }
-    match single::sides(problem) {
-        single::Equation::Refused { number, place } => Unified::Refused { number, place },
-        single::Equation::At {
+    match only_equation::sides(problem) {
+        only_equation::Equation::Refused { number, place } => Unified::Refused { number, place },
+        only_equation::Equation::At {
             table_end,
             left,
             right,
@@ -103,12 +103,12 @@ pub struct Bounds {
 pub fn subterm_bounds(problem: &[u8], position: usize) -> Bounds
     ensures { λ r. ⌜ PartAt (now (problem .entry)) position (r .start) (r .end) ⌝ }
 {
-    match single::sides(problem) {
-        single::Equation::Refused {
+    match only_equation::sides(problem) {
+        only_equation::Equation::Refused {
             number: _,
             place: _,
         } => Bounds { start: 0, end: 0 },
-        single::Equation::At {
+        only_equation::Equation::At {
             table_end,
             left,
             right,

@@ -15,8 +15,8 @@ use Rattle.classes.specs.Steps.{at, arena}
 use Rattle.naming.specs.Names.{collect, renamed-bytes}
 use Rattle.naming.proofs.Renaming.{length-renamed}
 use Rattle.naming.proofs.Few.{collect-few}
-use Rattle.unifier.specs.Written.{put, WritesTerms}
-use Rattle.unifier.proofs.Writing.{put-reads}
+use Rattle.mgu.specs.Written.{put, WritesTerms}
+use Rattle.mgu.proofs.Writing.{put-reads}
 use Rattle.completion.specs.Calls.{written}
 use Rattle.fields.specs.Puts.{Puts, tagged}
 use Rattle.fields.proofs.Appending.{patched-front}

@@ -1,6 +1,6 @@
 -- Two sides one behind the other are an arena; its classes give the definition's common instance up to renaming. Assumes nothing. A lemma for each
 -- return of `common_instance`.
--- Read first: specs/Common (SidesUnify, Gives), unifier/proofs/Instance.
+-- Read first: specs/Common (SidesUnify, Gives), mgu/proofs/Instance.
 use mathlib.Core.Path.{_≡_, refl, ap, sym, _∙_}
 use mathlib.Core.Bool.{Bool, true, false}
 use mathlib.Core.List.{List, _++_, append-nil}
@@ -19,10 +19,10 @@ use Rattle.terms.proofs.Rename.{renamed-twice}
 use Rattle.unify.specs.Unify.{Binding, mgu, under}
 use Rattle.classes.specs.Arena.{Spells, same}
 use Rattle.classes.specs.Steps.{at, arena}
-use Rattle.unifier.specs.Result.{Laid, LaidOut, Decided, SolvedIf, Solved}
-use Rattle.unifier.proofs.Starting.{laid-at}
-use Rattle.unifier.proofs.Verdict.{the-mgu, solved-image, solved-sizes}
-use Rattle.unifier.proofs.Instance.{small-size, large-size, instance-renamed}
+use Rattle.mgu.specs.Result.{Laid, LaidOut, Decided, SolvedIf, Solved}
+use Rattle.mgu.proofs.Starting.{laid-at}
+use Rattle.mgu.proofs.Verdict.{the-mgu, solved-image, solved-sizes}
+use Rattle.mgu.proofs.Instance.{small-size, large-size, instance-renamed}
 use Rattle.terms.proofs.Positions.{in-head, in-later}
 use Rattle.completion.specs.Calls.{instance, instance-too-large, unified, after-unify}
 use Rattle.instances.specs.Common.{found-of, SidesOf, TwoSides, SidesUnify, instance-field, Spelt, WritesSpelt}

@@ -22,7 +22,7 @@ fn write_instance(
     ensures { λ r. ⌜ WritesSpelt (now (nodes .entry)) (now (table .entry)) (now (ends .entry)) (now (class .entry)) r (now (result .entry)) (now (result .exit)) ⌝ }
 {
     let mut out = [0u8; limits::NODES];
-    let n = unifier::write(nodes, table, ends, class, 0, 1, &mut out, 0);
+    let n = mgu::write(nodes, table, ends, class, 0, 1, &mut out, 0);
     naming::rename_front(&mut out, n);
     fields::put_field(result, 0, INSTANCE, &out[..n])
 }
@@ -45,7 +45,7 @@ pub fn common_instance(nodes: &[u8], table: &[u8], b: usize, result: &mut [u8]) 
     let mut ends = [0u16; limits::PAIR];
     let mut class = [0u16; limits::PAIR];
     let mut sizes = [0u8; limits::PAIR];
-    if unifier::unify(nodes, table, 0, b, &mut ends, &mut class, &mut sizes) {
+    if mgu::unify(nodes, table, 0, b, &mut ends, &mut class, &mut sizes) {
         if terms::wide(sizes[0]) > limits::NODES {
             return Found::TooLarge;
         }

@@ -1,5 +1,5 @@
 -- The bytes laid out are the four terms of an overlap: outer left, inner left renamed apart, outer left rewritten, outer right. Assumes nothing.
--- Read first: laying/specs/Layout (four-bytes), specs/Answer (four), slots/specs/Slots (Sides), rewriting/specs/Overlap (apart), laying/proofs/Moving.
+-- Read first: overlap_terms/specs/Layout (four-bytes), specs/Answer (four), slots/specs/Slots (Sides), rewriting/specs/Overlap (apart), overlap_terms/proofs/Moving.
 use mathlib.Core.Path.{_≡_, refl, sym, ap, ap₂, _∙_}
 use mathlib.Core.List.{List, [], _∷_, _++_, map, map-append, append-assoc, append-nil}
 use mathlib.Core.Option.{some}
@@ -13,10 +13,10 @@ use Rattle.terms.specs.Flat.{Wf, Wfs}
 use Rattle.terms.proofs.Bytes.{length-bytes, around}
 use Rattle.terms.proofs.Flats.{widen, skip-term, wf-subterm, wf-subst-below, wf-replace}
 use Rattle.rewriting.specs.Overlap.{apart}
-use Rattle.laying.specs.Layout.{moved, four-bytes}
+use Rattle.overlap_terms.specs.Layout.{moved, four-bytes}
 use Rattle.slots.specs.Slots.{Sides}
 use Rattle.overlaps.specs.Answer.{four}
-use Rattle.laying.proofs.Moving.{moved-symbol, moved-variable}
+use Rattle.overlap_terms.proofs.Moving.{moved-symbol, moved-variable}
 
 -- variables moved up by 16
 mutual

@@ -16,8 +16,8 @@ use Rattle.unify.specs.Unify.{Binding, mgu}
 use Rattle.slots.specs.Slots.{left-at, slot-width, slot, left-length, left-of, right-of, Layout, Sides, PairAt}
 use Rattle.slots.proofs.Layouts.{kept-none}
 use Rattle.rewriting.specs.Overlap.{apart, overlap, overlap-at, overlap-by}
-use Rattle.laying.specs.Layout.{LaysFour}
-use Rattle.laying.proofs.Layers.{laid-bytes, laid-requires}
+use Rattle.overlap_terms.specs.Layout.{LaysFour}
+use Rattle.overlap_terms.proofs.Layers.{laid-bytes, laid-requires}
 use Rattle.overlaps.specs.declared.Roots.{Roots}
 use Rattle.overlaps.specs.declared.Met.{Met}
 use Rattle.overlaps.specs.declared.Met.the-variants.{Nothing}

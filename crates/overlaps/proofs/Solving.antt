@@ -1,5 +1,5 @@
 -- From the answer of unification to that of an overlap: which most general unifier was found does not matter after renaming. Assumes nothing.
--- Read first: specs/Answer (SolvesAt, instances), unifier/specs/Result (Solved, Decided), unifier/proofs/Verdict.
+-- Read first: specs/Answer (SolvesAt, instances), mgu/specs/Result (Solved, Decided), mgu/proofs/Verdict.
 use mathlib.Core.Path.{_≡_, refl, sym, ap, subst, _∙_}
 use mathlib.Core.Bool.{Bool, true, false, true≢false}
 use mathlib.Core.List.{List}
@@ -19,13 +19,13 @@ use Rattle.terms.proofs.Positions.{subterm-below, in-first, in-later, in-head}
 use Rattle.unify.specs.Unify.{Binding, mgu, under}
 use Rattle.classes.specs.Arena.{Spells, same}
 use Rattle.classes.specs.Steps.{at, arena}
-use Rattle.unifier.specs.Result.{Laid, LaidOut, IsTerms, Solved, Decided}
-use Rattle.unifier.proofs.Starting.{laid-at}
-use Rattle.unifier.proofs.Verdict.{the-mgu, solved-sizes, solved-renamed, solved-decided}
-use Rattle.unifier.proofs.Instance.{spells-instance}
+use Rattle.mgu.specs.Result.{Laid, LaidOut, IsTerms, Solved, Decided}
+use Rattle.mgu.proofs.Starting.{laid-at}
+use Rattle.mgu.proofs.Verdict.{the-mgu, solved-sizes, solved-renamed, solved-decided}
+use Rattle.mgu.proofs.Instance.{spells-instance}
 use Rattle.slots.specs.Slots.{KeptSlot}
 use Rattle.slots.proofs.Layouts.{kept-none}
-use Rattle.pairs.specs.Placed.{VariablesLow, PlacedIf, PairPlaced}
+use Rattle.critical_pairs.specs.Placed.{VariablesLow, PlacedIf, PairPlaced}
 use Rattle.rewriting.specs.Overlap.{Overlap}
 use Rattle.overlaps.specs.declared.Roots.{Roots}
 use Rattle.overlaps.specs.declared.Met.{Met}

@@ -11,7 +11,7 @@ use Rattle.terms.specs.Term.{Term, node, Terms, nil, cons, Pair, size, terms-by
 use Rattle.terms.specs.Flat.{Wfs}
 use Rattle.unify.specs.Unify.{Binding, mgu, under}
 use Rattle.slots.specs.Slots.{slot, left-length, Sides, PairAt, KeptSlot}
-use Rattle.pairs.specs.Placed.{InSlot}
+use Rattle.critical_pairs.specs.Placed.{InSlot}
 use Rattle.rewriting.specs.Overlap.{Overlap, overlap}
 use Rattle.overlaps.specs.declared.Roots.{Roots}
 use Rattle.overlaps.specs.declared.Met.{Met}

@@ -42,13 +42,13 @@ fn solve_in(
     requires { ⌜ (length (now nodes) ≤ length (now ends)) × (length (now nodes) ≤ length (now class)) × (length (now nodes) ≤ length (now sizes)) ⌝ }
     ensures { λ r. ⌜ SolvesAt (now (nodes .entry)) (now (table .entry)) at (now (pair .entry)) (now (pair .exit)) r ⌝ }
 {
-    if !unifier::laid_out(nodes, table) {
+    if !mgu::laid_out(nodes, table) {
         return Met::Nothing;
     }
-    if !unifier::unify(nodes, table, at.inner, at.outer, ends, class, sizes) {
+    if !mgu::unify(nodes, table, at.inner, at.outer, ends, class, sizes) {
         return Met::Nothing;
     }
-    if pairs::place(nodes, table, ends, class, sizes, at.left, at.right, pair) {
+    if critical_pairs::place(nodes, table, ends, class, sizes, at.left, at.right, pair) {
         return Met::Pair;
     }
     Met::TooLarge
@@ -89,7 +89,7 @@ fn meet(
     ensures { λ r. ⌜ Meets (now (table .entry)) (now (l1 .entry)) (now (r1 .entry)) (now (l2 .entry)) (now (r2 .entry)) position (now (pair .entry)) (now (pair .exit)) r ⌝ }
 {
     let mut nodes = [0u8; ARENA];
-    let end = laying::lay_four(l1, r1, l2, r2, table, position, &mut nodes);
+    let end = overlap_terms::lay_four(l1, r1, l2, r2, table, position, &mut nodes);
     let n = l2.len();
     let at = Roots {
         inner: n,

@@ -17,7 +17,7 @@ use Rattle.completion.specs.Calls.{origin-bytes}
 use Rattle.slots.specs.Slots.{slot, left-length, Layout, PairAt, Stored, PutMark, overlapping-bytes}
 use Rattle.slots.proofs.Layouts.{layout-less}
 use Rattle.slots.proofs.Listing.{all-at}
-use Rattle.pairs.specs.Placed.{InSlot}
+use Rattle.critical_pairs.specs.Placed.{InSlot}
 use Rattle.overlaps.specs.declared.Met.{Met}
 use Rattle.overlaps.specs.declared.Met.the-variants.{Nothing, TooLarge, Pair as Met-pair}
 use Rattle.overlaps.specs.Answer.{PairIs, Says, Possible, Overlapped}

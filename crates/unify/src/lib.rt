@@ -1,1 +1,1 @@
-// Unification: the definition and its theory only. The code that unifies stands in `unifier`.
+// Unification: the definition and its theory only. The code that unifies stands in `mgu`.

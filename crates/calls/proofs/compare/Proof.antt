@@ -1,8 +1,8 @@
 -- `compare`: the parts from where the two sides start are compared by `order::comparison`; its number is told: `compare-unread`, `compare-read`. Assumes
 -- nothing.
--- Read first: specs/Answers (told), single/specs/Places (SidesAt), completion/specs/Calls (compare-call), proofs/Comparing.
+-- Read first: specs/Answers (told), only_equation/specs/Places (SidesAt), completion/specs/Calls (compare-call), proofs/Comparing.
 use native.Mathlib.Omega.{arith}
-use Rattle.single.proofs.Singles.{in-order}
+use Rattle.only_equation.proofs.Singles.{in-order}
 use Rattle.calls.proofs.Comparing.{part-small, compare-unread, compare-range, compare-read}
 use borrow.Author.Needs.{needs}
 use Rattle.calls.proofs.compare.Statement.{statement}

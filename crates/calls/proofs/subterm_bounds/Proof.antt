@@ -1,7 +1,7 @@
 -- `subterm_bounds`: refused, a position past the left side, or from the node to its term's end: `bounds-unread`, `bounds-past`, `bounds-inside`. Assumes nothing.
--- Read first: completion/specs/Calls (subterm-part), specs/Answers (PartAt), single/specs/Places (SidesAt), proofs/Parts.
+-- Read first: completion/specs/Calls (subterm-part), specs/Answers (PartAt), only_equation/specs/Places (SidesAt), proofs/Parts.
 use native.Mathlib.Omega.{arith}
-use Rattle.single.proofs.Singles.{in-order}
+use Rattle.only_equation.proofs.Singles.{in-order}
 use Rattle.calls.proofs.Parts.{bounds-unread, bounds-past, bounds-inside}
 use borrow.Author.Needs.{needs}
 use Rattle.calls.proofs.subterm_bounds.Statement.{statement}

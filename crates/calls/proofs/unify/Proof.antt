@@ -1,7 +1,7 @@
 -- `unify`: short buffer (`unify-short`), refused problem (`unify-unread`), or what `common_instance` promises (`unify-answers`). Assumes nothing.
 -- Read first: specs/Answers (Unifies), completion/specs/Calls (unify-call, after-unify), proofs/Unifying.
 use native.Mathlib.Omega.{arith}
-use Rattle.single.proofs.Singles.{in-order}
+use Rattle.only_equation.proofs.Singles.{in-order}
 use Rattle.calls.proofs.Unifying.{unify-short, unify-unread, unify-two, unify-answers}
 use borrow.Author.Needs.{needs}
 use Rattle.calls.proofs.unify.Statement.{statement}

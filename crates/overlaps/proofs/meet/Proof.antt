@@ -1,14 +1,14 @@
 -- `meet`: the four terms that are laid out are those that `solve` is asked of (`meet-found`). Assumes nothing.
--- Read first: specs/Answer (Meets), proofs/Meeting, laying/proofs/Layers.
+-- Read first: specs/Answer (Meets), proofs/Meeting, overlap_terms/proofs/Layers.
 use Rattle.overlaps.proofs.Meeting.{meet-within, meet-found}
-use Rattle.laying.proofs.Layers.{laid-parts}
+use Rattle.overlap_terms.proofs.Layers.{laid-parts}
 use native.Mathlib.Omega.{arith}
 use borrow.Author.Needs.{needs}
 use Rattle.overlaps.proofs.meet.Statement.{statement}
 use Rattle.overlaps.proofs.meet.Tie as tie
 use Rattle.overlaps.proofs.meet.Reads as reads
 use Rattle.overlaps.proofs.meet.Lts as lts
-use Rattle.laying.proofs.lay_four.Reads as lay-four-reads
+use Rattle.overlap_terms.proofs.lay_four.Reads as lay-four-reads
 use Rattle.overlaps.proofs.solve.Reads as solve-reads
 
 sub-t17 : tie.Need-sub-t17

@@ -2,8 +2,8 @@
 -- nothing.
 -- Read first: specs/Answer (SolvesAt), proofs/Solving.
 use Rattle.overlaps.proofs.Solving.{met, tested-out, tested-low, solve-bad, solve-never, solve-placed}
-use Rattle.unifier.specs.Result.{Solved}
-use Rattle.unifier.proofs.Verdict.{outcome-solved}
+use Rattle.mgu.specs.Result.{Solved}
+use Rattle.mgu.proofs.Verdict.{outcome-solved}
 use native.Mathlib.Omega.{arith}
 use mathlib.Core.Path.{ap}
 use borrow.Author.Tests.{not-true, not-false}
@@ -12,9 +12,9 @@ use Rattle.overlaps.proofs.solve_in.Statement.{statement}
 use Rattle.overlaps.proofs.solve_in.Tie as tie
 use Rattle.overlaps.proofs.solve_in.Reads as reads
 use Rattle.overlaps.proofs.solve_in.Lts as lts
-use Rattle.pairs.proofs.place.Reads as place-reads
-use Rattle.unifier.proofs.laid_out.Reads as laid-out-reads
-use Rattle.unifier.proofs.unify.Reads as unify-reads
+use Rattle.critical_pairs.proofs.place.Reads as place-reads
+use Rattle.mgu.proofs.laid_out.Reads as laid-out-reads
+use Rattle.mgu.proofs.unify.Reads as unify-reads
 
 -- Places, found by their types: the only field of a type is the place itself.
 abbrev entry-of-laid-out : tie.After-laid-out → tie.Start

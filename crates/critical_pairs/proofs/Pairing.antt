@@ -1,0 +1,152 @@
+-- The instances of two nodes, written one after the other and renamed, are the renamed pair; their names are few. Assumes nothing.
+-- Read first: specs/Placed (PutPair, BothSmall), mgu/specs/Written (WritesTerms), naming/proofs/Pairs (renamed-pair), naming/proofs/Few.
+use mathlib.Core.Path.{_≡_, sym, ap, ap₂, subst₂, _∙_}
+use mathlib.Core.Logic.{⊎-elim}
+use mathlib.Core.List.{List, [], _++_, append-assoc, append-nil, List·Memᴰ·not-nil, List·Memᴰ·cases-cons, List·Memᴰ·append-cases}
+use Prim.Native.Nat.{ℕ, _+_, _-_, _≤_, _<_}
+use native.Mathlib.Omega.{arith}
+use native.Mathlib.Nat.{sub-zero}
+use lib.ListN.{length, take, drop, length-append}
+use lib.Seq.{take-at, drop-at}
+use Rattle.terms.specs.Term.{Term, Terms, nil, cons, Pair, size, sizes, variables, variables-of, term-bytes, terms-bytes, renamed}
+use Rattle.terms.proofs.Bytes.{length-bytes}
+use Rattle.terms.proofs.Subst.{In}
+use Rattle.terms.proofs.Limits.{renamed-left-size, renamed-right-size}
+use Rattle.classes.specs.Arena.{Spells, free, made, SpellsAll, none, more}
+use Rattle.classes.specs.Steps.{at, arena, Ready}
+use Rattle.naming.specs.Names.{collect, renamed-bytes}
+use Rattle.naming.proofs.Renaming.{Lows}
+use Rattle.naming.proofs.Pairs.{renamed-pair}
+use Rattle.naming.proofs.Few.{terms-few}
+use Rattle.mgu.specs.Written.{put, RoomFor, WritesTerms}
+use Rattle.classes.proofs.Arena.{spells-one}
+use Rattle.mgu.proofs.Instance.{spells-lows}
+use Rattle.mgu.proofs.Writing.{put-append, put-reads}
+use Rattle.slots.specs.Slots.{PutSides}
+use Rattle.slots.proofs.Layouts.{kept-put}
+use Rattle.critical_pairs.specs.Placed.{VariablesLow, InSlot, BothSmall, PutPair}
+
+-- the variables of what is spelt are those of the arena
+module _ {l tab ends cs : List ℕ} (rd : Ready l tab ends cs) (low : VariablesLow l) where
+  mutual
+    unfolding variables variables-of
+
+    low-variables : {i : ℕ} {t : Term} → Spells (arena l tab ends) (at cs) i t → (x : ℕ) → In x (variables t) → x < 32
+    low-variables {i} (free {x = y} h e) x j =
+        ⊎-elim (λ q. omega (arith, q, low (at cs i) (rd .within i h))) (λ k. absurd (List·Memᴰ·not-nil k)) (List·Memᴰ·cases-cons j)
+    low-variables (made h e k r) x j = lows-variables r x j
+
+    lows-variables : {p k : ℕ} {ts : Terms} → SpellsAll (arena l tab ends) (at cs) p k ts → (x : ℕ) → In x (variables-of ts) → x < 32
+    lows-variables none x j = absurd (List·Memᴰ·not-nil j)
+    lows-variables (more {t = t} r s) x j = ⊎-elim (λ k. low-variables r x k) (λ k. lows-variables s x k) (List·Memᴰ·append-cases (variables t) j)
+
+-- what was written up to e and from there to f are the sides of the pair, renamed
+pub record Halves (e f : ℕ) (d : List ℕ) (y z : Term) : Type 0 where
+  pub order : e ≤ f
+  pub inside : f ≤ length d
+  pub left : take (e - 0) d ≡ term-bytes (renamed (record { left = y; right = z }) .left)
+  pub right : take (f - e) (drop e d) ≡ term-bytes (renamed (record { left = y; right = z }) .right)
+  pub short : (length (take (e - 0) d) ≤ 120) × (length (take (f - e) (drop e d)) ≤ 120)
+
+module _ {l tab ends cs : List ℕ} (rd : Ready l tab ends cs) (low : VariablesLow l) {a b : ℕ} (s : BothSmall (arena l tab ends) (at cs) a b) where
+  abbrev y : Term
+  y = s .0
+
+  abbrev z : Term
+  z = s .1
+
+  abbrev pair : Pair
+  pair = record { left = y; right = z }
+
+  one : SpellsAll (arena l tab ends) (at cs) a 1 (cons y nil)
+  one = more (s .2) none
+
+  two : SpellsAll (arena l tab ends) (at cs) b 1 (cons z nil)
+  two = more (s .3) none
+
+  pub pair-room : (m : ℕ) → 240 ≤ m → (us : Terms) × SpellsAll (arena l tab ends) (at cs) a 1 us × (0 + sizes us ≤ m)
+  unfolding sizes
+  pair-room m n = (cons y nil, one, omega (arith, s .4))
+
+  module _ {d : List ℕ} (n : 240 ≤ length d) {e : ℕ} {d₁ : List ℕ} (w₁ : WritesTerms (arena l tab ends) (at cs) a 1 0 d e d₁) where
+    first-end : e ≡ size y
+    unfolding sizes
+    first-end = omega (arith, w₁ .ends (cons y nil) one)
+
+    pub pair-room-2 : RoomFor (arena l tab ends) (at cs) b 1 e d₁
+    unfolding sizes
+    pair-room-2 = (cons z nil, two, omega (arith, first-end, w₁ .long, s .4, s .5))
+
+    module _ {f : ℕ} {d₂ : List ℕ} (w₂ : WritesTerms (arena l tab ends) (at cs) b 1 e d₁ f d₂) where
+      second-end : f ≡ size y + size z
+      unfolding sizes
+      second-end = omega (arith, w₂ .ends (cons z nil) two, first-end)
+
+      whole : d₂ ≡ put 0 (terms-bytes (cons y (cons z nil))) d
+      unfolding terms-bytes
+      whole =
+          let k : e ≡ 0 + length (term-bytes y) = omega (arith, first-end, length-bytes y) in
+          w₂ .bytes (cons z nil) two
+          ∙ ap₂ (λ k m. put k (term-bytes z ++ []) m) k (w₁ .bytes (cons y nil) one ∙ ap (λ k. put 0 k d) (append-nil (term-bytes y)))
+          ∙ sym (put-append 0 (term-bytes y) (term-bytes z ++ []) d)
+
+      written : take f d₂ ≡ terms-bytes (cons y (cons z nil))
+      unfolding terms-bytes
+      written =
+          let k : length (term-bytes y ++ (term-bytes z ++ [])) ≡ f =
+          length-append (term-bytes y) (term-bytes z ++ []) ∙ omega (arith, length-append (term-bytes z) [], length-bytes y, length-bytes z, second-end) in
+          ap₂ (λ j h. take j h) (sym k) whole ∙ put-reads (terms-bytes (cons y (cons z nil))) d (omega (arith, k, second-end, s .4, s .5))
+
+      lows-both : Lows (cons y (cons z nil))
+      unfolding Lows
+      lows-both = (spells-lows one .0, spells-lows two)
+
+      pub pair-names : (f ≤ length d₂) × (f ≤ 240) × (length (collect [] (take f d₂)) ≤ 127)
+      unfolding variables-of
+      pair-names = (
+        omega (arith, second-end, w₁ .long, w₂ .long, s .4, s .5),
+        omega (arith, second-end, s .4, s .5),
+        omega (
+          arith,
+          ap (λ k. length (collect [] k)) written,
+          terms-few 32 (cons y (cons z nil)) lows-both
+              (λ x i. ⊎-elim (λ j. low-variables rd low (s .2) x j) (λ j. lows-variables rd low two x j) (List·Memᴰ·append-cases (variables y) i)),
+        ),
+      )
+
+      -- the buffer with its front renamed
+      module _ {d₃ : List ℕ} (h : d₃ ≡ renamed-bytes (take f d₂) ++ drop f d₂) where
+        halves : d₃ ≡ term-bytes (renamed pair .left) ++ (term-bytes (renamed pair .right) ++ drop f d₂)
+        unfolding terms-bytes Lows
+        halves =
+            h ∙ ap (λ k. renamed-bytes k ++ drop f d₂) (written ∙ ap (λ k. term-bytes y ++ k) (append-nil (term-bytes z)))
+            ∙ ap (λ k. k ++ drop f d₂) (renamed-pair pair (lows-both .0) (lows-both .1 .0))
+            ∙ append-assoc (term-bytes (renamed pair .left)) (term-bytes (renamed pair .right)) (drop f d₂)
+
+        pub pair-halves : Halves e f d₃ y z
+        pair-halves =
+            let L : List ℕ = term-bytes (renamed pair .left) in
+            let R : List ℕ = term-bytes (renamed pair .right) in
+            let m : length L ≡ e = length-bytes (renamed pair .left) ∙ renamed-left-size pair ∙ sym first-end in
+            let n : length R ≡ f - e = length-bytes (renamed pair .right) ∙ renamed-right-size pair ∙ omega (arith, first-end, second-end) in
+            let x : take (e - 0) d₃ ≡ L = ap₂ take (sub-zero e) halves ∙ take-at L (R ++ drop f d₂) e m in
+            let y : take (f - e) (drop e d₃) ≡ R =
+            ap (λ k. take (f - e) (drop e k)) halves ∙ ap (take (f - e)) (drop-at L (R ++ drop f d₂) e m) ∙ take-at R (drop f d₂) (f - e) n in
+            record {
+              order = omega (arith, first-end, second-end);
+              inside = omega (arith, simp length-append at (ap length halves), first-end, second-end);
+              left = x;
+              right = y;
+              short = (omega (arith, ap length x, first-end, s .4), omega (arith, ap length y, first-end, second-end, s .5));
+            }
+
+  pub pair-put : {e f : ℕ} {d one one′ : List ℕ} → Halves e f d y z → PutSides one 0 (take (e - 0) d) (take (f - e) (drop e d)) one′ →
+      PutPair (arena l tab ends) (at cs) a b one one′
+  pair-put {one′ = one′} h p =
+      record {
+        kept = kept-put p;
+        bytes = λ y′ z′ u v.
+            let A = arena l tab ends in
+            subst₂ (λ m n. InSlot one′ (renamed (record { left = m; right = n }))) (spells-one A (s .2) u) (spells-one A (s .3) v)
+            (p .left-is ∙ h .left, p .right-is ∙ h .right);
+      }
