@@ -2,7 +2,7 @@
 ghost use mathlib.Core.Path.{_≡_};
 ghost use Prim.Native.Nat.{_≤_};
 ghost use lib.ListN.{length};
-ghost use Rattle.limits.specs.Limits.{most-equations, most-budget, most-result};
+ghost use Rattle.limits.specs.Limits.{most-equations, most-budget, most-result, field-head, two-byte-values};
 ghost use Rattle.completion.specs.Calls.{complete-call, after-complete};
 ghost use Rattle.complete.specs.Answer.{completed-told, counted, Delivery, WritesProblem};
 
@@ -22,7 +22,7 @@ fn accepted(
     budget: usize,
     result: &mut [u8],
 ) -> usize
-    requires { ⌜ (3 ≤ «table_end») × («table_end» ≤ length (now problem)) × (length (now problem) ≤ 65536) ⌝ }
+    requires { ⌜ (field-head ≤ «table_end») × («table_end» ≤ length (now problem)) × (length (now problem) ≤ two-byte-values) ⌝ }
     requires { ⌜ (count ≤ most-equations) × (budget ≤ most-budget) × (most-result ≤ length (now result)) ⌝ }
     ensures { λ r. ⌜ WritesProblem (now (problem .entry)) «table_end» budget equations count (now (result .entry)) (now (result .exit)) r ⌝ }
 {

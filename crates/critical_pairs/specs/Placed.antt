@@ -5,7 +5,7 @@ use mathlib.Core.List.{List}
 use Prim.Native.Nat.{ℕ, _+_, _<_, _≤_}
 use lib.Dec.{ltb}
 use lib.ListN.{length}
-use Rattle.limits.specs.Limits.{most-nodes, most-apart}
+use Rattle.limits.specs.Limits.{most-nodes, most-apart, variables-end}
 use Rattle.terms.specs.Term.{Term, Pair, size, term-bytes, renamed}
 use Rattle.classes.specs.Arena.{Arena, Spells}
 use Rattle.classes.specs.Steps.{at}
@@ -13,7 +13,7 @@ use Rattle.slots.specs.Slots.{slot, left-of, right-of, KeptSlot}
 
 -- variables below 32
 abbrev pub VariablesLow : List ℕ → Type 0
-VariablesLow l = (i : ℕ) → i < length l → at l i < 128 + most-apart
+VariablesLow l = (i : ℕ) → i < length l → at l i < variables-end
 
 -- the two sides of a pair are those of the first slot
 abbrev pub InSlot : List ℕ → Pair → Type 0

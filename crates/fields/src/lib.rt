@@ -3,6 +3,7 @@ ghost use mathlib.Core.Path.{_≡_};
 ghost use mathlib.Core.List.{_∷_};
 ghost use Prim.Native.Nat.{_+_, _<_, _≤_};
 ghost use lib.ListN.{length, take, drop};
+ghost use Rattle.limits.specs.Limits.{two-byte-values, field-head};
 ghost use Rattle.terms.specs.Base.{number-bytes, field-bytes};
 ghost use Rattle.fields.specs.Puts.{patched, Puts, tagged};
 
@@ -31,8 +32,8 @@ pub fn put_number(out: &mut [u8], at: usize, width: usize, n: u32) -> usize
 
 // A field's tag and the length of its contents.
 pub fn put_head(out: &mut [u8], at: usize, tag: u8, len: usize) -> usize
-    requires { ⌜ (at + 3 ≤ length (now out)) × (len < 65536) ⌝ }
-    ensures { λ r. ⌜ Puts (now (out .entry)) at 3 (tag ∷ number-bytes 2 len) (now (out .exit)) r ⌝ }
+    requires { ⌜ (at + field-head ≤ length (now out)) × (len < two-byte-values) ⌝ }
+    ensures { λ r. ⌜ Puts (now (out .entry)) at field-head (tag ∷ number-bytes 2 len) (now (out .exit)) r ⌝ }
 {
     out[at] = tag;
     put_number(out, at + 1, 2, len as u32)
@@ -40,18 +41,18 @@ pub fn put_head(out: &mut [u8], at: usize, tag: u8, len: usize) -> usize
 
 // A field with these contents.
 pub fn put_field(out: &mut [u8], at: usize, tag: u8, contents: &[u8]) -> usize
-    requires { ⌜ (at + 3 + length (now contents) ≤ length (now out)) × (length (now contents) < 65536) ⌝ }
-    ensures { λ r. ⌜ Puts (now (out .entry)) at (3 + length (now (contents .entry))) (field-bytes (tagged tag (now (contents .entry)))) (now (out .exit)) r ⌝ }
+    requires { ⌜ (at + field-head + length (now contents) ≤ length (now out)) × (length (now contents) < two-byte-values) ⌝ }
+    ensures { λ r. ⌜ Puts (now (out .entry)) at (field-head + length (now (contents .entry))) (field-bytes (tagged tag (now (contents .entry)))) (now (out .exit)) r ⌝ }
 {
     let a = put_head(out, at, tag, contents.len());
     paste(out, a, contents);
-    at + 3 + contents.len()
+    at + field - head + contents.len()
 }
 
 // A field that holds a number.
 pub fn put_number_field(out: &mut [u8], at: usize, tag: u8, width: usize, n: u32) -> usize
-    requires { ⌜ (at + 3 + width ≤ length (now out)) × (width < 65536) ⌝ }
-    ensures { λ r. ⌜ Puts (now (out .entry)) at (3 + width) (field-bytes (tagged tag (number-bytes width n))) (now (out .exit)) r ⌝ }
+    requires { ⌜ (at + field-head + width ≤ length (now out)) × (width < two-byte-values) ⌝ }
+    ensures { λ r. ⌜ Puts (now (out .entry)) at (field-head + width) (field-bytes (tagged tag (number-bytes width n))) (now (out .exit)) r ⌝ }
 {
     let a = put_head(out, at, tag, width);
     put_number(out, a, width, n)

@@ -3,7 +3,7 @@ use mathlib.Core.Path.{_≡_}
 use mathlib.Core.List.{List, _++_, map}
 use Prim.Native.Nat.{ℕ, _+_, _-_, _<_, _≤_}
 use lib.ListN.{length, drop, take}
-use Rattle.limits.specs.Limits.{most-nodes, most-variables}
+use Rattle.limits.specs.Limits.{most-nodes, most-variables, first-variable}
 use Rattle.terms.specs.Base.{Every}
 use Rattle.terms.specs.Term.{Term, Pair, term-bytes, size, renamed}
 use Rattle.terms.specs.Flat.{Wf}
@@ -25,7 +25,7 @@ pub record Held (tab : List ℕ) (pairs : Pairs) (cs : List Candidate) : Type 0 
 
 -- no byte is above that of the last variable
 abbrev pub KnownBytes : List ℕ → Type 0
-KnownBytes l = Every (λ b. b < 128 + most-variables) l
+KnownBytes l = Every (λ b. b < first-variable + most-variables) l
 
 -- the two sides of a pair stand one behind the other, each of at most 120 nodes with variables below 16
 pub record SidesAt (tab l : List ℕ) (at : ℕ) (p : Pair) : Type 0 where

@@ -1,7 +1,7 @@
 // The input equations of a problem, each renamed as a pair, in slots, marked as they wait at first.
 ghost use Prim.Native.Nat.{_+_, _*_, _<_, _≤_};
 ghost use lib.ListN.{length};
-ghost use Rattle.limits.specs.Limits.{most-equations};
+ghost use Rattle.limits.specs.Limits.{most-equations, two-byte-values, field-head};
 ghost use Rattle.slots.specs.Slots.{slot-width};
 ghost use Rattle.inputs.specs.Inputs.{SideEnd, PutsSides, PutsEquation, InputsRead};
 use limits::FIELD_HEAD;
@@ -9,15 +9,12 @@ use limits::NODES;
 use slots::Pairs;
 use slots::origins;
 
-// The byte of the last variable.
-const LAST_VARIABLE: u8 = 143;
-
 // The tag of an equation's field.
 const EQUATION: u8 = 3;
 
 // The end of the side that starts at `at`; at the latest it ends before a byte above the last variable's, and after 120 bytes.
 fn side_end(problem: &[u8], table: &[u8], at: usize) -> usize
-    requires { ⌜ (at ≤ length (now problem)) × (length (now problem) ≤ 65536) ⌝ }
+    requires { ⌜ (at ≤ length (now problem)) × (length (now problem) ≤ two-byte-values) ⌝ }
     ensures { λ r. ⌜ SideEnd (now (table .entry)) (now (problem .entry)) at r ⌝ }
 {
     let e = terms::term_end(problem, table, at);
@@ -26,7 +23,7 @@ fn side_end(problem: &[u8], table: &[u8], at: usize) -> usize
         if i - at >= NODES {
             return i;
         }
-        if problem[i] > LAST_VARIABLE {
+        if problem[i] > limits::LAST_VARIABLE {
             return i;
         }
         i += 1;
@@ -37,7 +34,7 @@ fn side_end(problem: &[u8], table: &[u8], at: usize) -> usize
 // The two sides that start at `at`, renamed together, into slot k.
 fn put_sides(problem: &[u8], table: &[u8], at: usize, slots: &mut [u8], k: usize)
     requires { ⌜ slot-width * (k + 1) ≤ length (now slots) ⌝ }
-    requires { ⌜ (at ≤ length (now problem)) × (length (now problem) ≤ 65536) ⌝ }
+    requires { ⌜ (at ≤ length (now problem)) × (length (now problem) ≤ two-byte-values) ⌝ }
     ensures { λ _. ⌜ PutsSides (now (table .entry)) (now (problem .entry)) at (now (slots .entry)) k (now (slots .exit)) ⌝ }
 {
     let m = side_end(problem, table, at);
@@ -54,7 +51,7 @@ fn put_sides(problem: &[u8], table: &[u8], at: usize, slots: &mut [u8], k: usize
 // The equation field at `at`, into slot k: the place behind it. Where there is none, the slot keeps its sides.
 fn put_equation(problem: &[u8], table: &[u8], at: usize, slots: &mut [u8], k: usize) -> usize
     requires { ⌜ (slot-width * (k + 1) ≤ length (now slots)) × (k < most-equations) ⌝ }
-    requires { ⌜ length (now problem) ≤ 65536 ⌝ }
+    requires { ⌜ length (now problem) ≤ two-byte-values ⌝ }
     ensures { λ r. ⌜ PutsEquation (now (table .entry)) (now (problem .entry)) at (now (slots .entry)) k (now (slots .exit)) r ⌝ }
 {
     let mark = origins::numbered(origins::WAITING_INPUT, (k + 1) as u16);
@@ -73,7 +70,7 @@ fn put_equation(problem: &[u8], table: &[u8], at: usize, slots: &mut [u8], k: us
 
 // The problem's equations. The table ends at `table_end`, and the equation fields start at `equations`.
 pub fn read(problem: &[u8], table_end: usize, equations: usize, count: usize) -> Pairs
-    requires { ⌜ (3 ≤ «table_end») × («table_end» ≤ length (now problem)) × (length (now problem) ≤ 65536) × (count ≤ most-equations) ⌝ }
+    requires { ⌜ (field-head ≤ «table_end») × («table_end» ≤ length (now problem)) × (length (now problem) ≤ two-byte-values) × (count ≤ most-equations) ⌝ }
     ensures { λ r. ⌜ InputsRead (now (problem .entry)) «table_end» equations count r ⌝ }
 {
     let mut slots = [0u8; slots::ROOM];

@@ -3,7 +3,7 @@ use mathlib.Core.Path.{_≡_}
 use mathlib.Core.List.{List, _++_}
 use Prim.Native.Nat.{ℕ, _≤_}
 use lib.ListN.{length}
-use Rattle.limits.specs.Limits.{most-nodes}
+use Rattle.limits.specs.Limits.{most-nodes, variable-bytes}
 use Rattle.terms.specs.Term.{Term, size, term-bytes}
 use Rattle.terms.specs.Flat.{Wf}
 use Rattle.terms.specs.Base.{field-bytes}
@@ -18,8 +18,8 @@ use Rattle.instances.specs.declared.Found.the-variants.{Instance, Nothin
 
 -- nodes that are those of the two sides, one behind the other
 pub record SidesOf (l tab : List ℕ) (s t : Term) : Type 0 where
-  pub left : Wf 128 tab s
-  pub right : Wf 128 tab t
+  pub left : Wf variable-bytes tab s
+  pub right : Wf variable-bytes tab t
   pub small-left : size s ≤ most-nodes
   pub small-right : size t ≤ most-nodes
   pub bytes : l ≡ term-bytes s ++ term-bytes t

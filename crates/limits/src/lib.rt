@@ -3,6 +3,9 @@
 // "Symbol n (0 to 15) is byte n."
 pub const SYMBOLS: usize = 16;
 
+// The bytes of so many symbols, an arity and a rank each: 32.
+pub const TABLE: usize = 2 * SYMBOLS;
+
 // The byte behind those of the symbols: 16.
 pub const SYMBOLS_END: u8 = SYMBOLS as u8;
 

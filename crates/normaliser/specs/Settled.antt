@@ -5,7 +5,7 @@ use mathlib.Core.List.{List, _++_}
 use Prim.Native.Nat.{ℕ, _+_, _*_, _/_, _≤_}
 use lib.Dec.{ltb}
 use lib.ListN.{length, take}
-use Rattle.limits.specs.Limits.{most-nodes, most-apart}
+use Rattle.limits.specs.Limits.{most-nodes, most-apart, cell-base}
 use Rattle.terms.specs.Base.{is-some}
 use Rattle.terms.specs.Term.{Term, Terms, term-bytes, size, sizes, count}
 use Rattle.terms.specs.Flat.{Wf, Wfs}
@@ -36,7 +36,7 @@ pub record LeftNormal (c len units : ℕ) (o : Out) : Type 0 where
   pub left-over : o .units ≡ units
   pub ends : o .end ≤ o .len
   pub first : o .step ≡ Normal → 1 ≤ o .end
-  pub answer : c / 256 ≤ len → (o .step ≡ Normal) × (o .end ≡ c / 256)
+  pub answer : c / cell-base ≤ len → (o .step ≡ Normal) × (o .end ≡ c / cell-base)
 
 -- which ends a walk over a term can come to: a normaliser stops with these two only
 abbrev pub StepStops : End → Step → Type 0

@@ -3,7 +3,7 @@ ghost use mathlib.Core.Path.{_≡_};
 ghost use mathlib.Core.List.{_++_};
 ghost use Prim.Native.Nat.{_≤_};
 ghost use lib.ListN.{length, drop};
-ghost use Rattle.limits.specs.Limits.{most-nodes};
+ghost use Rattle.limits.specs.Limits.{most-nodes, cell-base};
 ghost use Rattle.matching.specs.Cells.{node-bytes};
 ghost use Rattle.slots.specs.Slots.{Layout};
 ghost use Rattle.normaliser.specs.Settled.{LeftNormal, Settled, SettledAll, form-after, Normalised, Reducible};
@@ -12,11 +12,11 @@ use redex::Out;
 use redex::Step;
 
 // The first cell that has a size.
-const SIZED: u16 = 256;
+const SIZED: u16 = limits::CELL;
 
 // The term at the start, whose root has the cell c, is normal. It would be no term where it ends beyond len.
 fn leave(c: u16, len: usize, units: u32) -> Out
-    requires { ⌜ 256 ≤ c ⌝ }
+    requires { ⌜ cell-base ≤ c ⌝ }
     ensures { λ r. ⌜ LeftNormal c len units r ⌝ }
 {
     let e = matching::size_of(c);

@@ -5,7 +5,7 @@ use mathlib.Core.List.{List, _++_, List·Memᴰ}
 use Prim.Native.Nat.{ℕ, _<_, _≤_}
 use lib.Dec.{ltb}
 use lib.ListN.{length}
-use Rattle.limits.specs.Limits.{most-variables, most-apart}
+use Rattle.limits.specs.Limits.{most-variables, most-apart, variables-end}
 use Rattle.terms.specs.Term.{Pair, pair-variables, renamed}
 use Rattle.order.specs.Order.{above}
 use Rattle.order.specs.Walk.{rank}
@@ -45,7 +45,7 @@ UpperIs e units (UpperEnds LogFull) p = ⊥
 
 -- no byte above those of the variables of two rules set apart
 abbrev pub LowBytes : List ℕ → Type 0
-LowBytes l = (b : ℕ) → List·Memᴰ b l → b < 160
+LowBytes l = (b : ℕ) → List·Memᴰ b l → b < variables-end
 
 abbrev pub LowIfRule : List ℕ → Above → Type 0
 LowIfRule l Left = LowBytes l

@@ -2,7 +2,7 @@
 ghost use mathlib.Core.List.{[], _∷_, _++_, List·Memᴰ};
 ghost use Prim.Native.Nat.{ℕ, _<_, _≤_};
 ghost use lib.ListN.{length};
-ghost use Rattle.limits.specs.Limits.{most-nodes};
+ghost use Rattle.limits.specs.Limits.{most-nodes, variables-end};
 ghost use Rattle.slots.specs.Slots.{Layout};
 ghost use Rattle.orient.specs.Orients.{IsUpper, Placed, RuleOf};
 ghost use Rattle.orient.specs.Seen.{Seen, Counted};
@@ -18,13 +18,13 @@ const MOST_VARIABLES: u32 = limits::VARIABLES as u32;
 fn with_byte(seen: u32, b: u8) -> u32
     ensures { λ r. ⌜ Seen (b ∷ []) seen r ⌝ }
 {
-    if b < 128 {
+    if b < limits::VARIABLE {
         return seen;
     }
-    if b >= 160 {
+    if b >= limits::VARIABLES_END {
         return 0xffff_ffff;
     }
-    seen | (1u32 << (b - 128))
+    seen | (1u32 << (b - limits::VARIABLE))
 }
 
 // The set with the variables of t.
@@ -73,7 +73,7 @@ fn upper(left: &[u8], right: &[u8], table: &[u8]) -> Above
 
 // The rule from one term to another, renamed, with its number, in a slot.
 fn placed(left: &[u8], right: &[u8], number: u16) -> [u8; SLOT]
-    requires { ⌜ (length (now left) ≤ most-nodes) × (length (now right) ≤ most-nodes) × ((b : ℕ) → List·Memᴰ b (now left ++ now right) → b < 160) ⌝ }
+    requires { ⌜ (length (now left) ≤ most-nodes) × (length (now right) ≤ most-nodes) × ((b : ℕ) → List·Memᴰ b (now left ++ now right) → b < variables-end) ⌝ }
     ensures { λ r. ⌜ Placed (now (left .entry)) (now (right .entry)) number r ⌝ }
 {
     let n = left.len();

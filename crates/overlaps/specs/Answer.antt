@@ -6,7 +6,7 @@ use mathlib.Core.Option.{Option, none, some}
 use Prim.Native.Nat.{ℕ, _+_, _*_, _<_, _≤_}
 use lib.Dec.{ltb}
 use lib.ListN.{length}
-use Rattle.limits.specs.Limits.{most-nodes, most-variables, most-apart}
+use Rattle.limits.specs.Limits.{most-nodes, most-variables, most-apart, arena-width}
 use Rattle.terms.specs.Term.{Term, node, Terms, nil, cons, Pair, size, terms-bytes, renamed, subterm-at}
 use Rattle.terms.specs.Flat.{Wfs}
 use Rattle.unify.specs.Unify.{Binding, mgu, under}
@@ -16,10 +16,6 @@ use Rattle.rewriting.specs.Overlap.{Overlap, overlap}
 use Rattle.overlaps.specs.declared.Roots.{Roots}
 use Rattle.overlaps.specs.declared.Met.{Met}
 use Rattle.overlaps.specs.declared.Met.the-variants.{Nothing, TooLarge, Pair as Met-pair}
-
--- nodes of an overlap's terms: two left sides, the left side with a right side in it, and a right side. 600
-abbrev pub arena-width : ℕ
-arena-width = 5 * most-nodes
 
 -- by what is too large: the peak, the left side, the right side; else the pair, renamed, is in the slot
 abbrev pub PairIs : List ℕ → Met → Pair → Bool → Bool → Bool → Type 0

@@ -5,12 +5,6 @@ ghost use Rattle.limits.specs.Limits.{most-nodes};
 ghost use Rattle.slots.specs.Slots.{slot, left-length, Layout};
 ghost use Rattle.overlaps.specs.Answer.{Within, SolvesAt, Meets, Possible, Overlapped};
 
-// Nodes of an overlap's terms, one after the other: two left sides, the left side with a right side in it, and a right side. 600
-const ARENA: usize = 5 * limits::NODES;
-
-// The first byte that is no symbol's.
-const VARIABLE: u8 = 128;
-
 pub enum Met {
     // There is no overlap.
     Nothing,
@@ -59,9 +53,9 @@ fn solve(nodes: &[u8], table: &[u8], at: Roots, pair: &mut [u8]) -> Met
     requires { ⌜ Within (now nodes) at × Layout (now pair) 1 ⌝ }
     ensures { λ r. ⌜ SolvesAt (now (nodes .entry)) (now (table .entry)) at (now (pair .entry)) (now (pair .exit)) r ⌝ }
 {
-    let mut ends = [0u16; ARENA];
-    let mut class = [0u16; ARENA];
-    let mut sizes = [0u8; ARENA];
+    let mut ends = [0u16; limits::ARENA];
+    let mut class = [0u16; limits::ARENA];
+    let mut sizes = [0u8; limits::ARENA];
     let k = nodes.len();
     solve_in(
         nodes,
@@ -88,7 +82,7 @@ fn meet(
     requires { ⌜ (position < length (now l2)) × (0 < length (now r2)) × Layout (now pair) 1 ⌝ }
     ensures { λ r. ⌜ Meets (now (table .entry)) (now (l1 .entry)) (now (r1 .entry)) (now (l2 .entry)) (now (r2 .entry)) position (now (pair .entry)) (now (pair .exit)) r ⌝ }
 {
-    let mut nodes = [0u8; ARENA];
+    let mut nodes = [0u8; limits::ARENA];
     let end = overlap_terms::lay_four(l1, r1, l2, r2, table, position, &mut nodes);
     let n = l2.len();
     let at = Roots {
@@ -110,7 +104,7 @@ pub fn possible(rules: &[u8], table: &[u8], inner: usize, outer: usize, position
     if position >= l2.len() {
         return false;
     }
-    if l2[position] >= VARIABLE {
+    if l2[position] >= limits::VARIABLE {
         return false;
     }
     !clash::clash(slots::left(rules, inner), l2, table, position)

@@ -2,6 +2,7 @@
 ghost use mathlib.Core.Path.{_≡_};
 ghost use Prim.Native.Nat.{_+_, _<_, _≤_};
 ghost use lib.ListN.{length};
+ghost use Rattle.limits.specs.Limits.{most-problem, most-equations};
 ghost use Rattle.reading.specs.Answers.{Table};
 ghost use Rattle.problem.specs.Parser.{IsDue, IsSymbols, IsBudget, IsEquation, IsEquations, IsRest, IsParsed, parsed-of};
 ghost use Rattle.problem.specs.Problem.{parse};
@@ -130,7 +131,7 @@ fn budget(problem: &[u8], at: usize, end: usize) -> Read
 // The equation field at `at`, behind `count` others: the place behind it.
 fn equation(problem: &[u8], table: &[u8], at: usize, count: usize) -> Read
     requires { ⌜ Table (now table) ⌝ }
-    requires { ⌜ (at < length (now problem)) × (length (now problem) ≤ 8192) × (count ≤ 16) ⌝ }
+    requires { ⌜ (at < length (now problem)) × (length (now problem) ≤ most-problem) × (count ≤ most-equations) ⌝ }
     ensures { λ r. ⌜ IsEquation (now (table .entry)) (now (problem .entry)) at count r ⌝ }
 {
     match due(problem, at, 0x03) {
@@ -160,7 +161,7 @@ fn equation(problem: &[u8], table: &[u8], at: usize, count: usize) -> Read
 // All the equation fields from `at` on: how many there are.
 fn equations(problem: &[u8], table: &[u8], at: usize) -> Read
     requires { ⌜ Table (now table) ⌝ }
-    requires { ⌜ (at ≤ length (now problem)) × (length (now problem) ≤ 8192) ⌝ }
+    requires { ⌜ (at ≤ length (now problem)) × (length (now problem) ≤ most-problem) ⌝ }
     ensures { λ r. ⌜ IsEquations (now (table .entry)) (now (problem .entry)) at r ⌝ }
 {
     let mut count: usize = 0;
@@ -198,7 +199,7 @@ pub enum Rest {
 // What follows the symbol field, over a given table and from a given place: the budget field, then the equation fields.
 pub fn parse_rest(problem: &[u8], table: &[u8], at: usize) -> Rest
     requires { ⌜ Table (now table) ⌝ }
-    requires { ⌜ length (now problem) ≤ 8192 ⌝ }
+    requires { ⌜ length (now problem) ≤ most-problem ⌝ }
     ensures { λ r. ⌜ IsRest (now (table .entry)) (now (problem .entry)) at r ⌝ }
 {
     match due(problem, at, 0x02) {

@@ -5,7 +5,7 @@ use mathlib.Core.List.{List, [], _∷_, _++_}
 use Prim.Native.Nat.{ℕ, zero, suc, _+_, _*_, _%_, _≤_, _<_}
 use lib.Dec.{eqb, ltb}
 use lib.ListN.{length, take, drop, getD}
-use Rattle.limits.specs.Limits.{most-symbols}
+use Rattle.limits.specs.Limits.{most-symbols, two-byte-values}
 use Rattle.terms.specs.Base.{if_then_else_, member}
 use Rattle.terms.specs.Term.{Term, size, term-bytes, Pair, renamed}
 use Rattle.terms.specs.Flat.{Wf}
@@ -32,7 +32,7 @@ pub record WholeAt (l : List ℕ) (at tag start e : ℕ) : Type 0 where
   pub starts : start ≡ at + 3
   pub low : start ≤ e
   pub within : e ≤ length l
-  pub short : e < start + 65536
+  pub short : e < start + two-byte-values
 
 abbrev pub IsField : List ℕ → ℕ → Field → Type 0
 IsField l at Cut = read-field at (drop at l) ≡ refused cut-field at

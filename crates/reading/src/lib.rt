@@ -1,8 +1,9 @@
 // Bytes read at a place: a number, a field, symbols, a term, a side, a pair, and whether a pair is renamed. No
 // answer has a refusal's number: each caller gives its own.
 ghost use mathlib.Core.Path.{_≡_};
-ghost use Prim.Native.Nat.{_+_, _^_, _<_, _≤_};
+ghost use Prim.Native.Nat.{_+_, _^_, _<_, _≤_, _*_};
 ghost use lib.ListN.{length, take, drop};
+ghost use Rattle.limits.specs.Limits.{most-symbols, two-byte-values};
 ghost use Rattle.terms.specs.Base.{number-from, member};
 ghost use Rattle.reading.specs.Answers.{IsField, ranks, IsRanked, IsSymbols, Table, IsTerm, IsSide, IsPair, next-after, IsRenamed};
 
@@ -76,7 +77,7 @@ fn rank_seen(table: &[u8], k: usize, rank: u8) -> bool
 
 // The symbols of a table of the right length, one behind the other.
 fn ranked(table: &[u8]) -> Symbols
-    requires { ⌜ length (now table) ≤ 32 ⌝ }
+    requires { ⌜ length (now table) ≤ 2 * most-symbols ⌝ }
     ensures { λ r. ⌜ IsRanked (now (table .entry)) r ⌝ }
 {
     let mut k: usize = 0;
@@ -106,7 +107,7 @@ pub fn check_symbols(table: &[u8]) -> Symbols
     if table.len() % 2 == 1 {
         return Symbols::WrongLength;
     }
-    if table.len() > 32 {
+    if table.len() > limits::TABLE {
         return Symbols::WrongLength;
     }
     ranked(table)
@@ -115,7 +116,7 @@ pub fn check_symbols(table: &[u8]) -> Symbols
 // The term at a place, in the bytes up to an end: the place behind it, or of the byte that is wrong.
 pub fn term_at(t: &[u8], table: &[u8], at: usize, end: usize) -> terms::Ends
     requires { ⌜ Table (now table) ⌝ }
-    requires { ⌜ (at ≤ end) × (end ≤ length (now t)) × (length (now t) ≤ 65536) ⌝ }
+    requires { ⌜ (at ≤ end) × (end ≤ length (now t)) × (length (now t) ≤ two-byte-values) ⌝ }
     ensures { λ r. ⌜ IsTerm (now (table .entry)) (now (t .entry)) at end r ⌝ }
 {
     terms::checked_end(&t[0..end], table, at)
@@ -133,7 +134,7 @@ pub enum Side {
 // The same with a side's limit.
 pub fn side_at(t: &[u8], table: &[u8], at: usize, end: usize) -> Side
     requires { ⌜ Table (now table) ⌝ }
-    requires { ⌜ (at ≤ end) × (end ≤ length (now t)) × (length (now t) ≤ 65536) ⌝ }
+    requires { ⌜ (at ≤ end) × (end ≤ length (now t)) × (length (now t) ≤ two-byte-values) ⌝ }
     ensures { λ r. ⌜ IsSide (now (table .entry)) (now (t .entry)) at end r ⌝ }
 {
     match term_at(t, table, at, end) {
@@ -159,7 +160,7 @@ pub enum Pair {
 // Two sides, which fill the bytes from a place to an end.
 pub fn pair_at(t: &[u8], table: &[u8], at: usize, end: usize) -> Pair
     requires { ⌜ Table (now table) ⌝ }
-    requires { ⌜ (at ≤ end) × (end ≤ length (now t)) × (length (now t) ≤ 65536) ⌝ }
+    requires { ⌜ (at ≤ end) × (end ≤ length (now t)) × (length (now t) ≤ two-byte-values) ⌝ }
     ensures { λ r. ⌜ IsPair (now (table .entry)) (now (t .entry)) at end r ⌝ }
 {
     match side_at(t, table, at, end) {
@@ -180,7 +181,7 @@ pub fn pair_at(t: &[u8], table: &[u8], at: usize, end: usize) -> Pair
 
 // The byte of the next variable, behind this one.
 fn next_after(next: usize, b: usize) -> usize
-    requires { ⌜ next ≤ 65536 ⌝ }
+    requires { ⌜ next ≤ two-byte-values ⌝ }
     ensures { λ r. ⌜ r ≡ next-after next b ⌝ }
 {
     if b == next {
@@ -194,7 +195,7 @@ pub fn is_renamed(t: &[u8], at: usize, end: usize) -> bool
     requires { ⌜ (at ≤ end) × (end ≤ length (now t)) × (length (now t) ≤ 32768) ⌝ }
     ensures { λ r. ⌜ IsRenamed (now (t .entry)) at end r ⌝ }
 {
-    let mut next: usize = 128;
+    let mut next: usize = limits::FIRST_VARIABLE;
     let mut i = at;
     while i < end {
         let b = terms::wide(t[i]);

@@ -6,9 +6,6 @@ ghost use Rattle.limits.specs.Limits.{most-nodes, most-variables};
 ghost use Rattle.slots.specs.Slots.{Layout};
 ghost use Rattle.redex.specs.Step.{Fitted, FoundRule, out, RewritesRoot};
 
-// The first byte that is no symbol's.
-const VARIABLE: u8 = 128;
-
 // Whether rule k matches at the start of t.
 fn fits(rules: &[u8], k: usize, t: &[u16], binds: &mut [u8]) -> bool
     requires { ⌜ Layout (now rules) (k + 1) ⌝ }
@@ -16,7 +13,7 @@ fn fits(rules: &[u8], k: usize, t: &[u16], binds: &mut [u8]) -> bool
     ensures { λ r. ⌜ Fitted (now (rules .entry)) (now (t .entry)) k (now (binds .entry)) r (now (binds .exit)) ⌝ }
 {
     let b = slots::left_root(rules, k);
-    if b < VARIABLE {
+    if b < limits::VARIABLE {
         if matching::byte_of(t[0]) != b {
             return false;
         }

@@ -4,7 +4,7 @@ use mathlib.Core.List.{List, [], _∷_, _++_}
 use Prim.Native.Nat.{ℕ, zero, suc, _+_, _*_, _≤_}
 use lib.Dec.{ltb}
 use lib.ListN.{length, take, drop}
-use Rattle.limits.specs.Limits.{most-apart}
+use Rattle.limits.specs.Limits.{most-apart, variables-end}
 use Rattle.terms.specs.Base.{if_then_else_, Field, field-bytes}
 use Rattle.rewriting.specs.declared.End.{End as Ending}
 use Rattle.rewriting.specs.declared.End.the-variants.{Complete, NeitherAbove, Spent, TooLarge, RulesFull, LogFull}
@@ -34,7 +34,7 @@ unfoldable pub low : List ℕ → Bool
 low [] = true
 low (b ∷ l) =
     let rest : Bool = low l in
-    ltb b (128 + most-apart) && rest
+    ltb b variables-end && rest
 
 -- field 14, only with end 20, and of terms only
 unfoldable pub forms-bytes : List ℕ → List ℕ → List ℕ

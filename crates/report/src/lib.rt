@@ -3,7 +3,7 @@ ghost use mathlib.Core.Path.{_≡_};
 ghost use mathlib.Core.List.{[], _++_, flatMap};
 ghost use Prim.Native.Nat.{_+_, _*_, _<_, _≤_};
 ghost use lib.ListN.{length};
-ghost use Rattle.limits.specs.Limits.{most-nodes, rule-width, entry-width, forms-width, most-result};
+ghost use Rattle.limits.specs.Limits.{most-nodes, rule-width, entry-width, forms-width, most-result, field-head};
 ghost use Rattle.terms.specs.Base.{field-bytes};
 ghost use Rattle.naming.specs.Names.{collect, renamed-bytes};
 ghost use Rattle.fields.specs.Puts.{Puts, PutsSome, tagged};
@@ -24,9 +24,6 @@ const RULE: u8 = 0x12;
 const ENTRY: u8 = 0x13;
 
 const FORMS: u8 = 0x14;
-
-// The first byte above those of the variables of two rules set apart.
-const NO_VARIABLE: u8 = 160;
 
 // Field 12 of the rule in slot k.
 fn put_rule(out: &mut [u8], at: usize, rules: &[u8], k: usize) -> usize
@@ -79,7 +76,7 @@ fn put_log(out: &mut [u8], at: usize, log: &[u8], count: usize) -> usize
 fn put_forms(out: &mut [u8], at: usize, left: &[u8], right: &[u8]) -> usize
     requires { ⌜ (at + forms-width ≤ length (now out)) × (length (now left) ≤ most-nodes) × (length (now right) ≤ most-nodes) ⌝ }
     requires { ⌜ length (collect [] (now left ++ now right)) ≤ 127 ⌝ }
-    ensures { λ r. ⌜ Puts (now (out .entry)) at (3 + (length (now (left .entry)) + length (now (right .entry)))) (field-bytes (tagged 0x14 (renamed-bytes (now (left .entry) ++ now (right .entry))))) (now (out .exit)) r ⌝ }
+    ensures { λ r. ⌜ Puts (now (out .entry)) at (field-head + (length (now (left .entry)) + length (now (right .entry)))) (field-bytes (tagged 0x14 (renamed-bytes (now (left .entry) ++ now (right .entry))))) (now (out .exit)) r ⌝ }
 {
     let mut pair = [0u8; limits::PAIR];
     let n = left.len();
@@ -96,7 +93,7 @@ fn low(t: &[u8]) -> bool
 {
     let mut i = 0;
     while i < t.len() {
-        if t[i] >= NO_VARIABLE {
+        if t[i] >= limits::VARIABLES_END {
             return false;
         }
         i += 1;

@@ -1,7 +1,7 @@
 // The places where overlaps are looked for, in document 01's order.
 ghost use mathlib.Core.Path.{_≡_};
 ghost use Prim.Native.Nat.{_+_, _<_};
-ghost use Rattle.limits.specs.Limits.{most-pairs};
+ghost use Rattle.limits.specs.Limits.{most-pairs, byte-values};
 ghost use Rattle.slots.specs.Slots.{Layout};
 ghost use Rattle.scanning.specs.Order.{Follows};
 
@@ -28,7 +28,7 @@ pub fn spot_at(inner: usize, outer: usize, position: usize) -> Spot
 // The positions of the outer rule; an earlier rule in a later one, then the later one in it; then the next earlier rule; then the later rule in
 // itself, but not at the root; then the next later rule.
 pub fn next(rules: &[u8], at: Spot) -> Spot
-    requires { ⌜ (at .inner < most-pairs) × (at .outer < most-pairs) × (at .position < 256) × Layout (now rules) (at .outer + 1) ⌝ }
+    requires { ⌜ (at .inner < most-pairs) × (at .outer < most-pairs) × (at .position < byte-values) × Layout (now rules) (at .outer + 1) ⌝ }
     ensures { λ r. ⌜ Follows (now (rules .entry)) at r ⌝ }
 {
     let inner = at.inner;

@@ -3,6 +3,7 @@ ghost use mathlib.Core.Path.{_≡_};
 ghost use mathlib.Core.List.{[], _∷_, flatMap};
 ghost use Prim.Native.Nat.{_+_, _*_, _<_, _≤_};
 ghost use lib.ListN.{length};
+ghost use Rattle.limits.specs.Limits.{two-byte-values};
 ghost use Rattle.completion.specs.Settle.{hex-digit, hex-byte, decimal, line, settle};
 ghost use Rattle.completion.specs.Calls.{Writes};
 ghost use Rattle.fields.specs.Puts.{Puts, PutsSome, tagged};
@@ -81,7 +82,7 @@ fn put_decimal(out: &mut [u8], at: usize, n: usize) -> usize
 
 // A field's line: tag, length, contents.
 fn put_line(out: &mut [u8], at: usize, tag: u8, contents: &[u8]) -> usize
-    requires { ⌜ (at + (10 + 2 * length (now contents)) ≤ length (now out)) × (length (now contents) < 65536) ⌝ }
+    requires { ⌜ (at + (10 + 2 * length (now contents)) ≤ length (now out)) × (length (now contents) < two-byte-values) ⌝ }
     ensures { λ r. ⌜ PutsSome (10 + 2 * length (now (contents .entry))) (now (out .entry)) at 1 (line (tagged tag (now (contents .entry)))) (now (out .exit)) r ⌝ }
 {
     let a = put_hex(out, at, tag);
@@ -127,7 +128,7 @@ pub fn put_refused(out: &mut [u8], number: usize, place: usize) -> usize
 
 // What settle prints for a problem's bytes, at the front of the lent bytes: how many they are.
 pub fn text(problem: &[u8], out: &mut [u8]) -> usize
-    requires { ⌜ 65536 ≤ length (now out) ⌝ }
+    requires { ⌜ two-byte-values ≤ length (now out) ⌝ }
     ensures { λ r. ⌜ Writes (now (out .entry)) (settle (now (problem .entry))) (now (out .exit)) r ⌝ }
     ensures { λ r. ⌜ r ≤ length (now (out .entry)) ⌝ }
 {

@@ -2,6 +2,7 @@
 ghost use mathlib.Core.Path.{_≡_};
 ghost use Prim.Native.Nat.{_+_, _*_, _<_, _≤_};
 ghost use lib.ListN.{length};
+ghost use Rattle.limits.specs.Limits.{byte-values};
 ghost use Rattle.slots.specs.Slots.{slot-width, numbered-bytes, overlapping-bytes};
 
 // The kinds: "1 waiting input, 2 waiting from a removed rule, 3 input at the scan, 4 overlap".
@@ -34,7 +35,7 @@ pub fn overlapping(
     outer: usize,
     position: usize,
 ) -> [u8; limits::ORIGIN]
-    requires { ⌜ (slot-width * (inner + 1) ≤ length (now rules)) × (slot-width * (outer + 1) ≤ length (now rules)) × (position < 256) ⌝ }
+    requires { ⌜ (slot-width * (inner + 1) ≤ length (now rules)) × (slot-width * (outer + 1) ≤ length (now rules)) × (position < byte-values) ⌝ }
     ensures { λ r. ⌜ r ≡ overlapping-bytes (now (rules .entry)) inner outer position ⌝ }
 {
     let a = super::SLOT * inner + FIRST;
