@@ -46,7 +46,7 @@ pub fn put_field(out: &mut [u8], at: usize, tag: u8, contents: &[u8]) -> usize
 {
     let a = put_head(out, at, tag, contents.len());
     paste(out, a, contents);
-    at + field - head + contents.len()
+    at + limits::FIELD_HEAD + contents.len()
 }
 
 // A field that holds a number.
