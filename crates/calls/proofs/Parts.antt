@@ -65,14 +65,17 @@ module _ (l : List ℕ) (p : ℕ) where
       unfolding part-of
       bounds-inside n q low high =
           let u = found .0 in
-          let s : Starts (table l e) (drop (a + p) l) u = rw (drop-drop p a l) at (starts-inside (table l e) (drop a l) (left-side S) p u (A .left) (found .1)) in
+          let s : Starts (table l e) (drop (a + p) l) u = rw (drop-drop p a l)
+          at (starts-inside (table l e) (drop a l) (left-side S) p u (A .left) (found .1)) in
           let z : n - (a + p) ≡ size u = omega (arith, q u s) in
           let w : S .equation .first + 3 + p ≡ a + p = omega (arith, A .left-is) in
           let f : subterm-part l p ≡ record { start = S .equation .first + 3 + p; bytes = size u } = part-is ∙ ap (part-of (S .equation .first) p) (found .1) in
           record {
             start = sym (ap (λ (x : Part). x .start) f ∙ w);
             bytes = z ∙ sym (ap (λ (x : Part). x .bytes) f);
-            only = ne-eqb (n - (a + p)) 0 (λ y. absurd (omega (arith, size-pos u))) ∙ sym (refusal-is ∙ lt-leb (size (left-side S)) p (omega (arith, A .right-is)));
+            only =
+                ne-eqb (n - (a + p)) 0 (λ y. absurd (omega (arith, size-pos u)))
+                ∙ sym (refusal-is ∙ lt-leb (size (left-side S)) p (omega (arith, A .right-is)));
             low = low;
             within = high;
           }

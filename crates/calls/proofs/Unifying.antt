@@ -39,7 +39,8 @@ module _ (l d : List ℕ) where
   unify-short h = let t : ltb (length d) 16_384 ≡ true = lt-ltb (length d) 16_384 h in rw t (record { told = refl; leaves = refl })
 
   module _ (room : 16_384 ≤ length d) where
-    call-is : unify-call l (length d) ≡ (parse-single l >>= λ (P : Single). ok (unified (P .equation .sides .left) (mgu (P .equation .sides .left) (P .equation .sides .right))))
+    call-is : unify-call l (length d) ≡
+        (parse-single l >>= λ (P : Single). ok (unified (P .equation .sides .left) (mgu (P .equation .sides .left) (P .equation .sides .right))))
     unfolding unify-call enough refuse-if _>>=_
     call-is = let t : ltb (length d) 16_384 ≡ false = le-ltb (length d) 16_384 room in rw t refl
 
@@ -53,11 +54,22 @@ module _ (l d : List ℕ) where
           let s = A .left in
           let t = A .right in
           let n : length (term-bytes (left-side S) ++ term-bytes (right-side S)) ≡ c - a =
-          omega (arith, length-append (term-bytes (left-side S)) (term-bytes (right-side S)), length-bytes (left-side S), length-bytes (right-side S), A .right-is, A .end-is) in
+          omega (
+            arith,
+            length-append (term-bytes (left-side S)) (term-bytes (right-side S)),
+            length-bytes (left-side S),
+            length-bytes (right-side S),
+            A .right-is,
+            A .end-is,
+          ) in
           let r : s .rest ≡ term-bytes (right-side S) ++ t .rest =
-          sym (drop-at (term-bytes (left-side S)) (s .rest) (size (left-side S)) (length-bytes (left-side S))) ∙ ap (drop (size (left-side S))) (sym (s .bytes)) ∙ drop-drop (size (left-side S)) a l
+          sym (drop-at (term-bytes (left-side S)) (s .rest) (size (left-side S)) (length-bytes (left-side S)))
+          ∙ ap (drop (size (left-side S))) (sym (s .bytes))
+          ∙ drop-drop (size (left-side S)) a l
           ∙ ap (λ (n : ℕ). drop n l) (sym (A .right-is)) ∙ t .bytes in
-          ap (take (c - a)) (s .bytes ∙ ap (λ (x : List ℕ). term-bytes (left-side S) ++ x) r ∙ sym (append-assoc (term-bytes (left-side S)) (term-bytes (right-side S)) (t .rest)))
+          ap (take (c - a)) (s .bytes
+          ∙ ap (λ (x : List ℕ). term-bytes (left-side S) ++ x) r
+          ∙ sym (append-assoc (term-bytes (left-side S)) (term-bytes (right-side S)) (t .rest)))
           ∙ take-at (term-bytes (left-side S) ++ term-bytes (right-side S)) (t .rest) (c - a) n
 
       unify-sides : SidesOf (take (c - a) (drop a l)) (table l e) (left-side S) (right-side S)
@@ -77,7 +89,9 @@ module _ (l d : List ℕ) where
       pub unify-two : TwoSides (take (c - a) (drop a l)) (table l e) (b - a)
       unify-two = record { s = left-side S; t = right-side S; sides = unify-sides; begins = begins-at }
 
-      pub unify-answers : (f : Found) (r : Unified) (d′ : List ℕ) → SidesUnify (take (c - a) (drop a l)) (table l e) (b - a) f d d′ → unified-told r ≡ found-told f → Unifies (unify-call l (length d)) r d d′
+      pub unify-answers : (f : Found) (r : Unified) (d′ : List ℕ) → SidesUnify (take (c - a) (drop a l)) (table l e) (b - a) f d d′ →
+          unified-told r ≡ found-told f → Unifies (unify-call l (length d)) r d d′
       unify-answers f r d′ h q =
           let g = h .unifies (left-side S) (right-side S) unify-sides begins-at in
-          rw (call-is ∙ bind-ok _ (A .is)) (record { told = q ∙ ap found-told (g .answer) ∙ found-returns (unified (left-side S) (mgu (left-side S) (right-side S))); leaves = g .leaves })
+          rw (call-is ∙ bind-ok _ (A .is))
+          (record { told = q ∙ ap found-told (g .answer) ∙ found-returns (unified (left-side S) (mgu (left-side S) (right-side S))); leaves = g .leaves })

@@ -21,7 +21,8 @@ pub data RefusesWithin {A : Type 0} (e : ℕ) : Reading A → Type 0 where
   was-read : {a : A} → RefusesWithin e (ok a)
   was-refused : (n at : ℕ) → n ≤ 12 → at ≤ e → RefusesWithin e (refused n at)
 
-bind-within : {A B : Type 0} {e : ℕ} (m : Reading A) (next : A → Reading B) → RefusesWithin e m → ((a : A) → m ≡ ok a → RefusesWithin e (next a)) → RefusesWithin e (m >>= next)
+bind-within : {A B : Type 0} {e : ℕ} (m : Reading A) (next : A → Reading B) → RefusesWithin e m →
+    ((a : A) → m ≡ ok a → RefusesWithin e (next a)) → RefusesWithin e (m >>= next)
 unfolding _>>=_
 bind-within (ok a) next h k = k a refl
 bind-within (refused n at) next (was-refused _ _ p q) k = was-refused n at p q
@@ -118,9 +119,12 @@ module _ (Σ : List Symbol) (e : ℕ) where
   term-within (suc depth) at [] k = was-refused 10 at (omega arith) (omega arith)
   term-within (suc depth) at (b ∷ bytes) k = go (byte-of Σ b) refl (λ at bytes k. term-within depth at bytes k)
     where
-      go : (c : Byte) → byte-of Σ b ≡ c → ((at : ℕ) (bytes : List ℕ) → at + length bytes ≤ e → RefusesWithin e (read-term Σ depth at bytes)) → RefusesWithin e (read-term Σ (suc depth) at (b ∷ bytes))
+      go : (c : Byte) → byte-of Σ b ≡ c → ((at : ℕ) (bytes : List ℕ) → at + length bytes ≤ e → RefusesWithin e (read-term Σ depth at bytes)) →
+          RefusesWithin e (read-term Σ (suc depth) at (b ∷ bytes))
       go (symbol f) q ih =
-          rw (q, read-term) (bind-within _ _ (terms-within _ ih (λ at bytes p h. term-behind depth at bytes p h) (arity-of Σ f) (at + 1) bytes (omega arith)) λ _ _. was-read)
+          rw (q, read-term)
+          (bind-within _ _ (terms-within _ ih (λ at bytes p h. term-behind depth at bytes p h) (arity-of Σ f) (at + 1) bytes (omega arith)) λ _ _.
+          was-read)
       go (variable x) q ih = rw (q, read-term) was-read
       go neither q ih = rw (q, read-term) (was-refused 10 at (omega arith) (omega arith))
 
@@ -159,7 +163,8 @@ module _ (Σ : List Symbol) (e : ℕ) where
       bind-within _ _ (equations-within more (f .end) (f .rest) (omega (arith, d .rest))) λ _ _. was-read
 
   -- the first byte of each equation field that was read
-  firsts-within : (more at : ℕ) (bytes : List ℕ) (es : List Equation) → at + length bytes ≤ e → equation-fields Σ more at bytes ≡ ok es → Every (λ (q : Equation). q .first ≤ e) es
+  firsts-within : (more at : ℕ) (bytes : List ℕ) (es : List Equation) → at + length bytes ≤ e → equation-fields Σ more at bytes ≡ ok es →
+      Every (λ (q : Equation). q .first ≤ e) es
   unfolding equation-fields equation-field
   firsts-within zero at [] es k q = let r : [] ≡ es = ok-injective q in rw (← r) of-none
   firsts-within zero at (b ∷ bytes) es k q = from-bind _ _ es q λ _ _ q. absurd (no-ok q)
@@ -170,7 +175,8 @@ module _ (Σ : List Symbol) (e : ℕ) where
       from-bind _ _ es q λ ds c q.
       let w : FieldWithin at (b ∷ bytes) f = due-parts 0x03 at (b ∷ bytes) f p in
       let r : d ∷ ds ≡ es = ok-injective q in
-      let n : f .first ≡ d .first = from-bind _ _ d h λ _ _ h. from-bind _ _ d h λ _ _ h. from-bind _ _ d h λ _ _ h. ap (λ (q : Equation). q .first) (ok-injective h) in
+      let n : f .first ≡ d .first =
+      from-bind _ _ d h λ _ _ h. from-bind _ _ d h λ _ _ h. from-bind _ _ d h λ _ _ h. ap (λ (q : Equation). q .first) (ok-injective h) in
       let low : d .first ≤ e = omega (arith, w .first) in
       rw (← r) (of-cons low (firsts-within more (f .end) (f .rest) ds (omega (arith, w .rest)) c))
 

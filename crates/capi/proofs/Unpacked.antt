@@ -52,7 +52,8 @@ abbrev pub UnpacksAnswer : ℕ → Reading ℕ → Type 0
 UnpacksAnswer r (ok value) = Unpacks r 1 0 value
 UnpacksAnswer r (refused number place) = Unpacks r 0 number place
 
-pub complete-unpacks : (problem : List ℕ) (buffer : ℕ) → UnpacksAnswer (answer-code (counted (complete-call problem buffer))) (counted (complete-call problem buffer))
+pub complete-unpacks : (problem : List ℕ) (buffer : ℕ) →
+    UnpacksAnswer (answer-code (counted (complete-call problem buffer))) (counted (complete-call problem buffer))
 unfolding answer-code counted
 complete-unpacks problem buffer = go (complete-call problem buffer) refl (complete-within problem buffer)
   where
@@ -88,7 +89,9 @@ instance-few s none bytes q = absurd (let z : _≡_ {A = ℕ} 0 1 = cc in omega 
 instance-few s (some m) bytes q = go (under m s) (ltb 120 (size (under m s))) refl q
   where
     go : (t : Term) (b : Bool) → ltb 120 (size t) ≡ b →
-        (if b then instance-too-large else instance (field-bytes (record { tag = 0x15; contents = term-bytes (renamed (record { left = t; right = t }) .left) }))) ≡ instance bytes → length bytes ≤ 123
+        (if b then instance-too-large else instance
+        (field-bytes (record { tag = 0x15; contents = term-bytes (renamed (record { left = t; right = t }) .left) }))) ≡ instance bytes → length
+        bytes ≤ 123
     go t true h q = absurd (let z : _≡_ {A = ℕ} 0 1 = cc in omega arith)
     go t false h q =
         let e : Pair = record { left = t; right = t } in
@@ -104,7 +107,8 @@ unify-few problem buffer bytes q =
     from-bind _ _ (instance bytes) q λ S _ q.
     instance-few (S .equation .sides .left) (mgu (S .equation .sides .left) (S .equation .sides .right)) bytes (ok-injective q)
 
-pub unify-unpacks : (problem : List ℕ) (buffer : ℕ) → UnpacksReturned (unify-code (unify-returns (unify-call problem buffer))) (unify-returns (unify-call problem buffer))
+pub unify-unpacks : (problem : List ℕ) (buffer : ℕ) →
+    UnpacksReturned (unify-code (unify-returns (unify-call problem buffer))) (unify-returns (unify-call problem buffer))
 unfolding unify-code unify-returns end-number
 unify-unpacks problem buffer = go (unify-call problem buffer) refl (unify-within problem buffer)
   where
@@ -124,12 +128,14 @@ pub subterm-unpacks : (problem : List ℕ) (position : ℕ) → UnpacksPart (par
 unfolding subterm-part part-of
 subterm-unpacks problem p = go (parse-single problem) refl
   where
-    found : (S : Single) → parse-single problem ≡ ok S → (o : Option Term) → subterm-at (S .equation .sides .left) p ≡ o → UnpacksPart (part-code (part-of (S .equation .first) p o)) (part-of (S .equation .first) p o)
+    found : (S : Single) → parse-single problem ≡ ok S → (o : Option Term) → subterm-at (S .equation .sides .left) p ≡ o →
+        UnpacksPart (part-code (part-of (S .equation .first) p o)) (part-of (S .equation .first) p o)
     found S q none h = part-unpacks _ (omega arith) (omega arith)
     found S q (some u) h =
         let left : Term = S .equation .sides .left in
         let small : size left ≤ 120 = single-fits problem S q .fits .left .small in
-        part-unpacks (record { start = S .equation .first + 3 + p; bytes = size u }) (omega (arith, single-first problem S q, subterm-below left p u h)) (omega (arith, subterm-few left p u h))
+        part-unpacks (record { start = S .equation .first + 3 + p; bytes = size u })
+        (omega (arith, single-first problem S q, subterm-below left p u h)) (omega (arith, subterm-few left p u h))
 
     go : (c : Reading Single) → parse-single problem ≡ c → UnpacksPart (part-code (subterm-part problem p)) (subterm-part problem p)
     go (ok S) q = rw (q, subterm-part) (found S q (subterm-at (S .equation .sides .left) p) refl)

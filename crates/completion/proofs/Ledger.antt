@@ -130,8 +130,7 @@ abbrev pub Books : {A : Type 0} → Paying A → Ledger → Type 0
 Books m f = (left : ℕ) → Booked left (left-of (m left)) (f left)
 
 then-books : {A B : Type 0} (p : Paid A) (next : A → Paying B) (left : ℕ) (events : List Event) (more : A → Ledger) → Booked left (left-of p) events →
-    ((a : A) → Books (next a) (more a)) →
-    Booked left (left-of (and-then p next)) (events ++ events-then p more)
+    ((a : A) → Books (next a) (more a)) → Booked left (left-of (and-then p next)) (events ++ events-then p more)
 unfolding and-then events-then left-of
 then-books (done a l) next left events more h k =
     let b = k a l in
@@ -181,8 +180,7 @@ if-books true m n f g h k = h
 if-books false m n f g h k = k
 
 step-books : (rules : List Rule) (t u : Term) (left : ℕ) (b : Bool) (p : Paid Term) (events : List Event) → step rules t ≡ some u →
-    Booked left (left-of p) events →
-    Booked (suc left) (left-of (if b then stop too-large left else p)) (rewrote rules t u ∷ (if b then [] else events))
+    Booked left (left-of p) events → Booked (suc left) (left-of (if b then stop too-large left else p)) (rewrote rules t u ∷ (if b then [] else events))
 unfolding if_then_else_ left-of Valid
 step-books rules t u left true p events e h = record { counted = omega arith; valid = of-cons e (of-none) }
 step-books rules t u left false p events e h =
@@ -384,8 +382,7 @@ module _ (P : Problem) where
     where
       go : (p : Paid State) → turn P s left ≡ p → begun (turn-events P s left) ≡ min 1 left →
           ((s′ : State) (left′ : ℕ) → left′ < n → Reachable P s′ left′ → TurnsBegun (length (s′ .log)) (length (turns n P s′ left′ .state .log))
-          (turns-events n P s′ left′)) →
-          TurnsBegun (length (s .log)) (length (turns (suc n) P s left .state .log)) (turns-events (suc n) P s left)
+          (turns-events n P s′ left′)) → TurnsBegun (length (s .log)) (length (turns (suc n) P s left .state .log)) (turns-events (suc n) P s left)
       go (done s′ left′) e b ih =
           let less : left′ < left = turn-less P s s′ left left′ e in
           let g : length (s′ .log) ≡ suc (length (s .log)) = next-entry P _ _ (turn-next P _ _ _ _ e) in

@@ -27,6 +27,8 @@ pub normal-below : (tab rules : List ℕ) (rs : List Rule) → Stored tab rules 
     Holds (Below most-variables) (λ e n. Unit {0}) (normalise rs x units)
 normal-below tab rules rs h x w units =
     pays-weaker (normalise rs x)
-    (λ y (f : Form rs x y). reached-keeps (Below most-variables) (λ a b e l q. step-made (λ f. f < most-symbols) (λ v. v < most-variables) (λ v. v < most-variables) (λ v z. z) rs (rights-below tab rules 0 rs h) a b q e) (f .reached) (wf-made most-variables tab x w))
+    (λ y (f : Form rs x y). reached-keeps (Below most-variables)
+    (λ a b e l q. step-made (λ f. f < most-symbols) (λ v. v < most-variables) (λ v. v < most-variables) (λ v z. z) rs
+    (rights-below tab rules 0 rs h) a b q e) (f .reached) (wf-made most-variables tab x w))
     (normalise-holds (λ e n. Unit {0}) rs tt x (λ o n. tt))
     .out units

@@ -57,7 +57,8 @@ for-large f e too-large h = (refl, λ g q. zero≢one (cc))
 for-large f e rules-full h = absurd h
 for-large f e log-full h = absurd h
 
-rule-here : (tab rules : List ℕ) (k count : ℕ) (before : List Rule) (old : Rule) (after : List Rule) → Amid tab rules k count before old after → PairAt most-variables tab rules k (old .sides)
+rule-here : (tab rules : List ℕ) (k count : ℕ) (before : List Rule) (old : Rule) (after : List Rule) →
+    Amid tab rules k count before old after → PairAt most-variables tab rules k (old .sides)
 rule-here tab rules k count before old after h =
     let s = all-split _ 0 (sides-of before) (sides-of (old ∷ after)) (subst (λ z. Stored tab rules 0 z) (sides-append before (old ∷ after)) (h .stored)) in
     let e : 0 + length (sides-of before) ≡ k = omega (arith, length-sides before, h .place) in
@@ -74,7 +75,8 @@ right-put tab rules k right rules′ before old after x e only here h =
     all-join _ 0 before (record { left = old .left; right = x } ∷ after)
     (stored-moved tab rules rules′ 0 0 before (λ i q. only .others (0 + i) (λ d. omega arith)) (s .0))
     (subst (λ z. Stored tab rules′ z (record { left = old .left; right = x } ∷ after)) (sym f)
-    (all-cons _ k (record { left = old .left; right = x }) after here (stored-moved tab rules rules′ (suc k) (suc k) after (λ i q. only .others (suc k + i) (λ d. omega arith)) t)))
+    (all-cons _ k (record { left = old .left; right = x }) after here
+    (stored-moved tab rules rules′ (suc k) (suc k) after (λ i q. only .others (suc k + i) (λ d. omega arith)) t)))
 
 module _ (tab rules : List ℕ) (k count units : ℕ) (t out out′ : List ℕ) (o : Reached) (y : Layout rules count) (lower : k < count)
     (is : t ≡ right-of (slot rules k)) (s : Normalised tab rules count t out out′ units o) where
@@ -123,7 +125,9 @@ module _ (tab rules : List ℕ) (k count units : ℕ) (t out out′ : List ℕ) 
     composed = record {
       only = only-right;
       left-over = omega arith;
-      answer = λ before old after h. go before old after h (normalise (before ++ (old ∷ after)) (old .sides .right) units) (normalised before old after h) (low before old after h);
+      answer =
+          λ before old after h. go before old after h (normalise (before ++ (old ∷ after)) (old .sides .right) units) (normalised before old after h)
+          (low before old after h);
     }
       where
         go : (before : List Rule) (old : Rule) (after : List Rule) → Amid tab rules k count before old after →
@@ -133,7 +137,8 @@ module _ (tab rules : List ℕ) (k count units : ℕ) (t out out′ : List ℕ) 
             let n : len ≡ size x = cc in (
               refl,
               omega (arith, e .1),
-              right-put tab rules k (take (len - 0) (drop 0 out′)) rules′ (sides-of before) (old .sides) (sides-of after) x (length-sides before ∙ h .place) (written .only)
+              right-put tab rules k (take (len - 0) (drop 0 out′)) rules′ (sides-of before) (old .sides) (sides-of after) x
+                  (length-sides before ∙ h .place) (written .only)
                   (pair-right written (here before old after h) (made-wf (λ f. f < most-symbols) most-apart most-variables tab x (e .3) b)
                   (ap (λ z. take z out′) (sub-zero len ∙ n) ∙ e .2))
                   (subst (λ z. Stored tab rules 0 z) (sides-append before (old ∷ after)) (h .stored)),

@@ -40,7 +40,8 @@ sweep-start tab rules count units = record {
   answer = λ rs new e h. ([], rs, record { place = refl; total = omega arith; stored = h; run = refl; same-numbers = refl });
 }
 
-numbers-with : (before : List Rule) (old : Rule) (x : Term) (after : List Rule) → numbers (before ++ (with-right old x ∷ after)) ≡ numbers (before ++ (old ∷ after))
+numbers-with : (before : List Rule) (old : Rule) (x : Term) (after : List Rule) →
+    numbers (before ++ (with-right old x ∷ after)) ≡ numbers (before ++ (old ∷ after))
 numbers-with before old x after = map-append (λ r. r .number) before (with-right old x ∷ after) ∙ sym (map-append (λ r. r .number) before (old ∷ after))
 
 -- the definition's two cases
@@ -48,9 +49,11 @@ abbrev then-rest : List Rule → Rule → List Rule → Rule → Paid Term → P
 then-rest before old later new p = and-then p (λ r. normalise-rights (before ++ (with-right old r ∷ [])) later new)
 
 next-right : (before : List Rule) (old : Rule) (later : List Rule) (new : Rule) (left : ℕ) →
-    normalise-rights before (old ∷ later) new left ≡ then-rest before old later new (normalise (before ++ (old ∷ (later ++ (new ∷ [])))) (old .sides .right) left)
+    normalise-rights before (old ∷ later) new left ≡ then-rest before old later new
+    (normalise (before ++ (old ∷ (later ++ (new ∷ [])))) (old .sides .right) left)
 unfolding normalise-rights _>>=_
-next-right before old later new left = ap (λ z. then-rest before old later new (normalise z (old .sides .right) left)) (append-assoc before (old ∷ later) (new ∷ []))
+next-right before old later new left =
+    ap (λ z. then-rest before old later new (normalise z (old .sides .right) left)) (append-assoc before (old ∷ later) (new ∷ []))
 
 last-right : (before : List Rule) (new : Rule) (left : ℕ) → normalise-rights before [] new left ≡ done (before ++ (new ∷ [])) left
 unfolding normalise-rights return
@@ -102,9 +105,15 @@ module _ (tab rules rules₁ : List ℕ) (count units k left : ℕ) (g : SweptTo
             record {
               place = omega arith;
               total = omega arith;
-              stored = subst (λ z. Stored tab rules₂ 0 z) (sym (ap sides-of (behind before later old m x) ∙ sides-append before (with-right old x ∷ (later ++ (new ∷ []))))) (e .2);
+              stored =
+                  subst (λ z. Stored tab rules₂ 0 z)
+                  (sym (ap sides-of (behind before later old m x) ∙ sides-append before (with-right old x ∷ (later ++ (new ∷ []))))) (e .2);
               run = f ∙ ap (normalise-rights (before ++ (with-right old x ∷ [])) later new) (sym (e .1));
-              same-numbers = ap numbers (behind before later old m x) ∙ numbers-with before old x (later ++ (new ∷ [])) ∙ ap numbers (sym (append-assoc before (old ∷ later) (new ∷ []))) ∙ m .same-numbers;
+              same-numbers =
+                  ap numbers (behind before later old m x)
+                  ∙ numbers-with before old x (later ++ (new ∷ []))
+                  ∙ ap numbers (sym (append-assoc before (old ∷ later) (new ∷ [])))
+                  ∙ m .same-numbers;
             },
           )
       further v before later old m (stop c n) e f = absurd (goes≢ends v (e .0))
@@ -146,7 +155,8 @@ module _ (tab rules rules₁ : List ℕ) (count units k left : ℕ) (g : SweptTo
     answer = λ rs new number h. let m = g .answer rs new number h in last rs new number (m .0) (m .1) (m .2);
   }
     where
-      last : (rs : List Rule) (new : Rule) → length (rs ++ (new ∷ [])) ≡ count → (before later : List Rule) → Midway tab rules₁ rs new k units left before later →
+      last : (rs : List Rule) (new : Rule) → length (rs ++ (new ∷ [])) ≡ count → (before later : List Rule) →
+          Midway tab rules₁ rs new k units left before later →
           AllIs tab rules₁ (rs ++ (new ∷ [])) (record { verdict = GoesOn; units = left }) (normalise-rights [] rs new units)
       last rs new number before [] m =
           let e : before ++ [] ≡ before = append-nil before in

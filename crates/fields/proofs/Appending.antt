@@ -28,7 +28,8 @@ module _ (at : ℕ) (xs ys l : List ℕ) (room : at + length xs ≤ length l) wh
   unfolding patched
   patched-behind =
       let f : take (at + length xs) (patched at xs l) ≡ take at l ++ xs = front-more at (at + length xs) xs l room refl in
-      let g : drop (at + length xs + length ys) (patched at xs l) ≡ drop (at + length xs + length ys) l = patched-after at xs l (omega arith) (at + length xs + length ys) (omega arith) in
+      let g : drop (at + length xs + length ys) (patched at xs l) ≡ drop (at + length xs + length ys) l =
+      patched-after at xs l (omega arith) (at + length xs + length ys) (omega arith) in
       ap₂ (λ x y. x ++ (ys ++ y)) f g ∙ joined
 
   -- xs before ys, which was put first
@@ -37,7 +38,8 @@ module _ (at : ℕ) (xs ys l : List ℕ) (room : at + length xs ≤ length l) wh
   patched-before =
       let k : ℕ = at + length xs in
       let n : length (take k l) ≡ k = length-take-le k l (omega arith) in
-      let f : take at (patched k ys l) ≡ take at l = take-append-le at (take k l) (ys ++ drop (k + length ys) l) (omega arith) ∙ take-take at k l (omega arith) in
+      let f : take at (patched k ys l) ≡ take at l =
+      take-append-le at (take k l) (ys ++ drop (k + length ys) l) (omega arith) ∙ take-take at k l (omega arith) in
       let g : drop k (patched k ys l) ≡ ys ++ drop (k + length ys) l = drop-at (take k l) (ys ++ drop (k + length ys) l) k n in
       ap₂ (λ x y. x ++ (xs ++ y)) f g ∙ sym (append-assoc (take at l) xs (ys ++ drop (k + length ys) l)) ∙ joined
 

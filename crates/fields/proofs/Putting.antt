@@ -16,7 +16,8 @@ pub puts-length : (l : List ℕ) (at n : ℕ) (xs l′ : List ℕ) (r : ℕ) →
 puts-length l at n xs l′ r room p = ap length (p .bytes) ∙ length-patched at xs l (omega (arith, p .counted))
 
 -- one behind the other
-pub puts-then : (l : List ℕ) (at n m : ℕ) (xs ys l₁ l₂ : List ℕ) (a r : ℕ) → at + n ≤ length l → Puts l at n xs l₁ a → Puts l₁ a m ys l₂ r → Puts l at (n + m) (xs ++ ys) l₂ r
+pub puts-then : (l : List ℕ) (at n m : ℕ) (xs ys l₁ l₂ : List ℕ) (a r : ℕ) → at + n ≤ length l → Puts l at n xs l₁ a → Puts l₁ a m ys l₂ r →
+    Puts l at (n + m) (xs ++ ys) l₂ r
 puts-then l at n m xs ys l₁ l₂ a r room p q =
     let b : a ≡ at + length xs = omega (arith, p .next, p .counted) in
     let e : patched a ys l₁ ≡ patched (at + length xs) ys (patched at xs l) = ap₂ (λ z k. patched z ys k) b (p .bytes) in
@@ -27,7 +28,8 @@ puts-then l at n m xs ys l₁ l₂ a r room p q =
     }
 
 -- a part of another list
-pub puts-part : (l from l′ : List ℕ) (at a n : ℕ) → a + n ≤ length from → l′ ≡ patched at (take (a + n - a) (drop a from)) l → Puts l at n (take n (drop a from)) l′ (at + n)
+pub puts-part : (l from l′ : List ℕ) (at a n : ℕ) → a + n ≤ length from → l′ ≡ patched at (take (a + n - a) (drop a from)) l →
+    Puts l at n (take n (drop a from)) l′ (at + n)
 puts-part l from l′ at a n h e =
     let z : a + n - a ≡ n = omega arith in
     record { bytes = rw z at e; counted = length-take-le n (drop a from) (omega (arith, length-drop a from)); next = refl }
@@ -37,7 +39,8 @@ pub puts-byte : (l : List ℕ) (at b : ℕ) → at < length l → Puts l at 1 (b
 puts-byte l at b h = record { bytes = patched-one at b l h; counted = refl; next = refl }
 
 -- a tag and a length
-pub puts-head : (l : List ℕ) (at tag len : ℕ) (l′ : List ℕ) (r : ℕ) → at + 3 ≤ length l → Puts (set l at tag) (at + 1) 2 (number-bytes 2 len) l′ r → Puts l at 3 (tag ∷ number-bytes 2 len) l′ r
+pub puts-head : (l : List ℕ) (at tag len : ℕ) (l′ : List ℕ) (r : ℕ) → at + 3 ≤ length l →
+    Puts (set l at tag) (at + 1) 2 (number-bytes 2 len) l′ r → Puts l at 3 (tag ∷ number-bytes 2 len) l′ r
 puts-head l at tag len l′ r room p =
     puts-then l at 1 2 (tag ∷ []) (number-bytes 2 len) (set l at tag) l′ (at + 1) r (omega arith)
     (puts-byte l at tag (omega arith)) p

@@ -49,13 +49,18 @@ module _ (l tab ends cs : List ℕ) (k : Spelt l tab ends cs) where
 
     module _ (q : List ℕ) (h : q ≡ renamed-bytes (take r e) ++ drop r e) where
       front-is : take r q ≡ renamed-bytes (take r e)
-      front-is = ap (take r) h ∙ take-at (renamed-bytes (take r e)) (drop r e) r (length-renamed (take r e) ∙ length-take-le r e (omega (arith, spelt-few .0, spelt-few .1)))
+      front-is =
+          ap (take r) h
+          ∙ take-at (renamed-bytes (take r e)) (drop r e) r
+          (length-renamed (take r e) ∙ length-take-le r e (omega (arith, spelt-few .0, spelt-few .1)))
 
-      pub spelt-written : (n : ℕ) (d₀ d₁ : List ℕ) → Puts d₀ 0 (3 + length (take r q)) (field-bytes (tagged 0x15 (take r q))) d₁ n → WritesSpelt l tab ends cs n d₀ d₁
+      pub spelt-written : (n : ℕ) (d₀ d₁ : List ℕ) → Puts d₀ 0 (3 + length (take r q)) (field-bytes (tagged 0x15 (take r q))) d₁ n →
+          WritesSpelt l tab ends cs n d₀ d₁
       unfolding instance-field
       spelt-written n d₀ d₁ f =
           let c : (u : Term) → Spells (arena l tab ends) (at cs) 0 u → take r q ≡ renamed-bytes (term-bytes u)
           = λ u p. front-is ∙ ap renamed-bytes (spelt-bytes u p) in
           let k : n ≡ length (field-bytes (tagged 0x15 (take r q))) = omega (arith, f .next, f .counted) in
-          let w : d₁ ≡ written (field-bytes (tagged 0x15 (take r q))) d₀ = unfold written in f .bytes ∙ patched-front (field-bytes (tagged 0x15 (take r q))) d₀ in
+          let w : d₁ ≡ written (field-bytes (tagged 0x15 (take r q))) d₀ = unfold written in
+          f .bytes ∙ patched-front (field-bytes (tagged 0x15 (take r q))) d₀ in
           record { count = λ u p. rw (c u p) at k; leaves = λ u p. rw (c u p) at w }

@@ -61,8 +61,10 @@ unify-asks l tab b k =
     let p = size-pos (k .s) in
     let q = size-pos (k .t) in
     let x = k .sides .small-left in
-    let y = k .sides .small-right in
-    ((omega arith, omega arith, omega arith, omega arith), ((cons (k .s) (cons (k .t) nil), sides-laid l tab (k .s) (k .t) (k .sides)), omega arith, omega (arith, k .begins)))
+    let y = k .sides .small-right in (
+      (omega arith, omega arith, omega arith, omega arith),
+      ((cons (k .s) (cons (k .t) nil), sides-laid l tab (k .s) (k .t) (k .sides)), omega arith, omega (arith, k .begins)),
+    )
 
 -- no instance
 none-is : (o : Option (List Binding)) → false ≡ is-some o → o ≡ none
@@ -105,7 +107,8 @@ module _ (l tab : List ℕ) (b : ℕ) (ends cs zs : List ℕ) (h : Solved l tab 
     field-found z =
         rw (le-ltb most-nodes (size (under m s)) (omega (arith, sizes-agree, small-size l tab 0 b ends cs zs h 0 s spelt z)))
         (ap (λ (x : List ℕ). instance (field-bytes (record { tag = 0x15; contents = x })))
-        (ap term-bytes (renamed-twice (under m s)) ∙ sym (instance-renamed l tab 0 b ends cs zs h 0 s spelt s t spelt (sides-spell l tab s t k b ends cs zs h e .1) m f)))
+        (ap term-bytes (renamed-twice (under m s))
+        ∙ sym (instance-renamed l tab 0 b ends cs zs h 0 s spelt s t spelt (sides-spell l tab s t k b ends cs zs h e .1) m f)))
 
   module _ (r : Bool) (a : Decided l tab 0 b r) (y : r ≡ true) where
     the-found : (s t : Term) → SidesOf l tab s t → b ≡ size s → (m : List Binding) × (mgu s t ≡ some m)
@@ -121,7 +124,8 @@ module _ (l tab : List ℕ) (b : ℕ) (ends cs zs : List ℕ) (h : Solved l tab 
               rw g (record { answer = refl; leaves = refl });
         }
 
-    pub answers-instance : at zs 0 ≤ most-nodes → 0 < length l → (n : ℕ) (d d′ : List ℕ) → WritesSpelt l tab ends cs n d d′ → SidesUnify l tab b (Instance n) d d′
+    pub answers-instance : at zs 0 ≤ most-nodes → 0 < length l → (n : ℕ) (d d′ : List ℕ) → WritesSpelt l tab ends cs n d d′ →
+        SidesUnify l tab b (Instance n) d d′
     unfolding found-of after-unify
     answers-instance z p n d d′ w =
         record {
@@ -129,7 +133,8 @@ module _ (l tab : List ℕ) (b : ℕ) (ends cs zs : List ℕ) (h : Solved l tab 
               let (m, f) = the-found s t k e in
               let (u, q, _) = h .sized .measured 0 p (h .known 0 p) in
               let i : found s t k e m f ≡ u = solved-image l tab 0 b ends cs zs h 0 s u (spelt s t k e m f) q in
-              let g : unified s (mgu s t) ≡ instance (instance-field u) = ap (unified s) f ∙ field-found s t k e m f z ∙ ap (λ (x : Term). instance (instance-field x)) i in
+              let g : unified s (mgu s t) ≡ instance (instance-field u) =
+              ap (unified s) f ∙ field-found s t k e m f z ∙ ap (λ (x : Term). instance (instance-field x)) i in
               rw g (record { answer = ap Instance (w .count u q); leaves = w .leaves u q });
         }
 

@@ -1,5 +1,6 @@
 -- The bytes laid out are the four terms of an overlap: outer left, inner left renamed apart, outer left rewritten, outer right. Assumes nothing.
--- Read first: overlap_terms/specs/Layout (four-bytes), specs/Answer (four), slots/specs/Slots (Sides), rewriting/specs/Overlap (apart), overlap_terms/proofs/Moving.
+-- Read first: overlap_terms/specs/Layout (four-bytes), specs/Answer (four), slots/specs/Slots (Sides), rewriting/specs/Overlap (apart),
+-- overlap_terms/proofs/Moving.
 use mathlib.Core.Path.{_≡_, refl, sym, ap, ap₂, _∙_}
 use mathlib.Core.List.{List, [], _∷_, _++_, map, map-append, append-assoc, append-nil}
 use mathlib.Core.Option.{some}

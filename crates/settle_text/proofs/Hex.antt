@@ -108,9 +108,11 @@ module _ (l l₁ l₂ l₃ l₄ l₅ l₆ cs : List ℕ) (at tag a b c d e r : �
       record { puts = puts-counted l at _ _ l₆ r q₆; room = omega arith }
 
 -- `put_refused`
-module _ (l l₁ l₂ l₃ l₄ l₅ : List ℕ) (number place a b r : ℕ) (room : 64 ≤ length l) (n-few : number < 18_446_744_073_709_551_616) (p-few : place < 18_446_744_073_709_551_616)
+module _ (l l₁ l₂ l₃ l₄ l₅ : List ℕ) (number place a b r : ℕ) (room : 64 ≤ length l) (n-few : number < 18_446_744_073_709_551_616)
+    (p-few : place < 18_446_744_073_709_551_616)
     (e₁ : l₁ ≡ patched 0 (114 ∷ 101 ∷ 102 ∷ 117 ∷ 115 ∷ 101 ∷ 100 ∷ 32 ∷ []) l) (p₂ : Puts l₁ 8 (length (decimal number)) (decimal number) l₂ a)
-    (e₃ : l₃ ≡ patched a (32 ∷ 97 ∷ 116 ∷ 32 ∷ []) l₂) (p₄ : Puts l₃ (a + 4) (length (decimal place)) (decimal place) l₄ b) (p₅ : Puts l₄ b 1 (10 ∷ []) l₅ r) where
+    (e₃ : l₃ ≡ patched a (32 ∷ 97 ∷ 116 ∷ 32 ∷ []) l₂) (p₄ : Puts l₃ (a + 4) (length (decimal place)) (decimal place) l₄ b)
+    (p₅ : Puts l₄ b 1 (10 ∷ []) l₅ r) where
   pub puts-refused : (r ≤ 64) × Refusal number place l l₅ r
   unfolding ascii written
   puts-refused =

@@ -34,7 +34,8 @@ got problem before after r n buffer w a b = go (complete-call problem buffer) re
         let f : take (n - 0) after ≡ bytes = ap (take (n - 0)) b ∙ written-front bytes before (n - 0) (omega arith) in
         record { is = e ∙ ap ok (sym f); few = omega (arith, q, complete-writes problem buffer bytes e .few) }
 
-pub prints-lines : (problem after : List ℕ) (n buffer : ℕ) (out out′ : List ℕ) (r : ℕ) → Got problem buffer n after → 16_384 ≤ buffer → Lines (take (n - 0) after) out out′ r → Writes out (settle problem) out′ r
+pub prints-lines : (problem after : List ℕ) (n buffer : ℕ) (out out′ : List ℕ) (r : ℕ) → Got problem buffer n after → 16_384 ≤ buffer →
+    Lines (take (n - 0) after) out out′ r → Writes out (settle problem) out′ r
 prints-lines problem after n buffer out out′ r G big h = settle-lines problem buffer big (take (n - 0) after) out out′ r (G .is) h
 
 pub prints-refused : (problem : List ℕ) (c : Completed) (n n′ at buffer : ℕ) (out out′ : List ℕ) (r : ℕ) → c ≡ Refused n at →

@@ -17,7 +17,8 @@ use Rattle.completion.proofs.Result.{fields-fit}
 use Rattle.settle_text.specs.Text.{Lines, Refusal}
 
 module _ (problem : List ℕ) (buffer : ℕ) (big : 16_384 ≤ buffer) where
-  pub settle-lines : (result before after : List ℕ) (r : ℕ) → complete-call problem buffer ≡ ok result → Lines result before after r → Writes before (settle problem) after r
+  pub settle-lines : (result before after : List ℕ) (r : ℕ) → complete-call problem buffer ≡ ok result → Lines result before after r →
+      Writes before (settle problem) after r
   unfolding _>>=_ settle result-bytes
   settle-lines result before after r e h = go (parse problem) refl (sym (complete-is problem buffer big) ∙ e)
     where
@@ -25,14 +26,18 @@ module _ (problem : List ℕ) (buffer : ℕ) (big : 16_384 ≤ buffer) where
       go (ok P) p q =
           let q′ : ok (result-bytes (run P)) ≡ ok result = rw p at q in
           rw (p, settle)
-          (h (result-fields (run P)) (every-map (λ f k. let l : length (f .contents) ≤ 242 = k .length-fits in omega arith) (fields-fit P (accepts problem P p))) (sym (ok-injective q′)))
+          (h (result-fields (run P))
+          (every-map (λ f k. let l : length (f .contents) ≤ 242 = k .length-fits in omega arith) (fields-fit P (accepts problem P p)))
+          (sym (ok-injective q′)))
       go (refused n at) p q = absurd (no-ok (rw p at q))
 
-  pub settle-refused : (n at : ℕ) (before after : List ℕ) (r : ℕ) → complete-call problem buffer ≡ refused n at → Refusal n at before after r → Writes before (settle problem) after r
+  pub settle-refused : (n at : ℕ) (before after : List ℕ) (r : ℕ) → complete-call problem buffer ≡ refused n at →
+      Refusal n at before after r → Writes before (settle problem) after r
   unfolding _>>=_ settle
   settle-refused n at before after r e h = go (parse problem) refl (sym (complete-is problem buffer big) ∙ e)
     where
-      go : (m : Reading Problem) → parse problem ≡ m → (parse problem >>= λ P. ok (result-bytes (run P))) ≡ refused n at → Writes before (settle problem) after r
+      go : (m : Reading Problem) → parse problem ≡ m → (parse problem >>= λ P. ok (result-bytes (run P))) ≡ refused n at →
+          Writes before (settle problem) after r
       go (ok P) p q = let q′ : ok (result-bytes (run P)) ≡ refused n at = rw p at q in absurd (no-ok (sym q′))
       go (refused m place) p q =
           let q′ : _≡_ {A = Reading (List ℕ)} (refused m place) (refused n at) = rw p at q in

@@ -1,5 +1,5 @@
--- `settle` and `make`, from what their callees promise: what each call requires, and what each return answers. Assumes nothing.
--- Read first: specs/Turns (Settles, Makes), state/specs/Steps, proofs/Making, proofs/Steady.
+-- Step 3 and steps 4 to 7, from what the state's methods promise: what each call requires, and what each way through answers. Assumes nothing.
+-- Read first: specs/Turns (TurnSafe, TurnedIs), state/specs/Steps, proofs/Making, proofs/Steady.
 use mathlib.Core.Path.{_≡_, refl, sym, ap, _∙_, subst}
 use mathlib.Core.Logic.{_⊎_, inl, inr}
 use mathlib.Core.List.{List}
@@ -11,7 +11,8 @@ use Rattle.rewriting.specs.declared.End.the-variants.{RulesFull}
 use Rattle.rewriting.specs.declared.Verdict.the-variants.{GoesOn, Ends}
 use Rattle.order.specs.Walk.{rank}
 use Rattle.problem.specs.Problem.{rank-of, Problem}
-use Rattle.completion.specs.Turn.{State as RunState, Taken as TakenPair}
+use Rattle.completion.specs.Turn.{Origin, State as RunState, Taken as TakenPair, make-rule}
+use Rattle.completion.specs.Calls.{origin-bytes}
 use Rattle.slots.specs.Slots.{slot, mark-of, Layout, PairAt}
 use Rattle.orient.specs.Orients.{oriented}
 use Rattle.slots.proofs.Layouts.{layout-less}
@@ -22,11 +23,26 @@ use Rattle.state.specs.declared.State.{State}
 use Rattle.state.specs.declared.Log.{Log}
 use Rattle.state.specs.declared.Stepped.{Stepped}
 use Rattle.state.specs.Run.{FineBut, Fine, Represents}
-use Rattle.state.specs.Steps.{without-oldest, NewRule, Takes, Orients, Collapses, Logs}
+use Rattle.state.specs.Steps.{behind-first, without-oldest, with-entry, NewRule, Takes, Orients, Collapses, Logs}
 use Rattle.turn.specs.declared.Turned.{Turned}
-use Rattle.turn.specs.Turns.{ended-as, going-as, Settles, Makes}
+use Rattle.turn.specs.Turns.{ended-as, going-as, TurnSafe, TurnedIs}
 use Rattle.turn.proofs.Steady.{with-slots, slots-fine, stop-safe, go-safe}
 use Rattle.turn.proofs.Making.{make-unplaced, make-full, make-rights-end, make-goes}
+
+-- steps 2 and 3, from a state that has begun its turn
+pub record Settles (st : State) (t : Taken) (o : Turned) : Type 0 where
+  pub safe : t .units ≤ st .units → TurnSafe st o
+  pub goes : o .verdict ≡ GoesOn
+  pub units : o .state .units ≡ t .units
+  pub represents : (tab : List ℕ) (s : RunState) (from : Origin) → Represents tab st s → mark-of (slot (t .pair) 0) ≡ origin-bytes from →
+      Represents tab (o .state) (with-entry (without-oldest s) from 0)
+
+-- steps 4 to 7 and the log
+pub record Makes (tab : List ℕ) (st : State) (t : Taken) (o : Turned) : Type 0 where
+  pub safe : t .units ≤ st .units → TurnSafe st o
+  pub answer : (P : Problem) → rank-of (P .symbols) ≡ rank tab → (s : RunState) (k : TakenPair) → Represents tab st s → k .waiting ≡ behind-first (s .waiting) →
+      PairAt most-apart tab (t .pair) 0 (k .pair .sides) → mark-of (slot (t .pair) 0) ≡ origin-bytes (k .pair .origin) → TurnedIs tab s o
+      (make-rule P s k (t .units))
 
 -- what `log` requires
 abbrev Loggable : State → Type 0
@@ -35,7 +51,7 @@ Loggable st = FineBut 1 st × (st .live ≤ most-rules) × (st .log .count < mos
 same-count : {l m : Log} → l ≡ m → l .count ≡ m .count
 same-count e = ap (λ (x : Log). x .count) e
 
--- `settle`
+-- step 3
 pub settle-logs : {st tk : State} → Takes st tk → st .log .count < most-entries → Loggable tk
 settle-logs T few =
     let F = T .fine in
@@ -57,7 +73,7 @@ settles {st} {tk} {lg} {t} y T from L e =
       represents = λ tab s o R m. L .represents tab (without-oldest s) o (T .represents tab s R) (from ∙ m);
     })
 
--- `make`
+-- steps 4 to 7
 pub orient-room : {st tk : State} → Fine st → Takes st tk → tk .pairs .count ≤ most-rules
 orient-room {st} {tk} F T = go (T .room)
   where

@@ -29,7 +29,8 @@ use Rattle.state.specs.Steps.{behind-first, without-oldest, with-entry}
 use Rattle.turn.specs.declared.Turned.{Turned}
 use Rattle.turn.specs.declared.Due.{Due}
 use Rattle.turn.specs.declared.Due.the-variants.{Stop, Settle, Make}
-use Rattle.turn.specs.Turns.{Given, ended-as, due-after, some-wait, PairsOf, FormsIn, LookStops, LookIs, Looks, TurnSafe, Settles, TurnedIs, Makes, Turns}
+use Rattle.turn.specs.Turns.{Given, ended-as, due-after, some-wait, PairsOf, FormsIn, LookStops, LookIs, Looks, TurnSafe, TurnedIs, Turns}
+use Rattle.turn.proofs.Parts.{Settles, Makes}
 use Rattle.turn.proofs.Holding.{held-length}
 use Rattle.turn.proofs.Entries.{Room, none-left, some-left, room}
 use Rattle.turn.proofs.Steady.{units-fine, units-represent, stop-safe, begun-safe}

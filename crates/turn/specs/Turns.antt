@@ -18,7 +18,7 @@ use Rattle.rewriting.specs.declared.Verdict.{Verdict}
 use Rattle.rewriting.specs.declared.Verdict.the-variants.{GoesOn, Ends}
 use Rattle.problem.specs.Problem.{rank-of, Problem}
 use Rattle.slots.specs.Slots.{slot, mark-of, Layout, PairAt, Stored, Holds}
-use Rattle.completion.specs.Turn.{Origin, Candidate, State as RunState, Taken as TakenPair, take-pair, make-rule, turn}
+use Rattle.completion.specs.Turn.{Candidate, State as RunState, Taken as TakenPair, take-pair, turn}
 use Rattle.completion.specs.Calls.{origin-bytes}
 use Rattle.inputs.specs.Inputs.{marked, inputs-of}
 use Rattle.forms.specs.declared.Found.{Found}
@@ -26,7 +26,7 @@ use Rattle.forms.specs.declared.Found.the-variants.{Equal, Different, Ends as F
 use Rattle.forms.specs.declared.Taken.{Taken}
 use Rattle.state.specs.declared.State.{State}
 use Rattle.state.specs.Run.{held, Fine, Represents, with-units}
-use Rattle.state.specs.Steps.{behind-first, without-oldest, with-entry}
+use Rattle.state.specs.Steps.{behind-first}
 use Rattle.turn.specs.declared.Turned.{Turned}
 use Rattle.turn.specs.declared.Due.{Due}
 use Rattle.turn.specs.declared.Due.the-variants.{Stop, Settle, Make}
@@ -97,25 +97,11 @@ pub record TurnSafe (st : State) (o : Turned) : Type 0 where
   pub less : o .state .units ≤ st .units
   pub layout : Layout (o .pair) 1
 
--- `settle`: steps 2 and 3
-pub record Settles (st : State) (t : Taken) (o : Turned) : Type 0 where
-  pub safe : t .units ≤ st .units → TurnSafe st o
-  pub goes : o .verdict ≡ GoesOn
-  pub units : o .state .units ≡ t .units
-  pub represents : (tab : List ℕ) (s : RunState) (from : Origin) → Represents tab st s → mark-of (slot (t .pair) 0) ≡ origin-bytes from →
-      Represents tab (o .state) (with-entry (without-oldest s) from 0)
-
 -- the next state, or an end with the two forms of 20 in the slot
 abbrev pub TurnedIs : List ℕ → RunState → Turned → Paid RunState → Type 0
 TurnedIs tab s o (done s′ left) = (o .verdict ≡ GoesOn) × (o .state .units ≡ left) × Represents tab (o .state) s′
 TurnedIs tab s o (stop f left) =
     (o .verdict ≡ Ends (ending f)) × (o .state .units ≡ left) × Represents tab (o .state) s × ((g : Pair) → f ≡ neither-above g → PairAt most-apart tab (o .pair) 0 g)
-
--- `make`: steps 4 to 7 and the log
-pub record Makes (tab : List ℕ) (st : State) (t : Taken) (o : Turned) : Type 0 where
-  pub safe : t .units ≤ st .units → TurnSafe st o
-  pub answer : (P : Problem) → rank-of (P .symbols) ≡ rank tab → (s : RunState) (k : TakenPair) → Represents tab st s → k .waiting ≡ behind-first (s .waiting) →
-      PairAt most-apart tab (t .pair) 0 (k .pair .sides) → mark-of (slot (t .pair) 0) ≡ origin-bytes (k .pair .origin) → TurnedIs tab s o (make-rule P s k (t .units))
 
 -- `turn`: exactly as the definition says
 pub record Turns (tab inputs : List ℕ) (count : ℕ) (st : State) (o : Turned) : Type 0 where

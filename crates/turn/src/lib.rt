@@ -3,10 +3,10 @@ ghost use mathlib.Core.Path.{_≡_};
 ghost use mathlib.Core.Bool.{true};
 ghost use Prim.Native.Nat.{_+_, _<_, _≤_};
 ghost use lib.ListN.{length};
-ghost use Rattle.limits.specs.Limits.{most-pairs, most-equations, most-entries};
+ghost use Rattle.limits.specs.Limits.{most-pairs, most-equations};
 ghost use Rattle.slots.specs.Slots.{Layout};
 ghost use Rattle.state.specs.Run.{Fine};
-ghost use Rattle.turn.specs.Turns.{ended-as, going-as, with-room, due-after, Looks, Settles, Makes, Turns};
+ghost use Rattle.turn.specs.Turns.{ended-as, going-as, with-room, due-after, Looks, Turns};
 use forms::Found;
 use forms::Taken;
 use rewriting::End;
@@ -94,22 +94,30 @@ fn look(
     scanning::scan(inputs, count, pairs, live, table, units)
 }
 
-// Step 3: the taken equation has equal forms, and its entry is made.
-fn settle(begun: State, t: Taken) -> Turned
-    requires { ⌜ Fine begun × (begun .log .count < most-entries) × Layout (t .pair) 1 ⌝ }
-    ensures { λ r. ⌜ Settles begun t r ⌝ }
+// A turn, with the input equations. Its unit is paid first; a stop hands back the state as the turn began it. Each method is called here, where the
+// state is, since a function of its own would copy it once more.
+pub fn turn(st: State, inputs: &[u8], count: usize, table: &[u8]) -> Turned
+    requires { ⌜ Fine st × Layout (now inputs) count × (count ≤ most-equations) ⌝ }
+    ensures { λ r. ⌜ Turns (now (table .entry)) (now (inputs .entry)) count st r ⌝ }
 {
+    if st.units == 0 {
+        return ended(st, End::Spent, 0, [0u8; SLOT]);
+    }
+    let begun = st.begin();
+    let live = begun.live;
+    let waits = live < begun.pairs.count;
+    let left = begun.units;
+    let t = look(&begun.pairs.bytes, live, waits, inputs, count, table, left);
     let pair = t.pair;
+    let found = t.found;
+    let due = due_after(found, waits, begun.log.count);
+    if let Due::Stop(end) = due {
+        return ended(begun, end, t.units, pair);
+    }
     let origin = slots::mark(&pair, 0);
-    going(begun.take().log(origin, 0, t.units), pair)
-}
-
-// Steps 4 to 7: the taken pair becomes a rule, and its entry is made.
-fn make(begun: State, t: Taken, table: &[u8]) -> Turned
-    requires { ⌜ Fine begun × (begun .log .count < most-entries) × Layout (t .pair) 1 ⌝ }
-    ensures { λ r. ⌜ Makes (now (table .entry)) begun t r ⌝ }
-{
-    let pair = t.pair;
+    if let Due::Settle = due {
+        return going(begun.take().log(origin, 0, t.units), pair);
+    }
     let o = begun.take().orient(&pair, table);
     let way = o.verdict;
     if let Verdict::Ends(end) = way {
@@ -125,31 +133,5 @@ fn make(begun: State, t: Taken, table: &[u8]) -> Turned
     if let Verdict::Ends(end) = composed {
         return ended(begun, end, c.units, pair);
     }
-    let origin = slots::mark(&pair, 0);
-    let made = next.made as u16;
-    going(next.log(origin, made, c.units), pair)
-}
-
-// A turn, with the input equations: its unit is paid first.
-pub fn turn(st: State, inputs: &[u8], count: usize, table: &[u8]) -> Turned
-    requires { ⌜ Fine st × Layout (now inputs) count × (count ≤ most-equations) ⌝ }
-    ensures { λ r. ⌜ Turns (now (table .entry)) (now (inputs .entry)) count st r ⌝ }
-{
-    if st.units == 0 {
-        return ended(st, End::Spent, 0, [0u8; SLOT]);
-    }
-    let begun = st.begin();
-    let live = begun.live;
-    let waits = live < begun.pairs.count;
-    let left = begun.units;
-    let t = look(&begun.pairs.bytes, live, waits, inputs, count, table, left);
-    let found = t.found;
-    match due_after(found, waits, begun.log.count) {
-        Due::Stop(end) => {
-            let pair = t.pair;
-            ended(begun, end, t.units, pair)
-        }
-        Due::Settle => settle(begun, t),
-        Due::Make => make(begun, t, table),
-    }
+    going(next.log(origin, next.made as u16, c.units), pair)
 }

@@ -1,4 +1,5 @@
--- `subterm_bounds`: refused, a position past the left side, or from the node to its term's end: `bounds-unread`, `bounds-past`, `bounds-inside`. Assumes nothing.
+-- `subterm_bounds`: refused, a position past the left side, or from the node to its term's end: `bounds-unread`, `bounds-past`, `bounds-inside`.
+-- Assumes nothing.
 -- Read first: completion/specs/Calls (subterm-part), specs/Answers (PartAt), only_equation/specs/Places (SidesAt), proofs/Parts.
 use native.Mathlib.Omega.{arith}
 use Rattle.only_equation.proofs.Singles.{in-order}

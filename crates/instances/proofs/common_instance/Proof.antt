@@ -23,7 +23,8 @@ returns c =
     (at-unify .unify .last .1 .1 .1 .1 .0) (at-unify .unify .last .1 .1 .1 .1 .1 .0)
     (at-unify .unify .last .1 .1 .1 .1 .1 .1 .0) (at-unify .unify .result) (at-unify .unify .ensures .1)
     (in-then1 .if1 .taken) in
-    answers-large _ _ _ _ _ _ h (at-unify .unify .result) (at-unify .unify .ensures .0) (in-then1 .if1 .taken) (rw (c .before .wide .ensures .0) at (c .if2 .taken)) _
+    answers-large _ _ _ _ _ _ h (at-unify .unify .result) (at-unify .unify .ensures .0) (in-then1 .if1 .taken)
+    (rw (c .before .wide .ensures .0) at (c .if2 .taken)) _
 
 write-instance-requires : tie.Need-write-instance-requires
 write-instance-requires c κs =
@@ -35,8 +36,13 @@ write-instance-requires c κs =
     let h = outcome-solved (entry .args .nodes .now) (entry .args .table .now) (entry .args .b)
     (at-unify .unify .last .1 .1 .1 .1 .0) (at-unify .unify .last .1 .1 .1 .1 .1 .0)
     (at-unify .unify .last .1 .1 .1 .1 .1 .1 .0) (at-unify .unify .result) (at-unify .unify .ensures .1)
-    (in-then1 .if1 .taken) in
-    (h .sized .ready, (solved-spelt _ _ _ _ _ _ h (rw (at-wide .wide .ensures .0) at (in-else2 .if2 .left)) (unify-asks _ _ _ (entry .pre .0) .1 .1), entry .pre .1))
+    (in-then1 .if1 .taken) in (
+      h .sized .ready,
+      (
+        solved-spelt _ _ _ _ _ _ h (rw (at-wide .wide .ensures .0) at (in-else2 .if2 .left)) (unify-asks _ _ _ (entry .pre .0) .1 .1),
+        entry .pre .1,
+      ),
+    )
 
 returns-2 : tie.Need-returns-2
 returns-2 c =

@@ -22,13 +22,14 @@ rename-front-requires c κs =
 
 returns : tie.Need-returns
 returns c =
+    let at-numbered : tie.After-numbered = search depth 0 in
     let at-put-sides : tie.After-put-sides = search depth 0 in
     let at-rename-front : tie.After-rename-front = search depth 0 in
     let at-paste2 = at-rename-front .before .before .before in
     let at-paste = at-paste2 .before .before .before in
     let entry = entry-of-paste at-paste in
     in-slot (entry .args .left .now) (entry .args .right .now) _ _ _ (at-paste .paste .ensures) (at-paste2 .paste2 .ensures) _
-    (at-rename-front .rename-front .ensures) _ _ _ _ (c .before .before .before .before .numbered .ensures) (at-put-sides .put-sides .ensures)
+    (at-rename-front .rename-front .ensures) _ _ _ _ (at-numbered .numbered .ensures) (at-put-sides .put-sides .ensures)
     (c .before .put-mark .ensures)
 
 pub placed-spec : {M : Type 1} → statement M

@@ -1,11 +1,27 @@
--- `turn`: no unit left, or by what is due. Assumes nothing.
--- Read first: proofs/Whole.
+-- `turn`: no unit left, or by what is due; a lemma for each return. Behind `compose` the state has other bytes in its slots. Assumes nothing.
+-- Read first: proofs/Whole, proofs/Parts.
+use mathlib.Core.Path.{_≡_, refl}
+use mathlib.Core.List.{[], _∷_}
+use native.Mathlib.Omega.{arith}
+use denote.Enum.Declared.{tagOf}
+use types.Run.{OneOf, miss}
 use Rattle.slots.proofs.Layouts.{layout-zeros}
+use Rattle.turn.specs.declared.Due.{Due}
+use Rattle.turn.specs.declared.Due.the-variants.{Stop, Settle, Make}
+use Rattle.turn.proofs.Due.{the-type}
 use Rattle.turn.proofs.Entries.{settle-room, make-room}
+use Rattle.turn.proofs.Parts.{settle-logs, settles, orient-room, collapse-room, compose-room, make-logs}
+use Rattle.turn.proofs.Parts.{makes-unplaced, makes-full, makes-rights-end, makes-goes}
 use Rattle.turn.proofs.Whole.{turn-spent, look-room, began-fine, turn-ends, turn-settled, turn-made}
 use borrow.Author.Needs.{needs}
 use Rattle.turn.proofs.turn.Statement.{statement}
 use Rattle.turn.proofs.turn.Tie as tie
+
+-- what is left is to make a rule
+to-make : (d : Due) → OneOf (1 ∷ 2 ∷ []) (tagOf the-type d) → OneOf (0 ∷ 2 ∷ []) (tagOf the-type d) → d ≡ Make
+to-make (Stop e) h k = absurd (miss (1 ∷ 2 ∷ []) 0 tt h)
+to-make Settle h k = absurd (miss (0 ∷ 2 ∷ []) 1 tt k)
+to-make Make h k = refl
 
 -- Places, found by their types: the only field of a type is the place itself.
 abbrev begin-of-look : tie.After-look → tie.After-begin
@@ -16,6 +32,30 @@ else-of-begin at = search depth 0
 
 abbrev entry-of-begin : tie.After-begin → tie.Start
 entry-of-begin at = search depth 0
+
+abbrev look-of-mark : tie.After-mark → tie.After-look
+look-of-mark at = search depth 0
+
+abbrev due-of-mark : tie.After-mark → tie.After-due-after
+due-of-mark at = search depth 0
+
+abbrev mark-of-take : tie.After-take2 → tie.After-mark
+mark-of-take at = search depth 0
+
+abbrev take-of-orient : tie.After-orient → tie.After-take2
+take-of-orient at = search depth 0
+
+abbrev orient-of-collapse : tie.After-collapse → tie.After-orient
+orient-of-collapse at = search depth 0
+
+abbrev told-of-collapse : tie.After-collapse → tie.After-enum-told2
+told-of-collapse at = search depth 0
+
+abbrev collapse-of-compose : tie.After-compose → tie.After-collapse
+collapse-of-compose at = search depth 0
+
+abbrev else-of-compose : tie.After-compose → tie.Else2
+else-of-compose at = search depth 0
 
 returns : tie.Need-returns
 returns c =
@@ -29,60 +69,157 @@ look-requires c κs =
     let entry = entry-of-begin at-begin in
     (look-room (entry .pre .0) (at-begin .begin .ensures), (entry .pre .1, entry .pre .2))
 
-settle-requires : tie.Need-settle-requires
-settle-requires c κs =
-    let at-due : tie.After-due-after = search depth 0 in
-    let at-look : tie.After-look = search depth 0 in
-    let at-begin = begin-of-look at-look in
-    let entry = entry-of-begin at-begin in (
-      began-fine (entry .pre .0) (at-begin .begin .ensures),
-      settle-room _ _ _ (at-due .due-after .ensures) (c .enum-told .given .1),
-      at-look .look .ensures .layout,
-    )
-
-make-requires : tie.Need-make-requires
-make-requires c κs =
-    let at-due : tie.After-due-after = search depth 0 in
-    let at-look : tie.After-look = search depth 0 in
-    let at-begin = begin-of-look at-look in
-    let entry = entry-of-begin at-begin in (
-      began-fine (entry .pre .0) (at-begin .begin .ensures),
-      make-room _ _ _ (at-due .due-after .ensures) (c .enum-told2 .given .1),
-      at-look .look .ensures .layout,
-    )
-
 returns-2 : tie.Need-returns-2
 returns-2 c =
-    let at-end : tie.After-end = search depth 0 in
     let at-due : tie.After-due-after = search depth 0 in
     let at-look : tie.After-look = search depth 0 in
     let at-begin = begin-of-look at-look in
     let in-else1 = else-of-begin at-begin in
     let entry = entry-of-begin at-begin in
     turn-ends (entry .pre .0) (in-else1 .if1 .left) (at-begin .begin .ensures) (at-look .look .ensures) (at-due .due-after .ensures)
-    (at-end .end .given .1) (c .ended2 .ensures)
+    (c .before .before .due .given .1) (c .ended2 .ensures)
+
+mark-requires : tie.Need-mark-requires
+mark-requires c κs =
+    let at-look : tie.After-look = search depth 0 in
+    at-look .look .ensures .layout .room
+
+take-requires : tie.Need-take-requires
+take-requires c κs =
+    let at-mark : tie.After-mark = search depth 0 in
+    let at-begin = begin-of-look (look-of-mark at-mark) in
+    began-fine (entry-of-begin at-begin .pre .0) (at-begin .begin .ensures)
+
+log-requires : tie.Need-log-requires
+log-requires c κs =
+    let at-told : tie.After-enum-told = search depth 0 in
+    let at-mark : tie.After-mark = search depth 0 in
+    let at-due = due-of-mark at-mark in
+    settle-logs (c .take .ensures) (settle-room _ _ _ (at-due .due-after .ensures) (at-told .enum-told .given .1))
 
 returns-3 : tie.Need-returns-3
 returns-3 c =
+    let at-log : tie.After-log = search depth 0 in
+    let at-take : tie.After-take = search depth 0 in
     let at-told : tie.After-enum-told = search depth 0 in
-    let at-due : tie.After-due-after = search depth 0 in
-    let at-look : tie.After-look = search depth 0 in
+    let at-mark : tie.After-mark = search depth 0 in
+    let at-due = due-of-mark at-mark in
+    let at-look = look-of-mark at-mark in
     let at-begin = begin-of-look at-look in
-    let in-else1 = else-of-begin at-begin in
     let entry = entry-of-begin at-begin in
-    turn-settled (entry .pre .0) (in-else1 .if1 .left) (at-begin .begin .ensures) (at-look .look .ensures) (at-due .due-after .ensures)
-    (at-told .enum-told .given .1) (c .settle .ensures)
+    turn-settled (entry .pre .0) (else-of-begin at-begin .if1 .left) (at-begin .begin .ensures) (at-look .look .ensures) (at-due .due-after .ensures)
+    (at-told .enum-told .given .1)
+    (settles (at-look .look .ensures .layout) (at-take .take .ensures) (at-mark .mark .ensures) (at-log .log .ensures) (c .going .ensures))
+
+take-requires-2 : tie.Need-take-requires-2
+take-requires-2 c κs =
+    let at-mark : tie.After-mark = search depth 0 in
+    let at-begin = begin-of-look (look-of-mark at-mark) in
+    began-fine (entry-of-begin at-begin .pre .0) (at-begin .begin .ensures)
+
+slice-aggregate-orient : tie.Need-slice-aggregate-orient
+slice-aggregate-orient c =
+    let at-look = look-of-mark (search depth 0) in
+    search needs
+
+orient-requires : tie.Need-orient-requires
+orient-requires c κs =
+    let at-take : tie.After-take2 = search depth 0 in
+    let at-look = look-of-mark (mark-of-take at-take) in
+    let at-begin = begin-of-look at-look in
+    let begun = began-fine (entry-of-begin at-begin .pre .0) (at-begin .begin .ensures) in
+    (at-take .take2 .ensures .fine, orient-room begun (at-take .take2 .ensures), at-look .look .ensures .layout)
 
 returns-4 : tie.Need-returns-4
 returns-4 c =
-    let at-told2 : tie.After-enum-told2 = search depth 0 in
-    let at-due : tie.After-due-after = search depth 0 in
-    let at-look : tie.After-look = search depth 0 in
+    let at-orient : tie.After-orient = search depth 0 in
+    let at-take = take-of-orient at-orient in
+    let at-mark = mark-of-take at-take in
+    let at-due = due-of-mark at-mark in
+    let at-look = look-of-mark at-mark in
     let at-begin = begin-of-look at-look in
-    let in-else1 = else-of-begin at-begin in
     let entry = entry-of-begin at-begin in
-    turn-made (entry .pre .0) (in-else1 .if1 .left) (at-begin .begin .ensures) (at-look .look .ensures) (at-due .due-after .ensures)
-    (at-told2 .enum-told2 .given .1) (c .make .ensures)
+    let begun = began-fine (entry .pre .0) (at-begin .begin .ensures) in
+    turn-made (entry .pre .0) (else-of-begin at-begin .if1 .left) (at-begin .begin .ensures) (at-look .look .ensures) (at-due .due-after .ensures)
+    (to-make _ (at-mark .before .before .match .keys2) (at-take .before .match2 .keys2))
+    (makes-unplaced (at-take .take2 .ensures) (at-orient .orient .ensures) begun (at-look .look .ensures .layout) (c .before .before .way .given .1)
+    (c .ended3 .ensures))
+
+collapse-requires : tie.Need-collapse-requires
+collapse-requires c κs =
+    let at-orient : tie.After-orient = search depth 0 in
+    collapse-room (take-of-orient at-orient .take2 .ensures) (at-orient .orient .ensures) (c .enum-told2 .given .1)
+
+returns-5 : tie.Need-returns-5
+returns-5 c =
+    let in-then2 : tie.Then2 = search depth 0 in
+    let at-collapse : tie.After-collapse = search depth 0 in
+    let at-orient = orient-of-collapse at-collapse in
+    let at-take = take-of-orient at-orient in
+    let at-mark = mark-of-take at-take in
+    let at-due = due-of-mark at-mark in
+    let at-look = look-of-mark at-mark in
+    let at-begin = begin-of-look at-look in
+    let entry = entry-of-begin at-begin in
+    let begun = began-fine (entry .pre .0) (at-begin .begin .ensures) in
+    turn-made (entry .pre .0) (else-of-begin at-begin .if1 .left) (at-begin .begin .ensures) (at-look .look .ensures) (at-due .due-after .ensures)
+    (to-make _ (at-mark .before .before .match .keys2) (at-take .before .match2 .keys2))
+    (makes-full (at-take .take2 .ensures) (at-orient .orient .ensures) begun (at-look .look .ensures .layout)
+    (told-of-collapse at-collapse .enum-told2 .given .1) (at-collapse .collapse .ensures) (let full = in-then2 .if2 .taken in omega arith) (c .ended4 .ensures))
+
+compose-requires : tie.Need-compose-requires
+compose-requires c κs =
+    let at-collapse : tie.After-collapse = search depth 0 in
+    compose-room (at-collapse .collapse .ensures)
+
+returns-6 : tie.Need-returns-6
+returns-6 c =
+    let at-compose : tie.After-compose = search depth 0 in
+    let at-collapse = collapse-of-compose at-compose in
+    let at-orient = orient-of-collapse at-collapse in
+    let at-take = take-of-orient at-orient in
+    let at-mark = mark-of-take at-take in
+    let at-due = due-of-mark at-mark in
+    let at-look = look-of-mark at-mark in
+    let at-begin = begin-of-look at-look in
+    let entry = entry-of-begin at-begin in
+    let begun = began-fine (entry .pre .0) (at-begin .begin .ensures) in
+    turn-made (entry .pre .0) (else-of-begin at-begin .if1 .left) (at-begin .begin .ensures) (at-look .look .ensures) (at-due .due-after .ensures)
+    (to-make _ (at-mark .before .before .match .keys2) (at-take .before .match2 .keys2))
+    (makes-rights-end (at-take .take2 .ensures) (at-orient .orient .ensures) begun (at-look .look .ensures .layout)
+    (told-of-collapse at-collapse .enum-told2 .given .1) (at-collapse .collapse .ensures) (else-of-compose at-compose .if2 .left)
+    (at-compose .compose .ensures) (c .before .before .composed .given .1) (c .ended5 .ensures))
+
+log-requires-2 : tie.Need-log-requires-2
+log-requires-2 c κs =
+    let at-compose : tie.After-compose = search depth 0 in
+    let at-collapse = collapse-of-compose at-compose in
+    let at-orient = orient-of-collapse at-collapse in
+    let at-take = take-of-orient at-orient in
+    let at-mark = mark-of-take at-take in
+    let made = to-make _ (at-mark .before .before .match .keys2) (at-take .before .match2 .keys2) in
+    make-logs (at-take .take2 .ensures) (at-orient .orient .ensures) (at-collapse .collapse .ensures) (at-compose .compose .ensures)
+    (else-of-compose at-compose .if2 .left) (make-room _ _ _ (due-of-mark at-mark .due-after .ensures) made)
+
+returns-7 : tie.Need-returns-7
+returns-7 c =
+    let at-log : tie.After-log2 = search depth 0 in
+    let at-told : tie.After-enum-told3 = search depth 0 in
+    let at-compose : tie.After-compose = search depth 0 in
+    let at-collapse = collapse-of-compose at-compose in
+    let at-orient = orient-of-collapse at-collapse in
+    let at-take = take-of-orient at-orient in
+    let at-mark = mark-of-take at-take in
+    let at-due = due-of-mark at-mark in
+    let at-look = look-of-mark at-mark in
+    let at-begin = begin-of-look at-look in
+    let entry = entry-of-begin at-begin in
+    let begun = began-fine (entry .pre .0) (at-begin .begin .ensures) in
+    turn-made (entry .pre .0) (else-of-begin at-begin .if1 .left) (at-begin .begin .ensures) (at-look .look .ensures) (at-due .due-after .ensures)
+    (to-make _ (at-mark .before .before .match .keys2) (at-take .before .match2 .keys2))
+    (makes-goes (at-take .take2 .ensures) (at-orient .orient .ensures) begun (at-look .look .ensures .layout)
+    (told-of-collapse at-collapse .enum-told2 .given .1) (at-collapse .collapse .ensures) (else-of-compose at-compose .if2 .left)
+    (at-compose .compose .ensures) (at-told .enum-told3 .given .1) (at-mark .mark .ensures) refl (at-log .log2 .ensures) (c .going2 .ensures))
 
 pub turn-spec : {M : Type 1} → statement M
 turn-spec =
@@ -95,10 +232,30 @@ turn-spec =
     (λ c κs. search needs)
     (λ c. search needs)
     (λ c κs. search needs)
-    (λ c. search needs)
-    settle-requires
-    (λ c. search needs)
-    make-requires
     returns-2
+    (λ c. search needs)
+    mark-requires
+    (λ c. search needs)
+    take-requires
+    log-requires
+    (λ c κs. search needs)
     returns-3
-    returns-4)
+    take-requires-2
+    slice-aggregate-orient
+    orient-requires
+    (λ c. search needs)
+    (λ c κs. search needs)
+    returns-4
+    (λ c. search needs)
+    collapse-requires
+    (λ c κs. search needs)
+    returns-5
+    compose-requires
+    (λ c. search needs)
+    (λ c κs. search needs)
+    returns-6
+    (λ c. search needs)
+    (λ c. search needs)
+    log-requires-2
+    (λ c κs. search needs)
+    returns-7)
