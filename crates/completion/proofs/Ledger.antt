@@ -14,12 +14,9 @@ use Rattle.terms.specs.Term.{Term, Pair, same, size, pair-variables, renamed}
 use Rattle.terms.proofs.Every.{every-append}
 use Rattle.order.specs.Order.{above}
 use Rattle.rewriting.specs.Overlap.{Rule, Overlap, overlap, Place, all-places}
-use Rattle.rewriting.specs.Rewrite.{step, End, complete, neither-above, too-large, rules-full, log-full, Paid, done, stop, Paying, return, end-with}
-use Rattle.rewriting.specs.Rewrite.{and-then, _>>=_, end-if, pay, hold, normalise, normalise-pair}
+use Rattle.rewriting.specs.Rewrite.{step, End, complete, neither-above, too-large, rules-full, log-full, Paid, done, stop, Paying, return, end-with, and-then, _>>=_, end-if, pay, hold, normalise, normalise-pair}
 use Rattle.problem.specs.Problem.{Problem, rank-of}
-use Rattle.completion.specs.Turn.{Origin, scanned-input, Candidate, candidates, kept, State, Taken, Finished, initial, scan-overlap}
-use Rattle.completion.specs.Turn.{if-different, if-different-overlap, scan-inputs, scan, take-pair, orient, normalise-rights, make-rule}
-use Rattle.completion.specs.Turn.{settled, turn, turns, run}
+use Rattle.completion.specs.Turn.{Origin, scanned-input, Candidate, candidates, kept, State, Taken, Finished, initial, scan-overlap, if-different, if-different-overlap, scan-inputs, scan, take-pair, orient, normalise-rights, make-rule, settled, turn, turns, run}
 use Rattle.completion.proofs.Units.{left-of}
 use Rattle.completion.proofs.Reachable.{Reachable, from-start, by-turn, next-entry, turn-next, turn-less}
 
@@ -62,8 +59,7 @@ pair-events rules e = also (normalise-events rules (e .left)) (normalise rules (
 
 unfoldable pub overlap-events : List Rule → Option Overlap → Ledger
 overlap-events rules none = nothing
-overlap-events rules (some o) =
-    also nothing (hold (o .peak)) λ _.
+overlap-events rules (some o) = also nothing (hold (o .peak)) λ _.
     also nothing (hold (o .sides .left)) λ _.
     also nothing (hold (o .sides .right)) λ _.
     pair-events rules (renamed (o .sides))
@@ -105,8 +101,7 @@ make-events P s t =
     rights-events [] (kept new (s .rules)) new
 
 unfoldable pub rest-events : Problem → State → Ledger
-rest-events P s =
-    also (take-events P (s .rules) (s .waiting)) (take-pair P (s .rules) (s .waiting)) λ t.
+rest-events P s = also (take-events P (s .rules) (s .waiting)) (take-pair P (s .rules) (s .waiting)) λ t.
     also nothing (end-if (leb 512 (length (s .log))) log-full) λ _.
     if same (t .pair .sides .left) (t .pair .sides .right) then nothing else make-events P s t
 

@@ -1,7 +1,7 @@
 -- Document 01's limits, each once, and the sizes that follow from them. Assumes nothing.
 use Prim.Native.Nat.{ℕ, _+_, _*_, _-_}
 
--- "Symbol n (0 to 15) is byte n."
+-- "Symbol n (0 to 15) is byte n." [16.1]
 abbrev pub most-symbols : ℕ
 most-symbols = 16
 
@@ -9,11 +9,11 @@ most-symbols = 16
 abbrev pub most-arity : ℕ
 most-arity = 4
 
--- "Variable n (0 to 15) is byte 80 + n." "The taken pair has at most 16 different variables."
+-- "Variable n (0 to 15) is byte 80 + n." "The taken pair has at most 16 different variables." [16.2]
 abbrev pub most-variables : ℕ
 most-variables = 16
 
--- the variables of two rules that are set apart: 32
+-- the variables of two rules that are set apart: 32 [16.2]
 abbrev pub most-apart : ℕ
 most-apart = 2 * most-variables
 
@@ -43,7 +43,7 @@ variable-bytes = byte-values - first-variable
 abbrev pub cell-base : ℕ
 cell-base = byte-values
 
--- "side over 120 nodes", "Every term on the way is held to 120 nodes."
+-- "side over 120 nodes", "Every term on the way is held to 120 nodes." [16.3]
 abbrev pub most-nodes : ℕ
 most-nodes = 120
 
@@ -55,31 +55,31 @@ most-pair = 2 * most-nodes
 abbrev pub arena-width : ℕ
 arena-width = 5 * most-nodes
 
--- "tag 03, 0 to 16 times"
+-- "tag 03, 0 to 16 times" [16.4]
 abbrev pub most-equations : ℕ
 most-equations = 16
 
--- "Over 32 live: 23."
+-- "Over 32 live: 23." [16.8]
 abbrev pub most-rules : ℕ
 most-rules = 32
 
--- Live rules and waiting equations together: the newest rule joins before the older ones are counted. 33
+-- Live rules and waiting equations together: the newest rule joins before the older ones are counted. 33 [16.8]
 abbrev pub most-pairs : ℕ
 most-pairs = most-rules + 1
 
--- "With 512 entries in the log, end 23."
+-- "With 512 entries in the log, end 23." [16.9]
 abbrev pub most-entries : ℕ
 most-entries = 512
 
--- "the budget, four bytes, high byte first, 0 to 1,000,000"
+-- "the budget, four bytes, high byte first, 0 to 1,000,000" [16.5]
 abbrev pub most-budget : ℕ
 most-budget = 1_000_000
 
--- "problem over 8,192 bytes"
+-- "problem over 8,192 bytes" [16.6]
 abbrev pub most-problem : ℕ
 most-problem = 8192
 
--- "result buffer under 16,384 bytes"
+-- "result buffer under 16,384 bytes" [16.7]
 abbrev pub least-buffer : ℕ
 least-buffer = 16_384
 

@@ -1,7 +1,6 @@
 -- Verdicts of the code: going on is no end, and ends are told apart by what they are. Assumes nothing.
 -- Read first: specs/Ends.
-use mathlib.Core.Path.{_≡_, sym, _∙_}
-use Prim.Native.Nat.{ℕ}
+use mathlib.Core.Path.{_≡_}
 use Rattle.terms.proofs.Shape.{zero≢one}
 use Rattle.rewriting.specs.declared.End.{End as Ending}
 use Rattle.rewriting.specs.declared.Verdict.{Verdict}

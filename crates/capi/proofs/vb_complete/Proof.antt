@@ -8,10 +8,6 @@ use Rattle.capi.proofs.Delivering.{code-delivers}
 use borrow.Author.Needs.{needs}
 use Rattle.capi.proofs.vb_complete.Statement.{statement}
 use Rattle.capi.proofs.vb_complete.Tie as tie
-use Rattle.capi.proofs.vb_complete.Reads as reads
-use Rattle.capi.proofs.vb_complete.Lts as lts
-use Rattle.capi.proofs.code.Reads as code-reads
-use Rattle.complete.proofs.complete.Reads as complete-reads
 
 complete-requires : tie.Need-complete-requires
 complete-requires c κs = search needs

@@ -7,10 +7,6 @@ use lib.ListN.{length}
 use borrow.Author.Needs.{needs}
 use Rattle.clash.proofs.clash.Statement.{statement}
 use Rattle.clash.proofs.clash.Tie as tie
-use Rattle.clash.proofs.clash.Reads as reads
-use Rattle.clash.proofs.clash.Lts as lts
-use Rattle.clash.proofs.differ.Reads as differ-reads
-use Rattle.clash.proofs.past.Reads as past-reads
 
 abbrev Inv-loop : tie.InvT-loop
 Inv-loop s t table position i₀ j₀ i j = Going table s t position i j

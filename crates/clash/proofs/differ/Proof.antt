@@ -4,8 +4,6 @@ use native.Mathlib.Omega.{arith}
 use borrow.Author.Needs.{needs}
 use Rattle.clash.proofs.differ.Statement.{statement}
 use Rattle.clash.proofs.differ.Tie as tie
-use Rattle.clash.proofs.differ.Reads as reads
-use Rattle.clash.proofs.differ.Lts as lts
 
 returns-4 : tie.Need-returns-4
 returns-4 c = (omega (arith, c .before .before .if1 .left), omega (arith, c .before .if2 .left), c .if3 .left)

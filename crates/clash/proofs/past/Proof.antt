@@ -4,9 +4,6 @@ use Rattle.clash.proofs.Facing.{past-same, past-other}
 use borrow.Author.Needs.{needs}
 use Rattle.clash.proofs.past.Statement.{statement}
 use Rattle.clash.proofs.past.Tie as tie
-use Rattle.clash.proofs.past.Reads as reads
-use Rattle.clash.proofs.past.Lts as lts
-use Rattle.terms.proofs.term_end.Reads as term-end-reads
 
 returns : tie.Need-returns
 returns c = past-same _ _ _ _ (c .if1 .taken)

@@ -6,9 +6,6 @@ use Rattle.classes.specs.Steps.{at, arena}
 use Rattle.classes.proofs.Walks.{Walk, walk-start, walk-turn, walk-end, walk-join, some-within}
 use Rattle.classes.proofs.apart.Statement.{statement}
 use Rattle.classes.proofs.apart.Tie as tie
-use Rattle.classes.proofs.apart.Reads as reads
-use Rattle.classes.proofs.apart.Lts as lts
-use Rattle.classes.proofs.wide.Reads as wide-reads
 
 abbrev Inv-loop : tie.InvT-loop
 Inv-loop nodes table ends class a b k p₀ q₀ left₀ p q left = Walk (arena nodes table ends) (at class) a b k p q left

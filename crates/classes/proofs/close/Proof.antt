@@ -6,10 +6,6 @@ use Rattle.classes.proofs.Closing.{closing-clash, closing-requires, clo
 use borrow.Author.Needs.{needs}
 use Rattle.classes.proofs.close.Statement.{statement}
 use Rattle.classes.proofs.close.Tie as tie
-use Rattle.classes.proofs.close.Reads as reads
-use Rattle.classes.proofs.close.Lts as lts
-use Rattle.classes.proofs.join.Reads as join-reads
-use Rattle.classes.proofs.step_at.Reads as step-at-reads
 
 abbrev Inv-loop : tie.InvT-loop
 Inv-loop nodes table ends class₀ i₀ again₀ class i again = Closing nodes table ends class₀ class i again

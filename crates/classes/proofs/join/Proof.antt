@@ -4,10 +4,6 @@ use borrow.Author.Needs.{needs}
 use Rattle.classes.proofs.Joining.{joined-first, joined-second}
 use Rattle.classes.proofs.join.Statement.{statement}
 use Rattle.classes.proofs.join.Tie as tie
-use Rattle.classes.proofs.join.Reads as reads
-use Rattle.classes.proofs.join.Lts as lts
-use Rattle.classes.proofs.key.Reads as key-reads
-use Rattle.classes.proofs.relabel.Reads as relabel-reads
 
 returns : tie.Need-returns
 returns c =

@@ -4,9 +4,6 @@ use borrow.Author.Needs.{needs}
 use Rattle.classes.proofs.Joining.{key-first, key-second}
 use Rattle.classes.proofs.key.Statement.{statement}
 use Rattle.classes.proofs.key.Tie as tie
-use Rattle.classes.proofs.key.Reads as reads
-use Rattle.classes.proofs.key.Lts as lts
-use Rattle.classes.proofs.wide.Reads as wide-reads
 
 returns : tie.Need-returns
 returns c = key-first _ _ _ (c .before .before .wide .ensures .0) (c .if1 .taken)

@@ -6,9 +6,6 @@ use Rattle.classes.specs.Steps.{relabelled}
 use Rattle.naming.proofs.Filling.{Mapped, mapped-start, mapped-more, mapped-end}
 use Rattle.classes.proofs.relabel.Statement.{statement}
 use Rattle.classes.proofs.relabel.Tie as tie
-use Rattle.classes.proofs.relabel.Reads as reads
-use Rattle.classes.proofs.relabel.Lts as lts
-use Rattle.classes.proofs.relabel_node.Reads as relabel-node-reads
 
 abbrev Inv-loop : tie.InvT-loop
 Inv-loop class₀ from to n i₀ class i = Mapped (relabelled from to) class₀ class i

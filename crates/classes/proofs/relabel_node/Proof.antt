@@ -3,8 +3,6 @@
 use Rattle.classes.proofs.Joining.{relabelled-yes, relabelled-no}
 use Rattle.classes.proofs.relabel_node.Statement.{statement}
 use Rattle.classes.proofs.relabel_node.Tie as tie
-use Rattle.classes.proofs.relabel_node.Reads as reads
-use Rattle.classes.proofs.relabel_node.Lts as lts
 
 returns : tie.Need-returns
 returns c = relabelled-yes _ _ _ (c .if1 .taken)

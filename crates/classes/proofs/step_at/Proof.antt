@@ -6,11 +6,6 @@ use native.Mathlib.Omega.{arith}
 use borrow.Author.Needs.{needs}
 use Rattle.classes.proofs.step_at.Statement.{statement}
 use Rattle.classes.proofs.step_at.Tie as tie
-use Rattle.classes.proofs.step_at.Reads as reads
-use Rattle.classes.proofs.step_at.Lts as lts
-use Rattle.classes.proofs.apart.Reads as apart-reads
-use Rattle.classes.proofs.wide.Reads as wide-reads
-use Rattle.terms.proofs.owed_by.Reads as owed-by-reads
 
 returns : tie.Need-returns
 returns c = root-closed _ _ _ _ (c .before .wide .ensures .0) (c .if1 .taken)

@@ -5,11 +5,6 @@ use Rattle.complete.proofs.Completing.{accepted-run}
 use borrow.Author.Needs.{needs}
 use Rattle.complete.proofs.accepted.Statement.{statement}
 use Rattle.complete.proofs.accepted.Tie as tie
-use Rattle.complete.proofs.accepted.Reads as reads
-use Rattle.complete.proofs.accepted.Lts as lts
-use Rattle.inputs.proofs.read.Reads as read-reads
-use Rattle.report.proofs.report.Reads as report-reads
-use Rattle.run.proofs.run.Reads as run-reads
 
 -- Places, found by their types: the only field of a type is the place itself.
 abbrev read-of-run : tie.After-run → tie.After-read

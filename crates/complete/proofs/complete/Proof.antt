@@ -5,10 +5,6 @@ use native.Mathlib.Omega.{arith}
 use borrow.Author.Needs.{needs}
 use Rattle.complete.proofs.complete.Statement.{statement}
 use Rattle.complete.proofs.complete.Tie as tie
-use Rattle.complete.proofs.complete.Reads as reads
-use Rattle.complete.proofs.complete.Lts as lts
-use Rattle.complete.proofs.accepted.Reads as accepted-reads
-use Rattle.problem.proofs.parse.Reads as parse-reads
 
 returns : tie.Need-returns
 returns c =

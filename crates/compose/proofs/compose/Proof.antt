@@ -7,9 +7,6 @@ use Rattle.compose.proofs.Sweep.{SweptTo, sweep-start, sweep-on, sweep-
 use borrow.Author.Needs.{needs}
 use Rattle.compose.proofs.compose.Statement.{statement}
 use Rattle.compose.proofs.compose.Tie as tie
-use Rattle.compose.proofs.compose.Reads as reads
-use Rattle.compose.proofs.compose.Lts as lts
-use Rattle.compose.proofs.compose_one.Reads as compose-one-reads
 
 abbrev Inv-loop : tie.InvT-loop
 Inv-loop rules₀ count table units left₀ k₀ rules left k = SweptTo table rules₀ rules count units k left × (k ≤ count - 1)

@@ -7,11 +7,6 @@ use Rattle.compose.proofs.Single.{for-spent, for-large, stopped, compos
 use borrow.Author.Needs.{needs}
 use Rattle.compose.proofs.compose_one.Statement.{statement}
 use Rattle.compose.proofs.compose_one.Tie as tie
-use Rattle.compose.proofs.compose_one.Reads as reads
-use Rattle.compose.proofs.compose_one.Lts as lts
-use Rattle.normaliser.proofs.normalise.Reads as normalise-reads
-use Rattle.slots.proofs.put_right.Reads as put-right-reads
-use Rattle.slots.proofs.right.Reads as right-reads
 
 -- Places, found by their types: the only field of a type is the place itself.
 abbrev normalise-of-slice-known2 : tie.After-slice-known2 → tie.After-normalise

@@ -5,10 +5,6 @@ use native.Mathlib.Omega.{arith}
 use borrow.Author.Needs.{needs}
 use Rattle.critical_pairs.proofs.place.Statement.{statement}
 use Rattle.critical_pairs.proofs.place.Tie as tie
-use Rattle.critical_pairs.proofs.place.Reads as reads
-use Rattle.critical_pairs.proofs.place.Lts as lts
-use Rattle.critical_pairs.proofs.put_pair.Reads as put-pair-reads
-use Rattle.terms.proofs.wide.Reads as wide-reads
 
 -- Places, found by their types: the only field of a type is the place itself.
 abbrev entry-of-else1 : tie.Else1 → tie.Start

@@ -7,11 +7,6 @@ use native.Mathlib.Omega.{arith}
 use borrow.Author.Needs.{needs}
 use Rattle.critical_pairs.proofs.put_pair.Statement.{statement}
 use Rattle.critical_pairs.proofs.put_pair.Tie as tie
-use Rattle.critical_pairs.proofs.put_pair.Reads as reads
-use Rattle.critical_pairs.proofs.put_pair.Lts as lts
-use Rattle.naming.proofs.rename_front.Reads as rename-front-reads
-use Rattle.slots.proofs.put_sides.Reads as put-sides-reads
-use Rattle.mgu.proofs.write.Reads as write-reads
 
 -- Places, found by their types: the only field of a type is the place itself.
 abbrev entry-of-write : tie.After-write → tie.Start

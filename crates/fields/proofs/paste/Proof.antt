@@ -4,9 +4,6 @@ use Rattle.fields.proofs.Patching.{patched-back}
 use borrow.Author.Needs.{needs}
 use Rattle.fields.proofs.paste.Statement.{statement}
 use Rattle.fields.proofs.paste.Tie as tie
-use Rattle.fields.proofs.paste.Reads as reads
-use Rattle.fields.proofs.paste.Lts as lts
-use Rattle.bytes.proofs.copy.Reads as copy-reads
 
 returns : tie.Need-returns
 returns c = patched-back _ _ _ _ (search needs) (c .before .before .copy .ensures .1)

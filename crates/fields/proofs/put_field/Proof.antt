@@ -6,10 +6,6 @@ use Rattle.fields.proofs.Putting.{puts-field}
 use borrow.Author.Needs.{needs}
 use Rattle.fields.proofs.put_field.Statement.{statement}
 use Rattle.fields.proofs.put_field.Tie as tie
-use Rattle.fields.proofs.put_field.Reads as reads
-use Rattle.fields.proofs.put_field.Lts as lts
-use Rattle.fields.proofs.put_head.Reads as put-head-reads
-use Rattle.fields.proofs.paste.Reads as paste-reads
 
 returns : tie.Need-returns
 returns c =

@@ -6,9 +6,6 @@ use lib.ListN.{length-set}
 use borrow.Author.Needs.{needs}
 use Rattle.fields.proofs.put_head.Statement.{statement}
 use Rattle.fields.proofs.put_head.Tie as tie
-use Rattle.fields.proofs.put_head.Reads as reads
-use Rattle.fields.proofs.put_head.Lts as lts
-use Rattle.fields.proofs.put_number.Reads as put-number-reads
 
 put-number-requires : tie.Need-put-number-requires
 put-number-requires c κs = simp length-set (search needs)

@@ -4,8 +4,6 @@ use Rattle.fields.proofs.Numbering.{Numbering, numbering-start, numberi
 use borrow.Author.Needs.{needs}
 use Rattle.fields.proofs.put_number.Statement.{statement}
 use Rattle.fields.proofs.put_number.Tie as tie
-use Rattle.fields.proofs.put_number.Reads as reads
-use Rattle.fields.proofs.put_number.Lts as lts
 
 abbrev Inv-loop : tie.InvT-loop
 Inv-loop out₀ at width n left₀ m₀ out left m = Numbering out₀ at width n out left m

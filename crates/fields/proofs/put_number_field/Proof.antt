@@ -4,10 +4,6 @@ use Rattle.fields.proofs.Putting.{puts-field}
 use borrow.Author.Needs.{needs}
 use Rattle.fields.proofs.put_number_field.Statement.{statement}
 use Rattle.fields.proofs.put_number_field.Tie as tie
-use Rattle.fields.proofs.put_number_field.Reads as reads
-use Rattle.fields.proofs.put_number_field.Lts as lts
-use Rattle.fields.proofs.put_head.Reads as put-head-reads
-use Rattle.fields.proofs.put_number.Reads as put-number-reads
 
 returns : tie.Need-returns
 returns c =

@@ -4,9 +4,6 @@ use Rattle.fields.proofs.Putting.{puts-part}
 use borrow.Author.Needs.{needs}
 use Rattle.fields.proofs.put_part.Statement.{statement}
 use Rattle.fields.proofs.put_part.Tie as tie
-use Rattle.fields.proofs.put_part.Reads as reads
-use Rattle.fields.proofs.put_part.Lts as lts
-use Rattle.fields.proofs.paste.Reads as paste-reads
 
 returns : tie.Need-returns
 returns c =

@@ -6,12 +6,6 @@ use mathlib.Core.Path.{refl, sym, _∙_}
 use borrow.Author.Needs.{needs}
 use Rattle.matching.proofs.advance.Statement.{statement}
 use Rattle.matching.proofs.advance.Tie as tie
-use Rattle.matching.proofs.advance.Reads as reads
-use Rattle.matching.proofs.advance.Lts as lts
-use Rattle.matching.proofs.again.Reads as again-reads
-use Rattle.matching.proofs.byte_of.Reads as byte-of-reads
-use Rattle.matching.proofs.size_of.Reads as size-of-reads
-use Rattle.terms.proofs.wide.Reads as wide-reads
 
 returns : tie.Need-returns
 returns c =

@@ -5,10 +5,6 @@ use mathlib.Core.Path.{refl}
 use borrow.Author.Needs.{needs}
 use Rattle.matching.proofs.again.Statement.{statement}
 use Rattle.matching.proofs.again.Tie as tie
-use Rattle.matching.proofs.again.Reads as reads
-use Rattle.matching.proofs.again.Lts as lts
-use Rattle.matching.proofs.same_cells.Reads as same-cells-reads
-use Rattle.matching.proofs.size_of.Reads as size-of-reads
 
 returns : tie.Need-returns
 returns c = again-long _ _ _ _ _ (search needs) (c .before .size-of .ensures .0) refl (c .if1 .taken)

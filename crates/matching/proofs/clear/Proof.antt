@@ -3,8 +3,6 @@
 use borrow.Author.Needs.{needs}
 use Rattle.matching.proofs.clear.Statement.{statement}
 use Rattle.matching.proofs.clear.Tie as tie
-use Rattle.matching.proofs.clear.Reads as reads
-use Rattle.matching.proofs.clear.Lts as lts
 use Prim.Native.Nat.{ℕ, _≤_, _-_, _<_}
 use mathlib.Core.Path.{_≡_}
 use lib.ListN.{length, getD, length-set}

@@ -6,10 +6,6 @@ use Prim.Native.Nat.{_-_}
 use borrow.Author.Needs.{needs}
 use Rattle.matching.proofs.contract.Statement.{statement}
 use Rattle.matching.proofs.contract.Tie as tie
-use Rattle.matching.proofs.contract.Reads as reads
-use Rattle.matching.proofs.contract.Lts as lts
-use Rattle.matching.proofs.put_piece.Reads as put-piece-reads
-use Rattle.matching.proofs.put_run.Reads as put-run-reads
 
 abbrev Inv-loop : tie.InvT-loop
 Inv-loop out₀ most right t end binds i₀ w₀ out i w = PutSoFar t binds right out₀ out most i w

@@ -2,8 +2,6 @@
 -- Read first: specs/Pieces (first-cell), proofs/Filling.
 use Rattle.matching.proofs.first.Statement.{statement}
 use Rattle.matching.proofs.first.Tie as tie
-use Rattle.matching.proofs.first.Reads as reads
-use Rattle.matching.proofs.first.Lts as lts
 use mathlib.Core.Path.{sym}
 use Rattle.matching.proofs.Filling.{first-zero, first-later}
 

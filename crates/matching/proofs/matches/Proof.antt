@@ -8,10 +8,6 @@ use Prim.Native.Nat.{_-_}
 use borrow.Author.Needs.{needs}
 use Rattle.matching.proofs.matches.Statement.{statement}
 use Rattle.matching.proofs.matches.Tie as tie
-use Rattle.matching.proofs.matches.Reads as reads
-use Rattle.matching.proofs.matches.Lts as lts
-use Rattle.matching.proofs.advance.Reads as advance-reads
-use Rattle.matching.proofs.clear.Reads as clear-reads
 
 abbrev Inv-loop : tie.InvT-loop
 Inv-loop left t binds₀ i₀ j₀ binds i j = Here left t binds₀ binds i j

@@ -3,8 +3,6 @@
 use borrow.Author.Needs.{needs}
 use Rattle.matching.proofs.put_cell.Statement.{statement}
 use Rattle.matching.proofs.put_cell.Tie as tie
-use Rattle.matching.proofs.put_cell.Reads as reads
-use Rattle.matching.proofs.put_cell.Lts as lts
 use Rattle.matching.proofs.Filling.{put-over, put-cell}
 
 returns : tie.Need-returns

@@ -5,13 +5,6 @@ use mathlib.Core.Path.{refl}
 use borrow.Author.Needs.{needs}
 use Rattle.matching.proofs.put_piece.Statement.{statement}
 use Rattle.matching.proofs.put_piece.Tie as tie
-use Rattle.matching.proofs.put_piece.Reads as reads
-use Rattle.matching.proofs.put_piece.Lts as lts
-use Rattle.matching.proofs.first.Reads as first-reads
-use Rattle.matching.proofs.put_cell.Reads as put-cell-reads
-use Rattle.matching.proofs.put_run.Reads as put-run-reads
-use Rattle.matching.proofs.size_of.Reads as size-of-reads
-use Rattle.matching.proofs.slot.Reads as slot-reads
 
 returns : tie.Need-returns
 returns c =

@@ -3,8 +3,6 @@
 use borrow.Author.Needs.{needs}
 use Rattle.matching.proofs.put_run.Statement.{statement}
 use Rattle.matching.proofs.put_run.Tie as tie
-use Rattle.matching.proofs.put_run.Reads as reads
-use Rattle.matching.proofs.put_run.Lts as lts
 use Prim.Native.Nat.{_-_}
 use lib.ListN.{length}
 use mathlib.Core.Path.{refl}

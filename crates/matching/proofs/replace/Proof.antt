@@ -4,10 +4,6 @@ use Rattle.matching.proofs.Replacing.{take-less-zero, part-within, cont
 use borrow.Author.Needs.{needs}
 use Rattle.matching.proofs.replace.Statement.{statement}
 use Rattle.matching.proofs.replace.Tie as tie
-use Rattle.matching.proofs.replace.Reads as reads
-use Rattle.matching.proofs.replace.Lts as lts
-use Rattle.matching.proofs.contract.Reads as contract-reads
-use Rattle.matching.proofs.put_run.Reads as put-run-reads
 
 -- Places, found by their types: the only field of a type is the place itself.
 abbrev entry-of-contract : tie.After-contract → tie.Start

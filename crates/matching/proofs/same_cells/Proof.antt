@@ -3,8 +3,6 @@
 use borrow.Author.Needs.{needs}
 use Rattle.matching.proofs.same_cells.Statement.{statement}
 use Rattle.matching.proofs.same_cells.Tie as tie
-use Rattle.matching.proofs.same_cells.Reads as reads
-use Rattle.matching.proofs.same_cells.Lts as lts
 use Prim.Native.Nat.{_-_, _≤_}
 use mathlib.Core.Path.{_≡_, refl, ap}
 use mathlib.Core.Bool.{false≢true}

@@ -3,9 +3,6 @@
 use borrow.Author.Needs.{needs}
 use Rattle.matching.proofs.slot.Statement.{statement}
 use Rattle.matching.proofs.slot.Tie as tie
-use Rattle.matching.proofs.slot.Reads as reads
-use Rattle.matching.proofs.slot.Lts as lts
-use Rattle.terms.proofs.wide.Reads as wide-reads
 use mathlib.Core.Path.{sym, _∙_}
 use Rattle.matching.proofs.Filling.{slot-symbol, slot-high, slot-variable}
 

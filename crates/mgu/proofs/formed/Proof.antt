@@ -6,9 +6,6 @@ use Rattle.mgu.proofs.Laying.{formed-high, formed-gap, formed-few, form
 use borrow.Author.Needs.{needs}
 use Rattle.mgu.proofs.formed.Statement.{statement}
 use Rattle.mgu.proofs.formed.Tie as tie
-use Rattle.mgu.proofs.formed.Reads as reads
-use Rattle.mgu.proofs.formed.Lts as lts
-use Rattle.terms.proofs.owed_by.Reads as owed-by-reads
 
 returns : tie.Need-returns
 returns c = formed-high _ _ _ (c .if1 .taken)

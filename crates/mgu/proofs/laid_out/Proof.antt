@@ -5,9 +5,6 @@ use Rattle.mgu.proofs.Laying.{Forest, forest-start, forest-more, forest
 use borrow.Author.Needs.{needs}
 use Rattle.mgu.proofs.laid_out.Statement.{statement}
 use Rattle.mgu.proofs.laid_out.Tie as tie
-use Rattle.mgu.proofs.laid_out.Reads as reads
-use Rattle.mgu.proofs.laid_out.Lts as lts
-use Rattle.mgu.proofs.formed.Reads as formed-reads
 
 abbrev Inv-loop : tie.InvT-loop
 Inv-loop nodes table have₀ i₀ have i = Forest nodes table i have

@@ -5,11 +5,6 @@ use Rattle.mgu.proofs.Verdict.{begun-never, begun-answer}
 use borrow.Author.Needs.{needs}
 use Rattle.mgu.proofs.unify.Statement.{statement}
 use Rattle.mgu.proofs.unify.Tie as tie
-use Rattle.mgu.proofs.unify.Reads as reads
-use Rattle.mgu.proofs.unify.Lts as lts
-use Rattle.classes.proofs.close.Reads as close-reads
-use Rattle.sizing.proofs.measure.Reads as measure-reads
-use Rattle.mgu.proofs.start.begin.Reads as begin-reads
 
 -- Places, found by their types: the only field of a type is the place itself.
 abbrev entry-of-begin : tie.After-begin → tie.Start

@@ -1,16 +1,9 @@
 -- `add_name`: a symbol, a name that is there, a new name: a lemma for each return. Assumes nothing.
 -- Read first: specs/Names (added), proofs/Finding (Added).
 use borrow.Author.Needs.{needs}
-use Prim.Native.Nat.{ℕ, _<_, _≤_, _-_}
-use mathlib.Core.Path.{_≡_, refl}
-use native.Mathlib.Omega.{arith}
-use lib.ListN.{length, getD, take}
 use Rattle.naming.proofs.Finding.{add-symbol, add-old, add-new}
 use Rattle.naming.proofs.add_name.Statement.{statement}
 use Rattle.naming.proofs.add_name.Tie as tie
-use Rattle.naming.proofs.add_name.Reads as reads
-use Rattle.naming.proofs.add_name.Lts as lts
-use Rattle.naming.proofs.place_of.Reads as place-of-reads
 
 returns : tie.Need-returns
 returns c = let a = add-symbol (c .before .before .args .names .now) _ _ (c .if1 .taken) in (a .long, a .names, a .few)

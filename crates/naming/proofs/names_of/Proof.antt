@@ -1,16 +1,12 @@
 -- `names_of`: the invariant is that the names so far, with those of the bytes from i on, are all of them; the bytes to come fall. Assumes nothing.
 -- Read first: specs/Names (collect), proofs/Finding (Collected).
 use borrow.Author.Needs.{needs}
-use Prim.Native.Nat.{ℕ, _<_, _≤_, _-_}
-use mathlib.Core.Path.{_≡_, refl}
+use Prim.Native.Nat.{_-_}
 use native.Mathlib.Omega.{arith}
-use lib.ListN.{length, getD, take}
+use lib.ListN.{length}
 use Rattle.naming.proofs.Finding.{Collected, collected-start, collected-more, collected-end}
 use Rattle.naming.proofs.names_of.Statement.{statement}
 use Rattle.naming.proofs.names_of.Tie as tie
-use Rattle.naming.proofs.names_of.Reads as reads
-use Rattle.naming.proofs.names_of.Lts as lts
-use Rattle.naming.proofs.add_name.Reads as add-name-reads
 
 abbrev Inv-loop : tie.InvT-loop
 Inv-loop bytes names₀ n₀ i₀ names n i = Collected bytes names₀ names i n

@@ -1,16 +1,9 @@
 -- `number_byte`: a symbol stays, a variable becomes its place among the names: `number-symbol`, `number-variable`. Assumes nothing.
 -- Read first: specs/Names (named), proofs/Finding.
 use borrow.Author.Needs.{needs}
-use Prim.Native.Nat.{ℕ, _<_, _≤_, _-_}
-use mathlib.Core.Path.{_≡_, refl}
-use native.Mathlib.Omega.{arith}
-use lib.ListN.{length, getD, take}
 use Rattle.naming.proofs.Finding.{number-symbol, number-variable}
 use Rattle.naming.proofs.number_byte.Statement.{statement}
 use Rattle.naming.proofs.number_byte.Tie as tie
-use Rattle.naming.proofs.number_byte.Reads as reads
-use Rattle.naming.proofs.number_byte.Lts as lts
-use Rattle.naming.proofs.place_of.Reads as place-of-reads
 
 returns : tie.Need-returns
 returns c =

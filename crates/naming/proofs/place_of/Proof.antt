@@ -1,15 +1,13 @@
 -- `place_of`: the invariant is that no name before i is b; n - i falls. Assumes nothing.
 -- Read first: terms/specs/Base (place-in), proofs/Finding.
 use borrow.Author.Needs.{needs}
-use Prim.Native.Nat.{ℕ, _<_, _≤_, _-_}
-use mathlib.Core.Path.{_≡_, refl}
+use Prim.Native.Nat.{ℕ, _<_, _-_}
+use mathlib.Core.Path.{_≡_}
 use native.Mathlib.Omega.{arith}
-use lib.ListN.{length, getD, take}
+use lib.ListN.{getD}
 use Rattle.naming.proofs.Finding.{place-hit, place-miss, place-next}
 use Rattle.naming.proofs.place_of.Statement.{statement}
 use Rattle.naming.proofs.place_of.Tie as tie
-use Rattle.naming.proofs.place_of.Reads as reads
-use Rattle.naming.proofs.place_of.Lts as lts
 
 abbrev Inv-loop : tie.InvT-loop
 Inv-loop names n b i₀ i = (j : ℕ) → j < i → getD names j 0 ≡ b → ⊥

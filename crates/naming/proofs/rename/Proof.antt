@@ -4,10 +4,6 @@ use borrow.Author.Needs.{needs}
 use Rattle.naming.proofs.Finding.{count-few, renamed-is}
 use Rattle.naming.proofs.rename.Statement.{statement}
 use Rattle.naming.proofs.rename.Tie as tie
-use Rattle.naming.proofs.rename.Reads as reads
-use Rattle.naming.proofs.rename.Lts as lts
-use Rattle.naming.proofs.names_of.Reads as names-of-reads
-use Rattle.naming.proofs.renumber.Reads as renumber-reads
 
 renumber-requires : tie.Need-renumber-requires
 renumber-requires c κs =

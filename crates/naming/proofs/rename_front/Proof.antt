@@ -4,9 +4,6 @@ use Rattle.naming.proofs.Finding.{front-ready, front-back}
 use borrow.Author.Needs.{needs}
 use Rattle.naming.proofs.rename_front.Statement.{statement}
 use Rattle.naming.proofs.rename_front.Tie as tie
-use Rattle.naming.proofs.rename_front.Reads as reads
-use Rattle.naming.proofs.rename_front.Lts as lts
-use Rattle.naming.proofs.rename.Reads as rename-reads
 
 rename-requires : tie.Need-rename-requires
 rename-requires c κs =

@@ -1,17 +1,13 @@
 -- `renumber`: the invariant is that the first i bytes are numbered and the others are as they were; m - i falls. Assumes nothing.
 -- Read first: specs/Names (named), proofs/Filling (Mapped).
 use borrow.Author.Needs.{needs}
-use Prim.Native.Nat.{ℕ, _<_, _≤_, _-_}
-use mathlib.Core.Path.{_≡_, refl}
+use Prim.Native.Nat.{_-_}
 use native.Mathlib.Omega.{arith}
-use lib.ListN.{length, getD, take}
+use lib.ListN.{take}
 use Rattle.naming.specs.Names.{named}
 use Rattle.naming.proofs.Filling.{Mapped, mapped-start, mapped-more, mapped-end}
 use Rattle.naming.proofs.renumber.Statement.{statement}
 use Rattle.naming.proofs.renumber.Tie as tie
-use Rattle.naming.proofs.renumber.Reads as reads
-use Rattle.naming.proofs.renumber.Lts as lts
-use Rattle.naming.proofs.number_byte.Reads as number-byte-reads
 
 abbrev Inv-loop : tie.InvT-loop
 Inv-loop bytes₀ names n m i₀ bytes i = Mapped (named (take n names)) bytes₀ bytes i

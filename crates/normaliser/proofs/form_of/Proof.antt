@@ -13,8 +13,6 @@ use Prim.Native.Nat.{ℕ}
 use borrow.Author.Needs.{needs}
 use Rattle.normaliser.proofs.form_of.Statement.{statement}
 use Rattle.normaliser.proofs.form_of.Tie as tie
-use Rattle.normaliser.proofs.form_of.Reads as reads
-use Rattle.normaliser.proofs.form_of.Lts as lts
 
 -- every other variant
 other : (s : Step) (n : ℕ) → OneOf (1 ∷ 3 ∷ 4 ∷ []) (tagOf the-type s) → TooLargeForm ≡ form-after s n

@@ -4,10 +4,6 @@ use Rattle.normaliser.proofs.Settling.{leave-long, leave-done}
 use borrow.Author.Needs.{needs}
 use Rattle.normaliser.proofs.leave.Statement.{statement}
 use Rattle.normaliser.proofs.leave.Tie as tie
-use Rattle.normaliser.proofs.leave.Reads as reads
-use Rattle.normaliser.proofs.leave.Lts as lts
-use Rattle.matching.proofs.size_of.Reads as size-of-reads
-use Rattle.redex.proofs.ended.Reads as ended-reads
 
 returns : tie.Need-returns
 returns c = leave-long (c .ended .ensures) (c .before .before .size-of .ensures .0) (c .before .if1 .taken)

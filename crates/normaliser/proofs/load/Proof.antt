@@ -8,9 +8,6 @@ use Rattle.matching.proofs.Filling.{Pasted, pasted-length}
 use borrow.Author.Needs.{needs}
 use Rattle.normaliser.proofs.load.Statement.{statement}
 use Rattle.normaliser.proofs.load.Tie as tie
-use Rattle.normaliser.proofs.load.Reads as reads
-use Rattle.normaliser.proofs.load.Lts as lts
-use Rattle.normaliser.proofs.cell.Reads as cell-reads
 
 abbrev Inv-loop : tie.InvT-loop
 Inv-loop t cells₀ i₀ cells i = Pasted cells₀ 0 t cells i

@@ -6,12 +6,6 @@ use mathlib.Core.Path.{refl}
 use borrow.Author.Needs.{needs}
 use Rattle.normaliser.proofs.normalise.Statement.{statement}
 use Rattle.normaliser.proofs.normalise.Tie as tie
-use Rattle.normaliser.proofs.normalise.Reads as reads
-use Rattle.normaliser.proofs.normalise.Lts as lts
-use Rattle.normaliser.proofs.form_of.Reads as form-of-reads
-use Rattle.normaliser.proofs.load.Reads as load-reads
-use Rattle.normaliser.proofs.normalise_in.Reads as normalise-in-reads
-use Rattle.normaliser.proofs.unload.Reads as unload-reads
 
 -- Places, found by their types: the only field of a type is the place itself.
 abbrev entry-of-load : tie.After-load → tie.Start

@@ -7,10 +7,6 @@ use mathlib.Core.Path.{refl}
 use borrow.Author.Needs.{needs}
 use Rattle.normaliser.proofs.reducible.Statement.{statement}
 use Rattle.normaliser.proofs.reducible.Tie as tie
-use Rattle.normaliser.proofs.reducible.Reads as reads
-use Rattle.normaliser.proofs.reducible.Lts as lts
-use Rattle.normaliser.proofs.load.Reads as load-reads
-use Rattle.normaliser.proofs.normalise_in.Reads as normalise-in-reads
 
 -- the tags of the other variants
 not-spent : OneOf (0 ∷ 1 ∷ 3 ∷ 4 ∷ []) 2 → ⊥

@@ -10,9 +10,6 @@ use Prim.Native.Nat.{_-_}
 use borrow.Author.Needs.{needs}
 use Rattle.normaliser.proofs.unload.Statement.{statement}
 use Rattle.normaliser.proofs.unload.Tie as tie
-use Rattle.normaliser.proofs.unload.Reads as reads
-use Rattle.normaliser.proofs.unload.Lts as lts
-use Rattle.matching.proofs.byte_of.Reads as byte-of-reads
 
 abbrev Inv-loop : tie.InvT-loop
 Inv-loop cells t₀ i₀ t i = Pasted t₀ 0 (node-bytes cells) t i

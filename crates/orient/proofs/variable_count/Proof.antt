@@ -5,9 +5,6 @@ use Rattle.orient.proofs.Seeing.{see-append, count-is}
 use borrow.Author.Needs.{needs}
 use Rattle.orient.proofs.variable_count.Statement.{statement}
 use Rattle.orient.proofs.variable_count.Tie as tie
-use Rattle.orient.proofs.variable_count.Reads as reads
-use Rattle.orient.proofs.variable_count.Lts as lts
-use Rattle.orient.proofs.with_bytes.Reads as with-bytes-reads
 
 returns : tie.Need-returns
 returns c = count-is _ _ _ (see-append _ _ _ _ _ (c .before .with-bytes .ensures) (c .with-bytes2 .ensures))

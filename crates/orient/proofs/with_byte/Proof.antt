@@ -5,8 +5,6 @@ use mathlib.Core.Path.{refl}
 use borrow.Author.Needs.{needs}
 use Rattle.orient.proofs.with_byte.Statement.{statement}
 use Rattle.orient.proofs.with_byte.Tie as tie
-use Rattle.orient.proofs.with_byte.Reads as reads
-use Rattle.orient.proofs.with_byte.Lts as lts
 
 returns : tie.Need-returns
 returns c = see-symbol _ _ (search needs) (c .if1 .taken)

@@ -7,9 +7,6 @@ use Prim.Native.Nat.{_-_}
 use borrow.Author.Needs.{needs}
 use Rattle.orient.proofs.with_bytes.Statement.{statement}
 use Rattle.orient.proofs.with_bytes.Tie as tie
-use Rattle.orient.proofs.with_bytes.Reads as reads
-use Rattle.orient.proofs.with_bytes.Lts as lts
-use Rattle.orient.proofs.with_byte.Reads as with-byte-reads
 
 abbrev Inv-loop : tie.InvT-loop
 Inv-loop seen t m₀ i₀ m i = Seen (take i t) seen m

@@ -7,9 +7,6 @@ use Rattle.overlap_terms.proofs.Moving.{Laying, laying-start, laying-mo
 use borrow.Author.Needs.{needs}
 use Rattle.overlap_terms.proofs.lay.Statement.{statement}
 use Rattle.overlap_terms.proofs.lay.Tie as tie
-use Rattle.overlap_terms.proofs.lay.Reads as reads
-use Rattle.overlap_terms.proofs.lay.Lts as lts
-use Rattle.overlap_terms.proofs.moved.Reads as moved-reads
 
 abbrev Inv-loop : tie.InvT-loop
 Inv-loop nodes₀ w t up i₀ nodes i = Laying nodes₀ w t up nodes i

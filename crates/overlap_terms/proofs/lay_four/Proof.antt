@@ -5,10 +5,6 @@ use Rattle.overlap_terms.proofs.Layers.{room-five, room-six, lays-four}
 use borrow.Author.Needs.{needs}
 use Rattle.overlap_terms.proofs.lay_four.Statement.{statement}
 use Rattle.overlap_terms.proofs.lay_four.Tie as tie
-use Rattle.overlap_terms.proofs.lay_four.Reads as reads
-use Rattle.overlap_terms.proofs.lay_four.Lts as lts
-use Rattle.overlap_terms.proofs.lay.Reads as lay-reads
-use Rattle.terms.proofs.term_end.Reads as term-end-reads
 
 -- Places, found by their types: the only field of a type is the place itself.
 abbrev entry-of-term-end : tie.After-term-end → tie.Start

@@ -4,8 +4,6 @@ use Rattle.overlap_terms.proofs.Moving.{moved-symbol, moved-variable, m
 use borrow.Author.Needs.{needs}
 use Rattle.overlap_terms.proofs.moved.Statement.{statement}
 use Rattle.overlap_terms.proofs.moved.Tie as tie
-use Rattle.overlap_terms.proofs.moved.Reads as reads
-use Rattle.overlap_terms.proofs.moved.Lts as lts
 
 returns : tie.Need-returns
 returns c = moved-symbol _ _ (c .if1 .taken)

@@ -6,10 +6,6 @@ use native.Mathlib.Omega.{arith}
 use borrow.Author.Needs.{needs}
 use Rattle.overlaps.proofs.meet.Statement.{statement}
 use Rattle.overlaps.proofs.meet.Tie as tie
-use Rattle.overlaps.proofs.meet.Reads as reads
-use Rattle.overlaps.proofs.meet.Lts as lts
-use Rattle.overlap_terms.proofs.lay_four.Reads as lay-four-reads
-use Rattle.overlaps.proofs.solve.Reads as solve-reads
 
 sub-t17 : tie.Need-sub-t17
 sub-t17 c =

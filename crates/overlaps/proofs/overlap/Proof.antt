@@ -7,11 +7,6 @@ use lib.ListN.{length}
 use borrow.Author.Needs.{needs}
 use Rattle.overlaps.proofs.overlap.Statement.{statement}
 use Rattle.overlaps.proofs.overlap.Tie as tie
-use Rattle.overlaps.proofs.overlap.Reads as reads
-use Rattle.overlaps.proofs.overlap.Lts as lts
-use Rattle.overlaps.proofs.meet.Reads as meet-reads
-use Rattle.slots.proofs.left.Reads as left-reads
-use Rattle.slots.proofs.right.Reads as right-reads
 
 -- Places, found by their types: the only field of a type is the place itself.
 abbrev entry-of-right : tie.After-right → tie.Start

@@ -6,10 +6,6 @@ use native.Mathlib.Omega.{arith}
 use borrow.Author.Needs.{needs}
 use Rattle.overlaps.proofs.possible.Statement.{statement}
 use Rattle.overlaps.proofs.possible.Tie as tie
-use Rattle.overlaps.proofs.possible.Reads as reads
-use Rattle.overlaps.proofs.possible.Lts as lts
-use Rattle.clash.proofs.clash.Reads as clash-reads
-use Rattle.slots.proofs.left.Reads as left-reads
 
 returns : tie.Need-returns
 returns c =

@@ -4,9 +4,6 @@ use Rattle.overlaps.proofs.Solving.{part-long}
 use borrow.Author.Needs.{needs}
 use Rattle.overlaps.proofs.solve.Statement.{statement}
 use Rattle.overlaps.proofs.solve.Tie as tie
-use Rattle.overlaps.proofs.solve.Reads as reads
-use Rattle.overlaps.proofs.solve.Lts as lts
-use Rattle.overlaps.proofs.solve_in.Reads as solve-in-reads
 
 solve-in-requires : tie.Need-solve-in-requires
 solve-in-requires c κs =

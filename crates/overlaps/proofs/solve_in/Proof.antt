@@ -10,11 +10,6 @@ use borrow.Author.Tests.{not-true, not-false}
 use borrow.Author.Needs.{needs}
 use Rattle.overlaps.proofs.solve_in.Statement.{statement}
 use Rattle.overlaps.proofs.solve_in.Tie as tie
-use Rattle.overlaps.proofs.solve_in.Reads as reads
-use Rattle.overlaps.proofs.solve_in.Lts as lts
-use Rattle.critical_pairs.proofs.place.Reads as place-reads
-use Rattle.mgu.proofs.laid_out.Reads as laid-out-reads
-use Rattle.mgu.proofs.unify.Reads as unify-reads
 
 -- Places, found by their types: the only field of a type is the place itself.
 abbrev entry-of-laid-out : tie.After-laid-out → tie.Start

@@ -7,9 +7,6 @@ use Prim.Native.Nat.{_-_}
 use borrow.Author.Needs.{needs}
 use Rattle.redex.proofs.find.Statement.{statement}
 use Rattle.redex.proofs.find.Tie as tie
-use Rattle.redex.proofs.find.Reads as reads
-use Rattle.redex.proofs.find.Lts as lts
-use Rattle.redex.proofs.fits.Reads as fits-reads
 
 abbrev Inv-loop : tie.InvT-loop
 Inv-loop rules count t binds₀ k₀ binds k = Searching rules t count k binds₀ binds

@@ -5,12 +5,6 @@ use mathlib.Core.Path.{_∙_}
 use borrow.Author.Needs.{needs}
 use Rattle.redex.proofs.fits.Statement.{statement}
 use Rattle.redex.proofs.fits.Tie as tie
-use Rattle.redex.proofs.fits.Reads as reads
-use Rattle.redex.proofs.fits.Lts as lts
-use Rattle.matching.proofs.byte_of.Reads as byte-of-reads
-use Rattle.matching.proofs.matches.Reads as matches-reads
-use Rattle.slots.proofs.left.Reads as left-reads
-use Rattle.slots.proofs.left_root.Reads as left-root-reads
 
 returns : tie.Need-returns
 returns c =

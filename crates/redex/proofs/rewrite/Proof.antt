@@ -11,13 +11,6 @@ use Prim.Native.Nat.{ℕ}
 use borrow.Author.Needs.{needs}
 use Rattle.redex.proofs.rewrite.Statement.{statement}
 use Rattle.redex.proofs.rewrite.Tie as tie
-use Rattle.redex.proofs.rewrite.Reads as reads
-use Rattle.redex.proofs.rewrite.Lts as lts
-use Rattle.matching.proofs.replace.Reads as replace-reads
-use Rattle.matching.proofs.sized.Reads as sized-reads
-use Rattle.redex.proofs.ended.Reads as ended-reads
-use Rattle.redex.proofs.find.Reads as find-reads
-use Rattle.slots.proofs.right.Reads as right-reads
 
 -- Places, found by their types: the only field of a type is the place itself.
 abbrev entry-of-sized : tie.After-sized → tie.Start

@@ -6,8 +6,6 @@ use Rattle.report.proofs.Lowness.{Looking, looking-start, looking-more,
 use borrow.Author.Needs.{needs}
 use Rattle.report.proofs.low.Statement.{statement}
 use Rattle.report.proofs.low.Tie as tie
-use Rattle.report.proofs.low.Reads as reads
-use Rattle.report.proofs.low.Lts as lts
 
 abbrev Inv-loop : tie.InvT-loop
 Inv-loop t i₀ i = Looking t i

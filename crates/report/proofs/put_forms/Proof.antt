@@ -5,11 +5,6 @@ use Rattle.report.proofs.Forms.{laid-ready, puts-forms}
 use borrow.Author.Needs.{needs}
 use Rattle.report.proofs.put_forms.Statement.{statement}
 use Rattle.report.proofs.put_forms.Tie as tie
-use Rattle.report.proofs.put_forms.Reads as reads
-use Rattle.report.proofs.put_forms.Lts as lts
-use Rattle.fields.proofs.paste.Reads as paste-reads
-use Rattle.fields.proofs.put_field.Reads as put-field-reads
-use Rattle.naming.proofs.rename_front.Reads as rename-front-reads
 
 -- Places, found by their types: the only field of a type is the place itself.
 abbrev entry-of-paste : tie.After-paste → tie.Start

@@ -7,12 +7,6 @@ use Rattle.report.proofs.Lowness.{low-names, is-low, is-high}
 use borrow.Author.Needs.{needs}
 use Rattle.report.proofs.put_forms_if.Statement.{statement}
 use Rattle.report.proofs.put_forms_if.Tie as tie
-use Rattle.report.proofs.put_forms_if.Reads as reads
-use Rattle.report.proofs.put_forms_if.Lts as lts
-use Rattle.report.proofs.low.Reads as low-reads
-use Rattle.report.proofs.put_forms.Reads as put-forms-reads
-use Rattle.slots.proofs.left.Reads as left-reads
-use Rattle.slots.proofs.right.Reads as right-reads
 
 -- Places, found by their types: the only field of a type is the place itself.
 abbrev low-of-low2 : tie.After-low2 → tie.After-low

@@ -8,9 +8,6 @@ use Rattle.report.proofs.Listing.{log-series, Listing, listing-start, l
 use borrow.Author.Needs.{needs}
 use Rattle.report.proofs.put_log.Statement.{statement}
 use Rattle.report.proofs.put_log.Tie as tie
-use Rattle.report.proofs.put_log.Reads as reads
-use Rattle.report.proofs.put_log.Lts as lts
-use Rattle.fields.proofs.put_field.Reads as put-field-reads
 
 abbrev Inv-loop : tie.InvT-loop
 Inv-loop out₀ at log count i₀ a₀ out i a = Listing (logged-fields log) entry-width out₀ at count out i a

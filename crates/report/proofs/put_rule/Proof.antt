@@ -6,13 +6,6 @@ use Rattle.report.proofs.RuleField.{puts-rule}
 use borrow.Author.Needs.{needs}
 use Rattle.report.proofs.put_rule.Statement.{statement}
 use Rattle.report.proofs.put_rule.Tie as tie
-use Rattle.report.proofs.put_rule.Reads as reads
-use Rattle.report.proofs.put_rule.Lts as lts
-use Rattle.fields.proofs.paste.Reads as paste-reads
-use Rattle.fields.proofs.put_head.Reads as put-head-reads
-use Rattle.slots.proofs.left.Reads as left-reads
-use Rattle.slots.proofs.number.Reads as number-reads
-use Rattle.slots.proofs.right.Reads as right-reads
 
 -- Places, found by their types: the only field of a type is the place itself.
 abbrev number-of-head : tie.After-put-head → tie.After-number

@@ -8,9 +8,6 @@ use Rattle.report.proofs.Listing.{slots-series, Listing, listing-start,
 use borrow.Author.Needs.{needs}
 use Rattle.report.proofs.put_rules.Statement.{statement}
 use Rattle.report.proofs.put_rules.Tie as tie
-use Rattle.report.proofs.put_rules.Reads as reads
-use Rattle.report.proofs.put_rules.Lts as lts
-use Rattle.report.proofs.put_rule.Reads as put-rule-reads
 
 abbrev Inv-loop : tie.InvT-loop
 Inv-loop out₀ at rules count i₀ a₀ out i a = Listing (slot-fields rules) rule-width out₀ at count out i a

@@ -10,13 +10,6 @@ use Rattle.report.proofs.Meaning.{reported}
 use borrow.Author.Needs.{needs}
 use Rattle.report.proofs.report.Statement.{statement}
 use Rattle.report.proofs.report.Tie as tie
-use Rattle.report.proofs.report.Reads as reads
-use Rattle.report.proofs.report.Lts as lts
-use Rattle.fields.proofs.put_number_field.Reads as put-number-field-reads
-use Rattle.report.proofs.put_forms_if.Reads as put-forms-if-reads
-use Rattle.report.proofs.put_log.Reads as put-log-reads
-use Rattle.report.proofs.put_rules.Reads as put-rules-reads
-use Rattle.rewriting.proofs.number.Reads as number-reads
 
 -- Places, found by their types: the only field of a type is the place itself.
 abbrev number-of-first : tie.After-put-number-field → tie.After-number

@@ -5,8 +5,6 @@ use borrow.Author.Needs.{needs}
 use Rattle.rewriting.specs.Ends.{number-of}
 use Rattle.rewriting.proofs.number.Statement.{statement}
 use Rattle.rewriting.proofs.number.Tie as tie
-use Rattle.rewriting.proofs.number.Reads as reads
-use Rattle.rewriting.proofs.number.Lts as lts
 
 returns : tie.Need-returns
 unfolding number-of

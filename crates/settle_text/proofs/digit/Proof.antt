@@ -4,8 +4,6 @@ use Rattle.settle_text.proofs.Hex.{digit-low, digit-high}
 use borrow.Author.Needs.{needs}
 use Rattle.settle_text.proofs.digit.Statement.{statement}
 use Rattle.settle_text.proofs.digit.Tie as tie
-use Rattle.settle_text.proofs.digit.Reads as reads
-use Rattle.settle_text.proofs.digit.Lts as lts
 
 returns : tie.Need-returns
 returns c = digit-low _ (c .if1 .taken)

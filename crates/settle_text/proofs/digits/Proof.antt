@@ -4,8 +4,6 @@ use Rattle.settle_text.proofs.Decimal.{Counting, counting-start, counti
 use borrow.Author.Needs.{needs}
 use Rattle.settle_text.proofs.digits.Statement.{statement}
 use Rattle.settle_text.proofs.digits.Tie as tie
-use Rattle.settle_text.proofs.digits.Reads as reads
-use Rattle.settle_text.proofs.digits.Lts as lts
 
 abbrev Inv-loop : tie.InvT-loop
 Inv-loop n m₀ w₀ m w = Counting n m w

@@ -4,8 +4,6 @@ use Rattle.fields.proofs.Putting.{puts-byte}
 use borrow.Author.Needs.{needs}
 use Rattle.settle_text.proofs.put_byte.Statement.{statement}
 use Rattle.settle_text.proofs.put_byte.Tie as tie
-use Rattle.settle_text.proofs.put_byte.Reads as reads
-use Rattle.settle_text.proofs.put_byte.Lts as lts
 
 returns : tie.Need-returns
 returns c = puts-byte _ _ _ (c .pre)

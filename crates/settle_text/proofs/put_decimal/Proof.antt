@@ -6,9 +6,6 @@ use Rattle.settle_text.proofs.Decimal.{Tens, tens-start, tens-left, ten
 use borrow.Author.Needs.{needs}
 use Rattle.settle_text.proofs.put_decimal.Statement.{statement}
 use Rattle.settle_text.proofs.put_decimal.Tie as tie
-use Rattle.settle_text.proofs.put_decimal.Reads as reads
-use Rattle.settle_text.proofs.put_decimal.Lts as lts
-use Rattle.settle_text.proofs.digits.Reads as digits-reads
 
 abbrev Inv-loop : tie.InvT-loop
 Inv-loop out₀ at n w left₀ m₀ out left m = Tens out₀ at n out left m

@@ -4,10 +4,6 @@ use Rattle.settle_text.proofs.Hex.{puts-hex}
 use borrow.Author.Needs.{needs}
 use Rattle.settle_text.proofs.put_hex.Statement.{statement}
 use Rattle.settle_text.proofs.put_hex.Tie as tie
-use Rattle.settle_text.proofs.put_hex.Reads as reads
-use Rattle.settle_text.proofs.put_hex.Lts as lts
-use Rattle.settle_text.proofs.digit.Reads as digit-reads
-use Rattle.settle_text.proofs.put_byte.Reads as put-byte-reads
 
 returns : tie.Need-returns
 returns c =

@@ -6,9 +6,6 @@ use Rattle.settle_text.proofs.Hex.{Hexing, hexing-start, hexing-more, h
 use borrow.Author.Needs.{needs}
 use Rattle.settle_text.proofs.put_hexes.Statement.{statement}
 use Rattle.settle_text.proofs.put_hexes.Tie as tie
-use Rattle.settle_text.proofs.put_hexes.Reads as reads
-use Rattle.settle_text.proofs.put_hexes.Lts as lts
-use Rattle.settle_text.proofs.put_hex.Reads as put-hex-reads
 
 abbrev Inv-loop : tie.InvT-loop
 Inv-loop out₀ at from i₀ a₀ out i a = Hexing from out₀ at out i a

@@ -6,12 +6,6 @@ use Rattle.settle_text.proofs.Hex.{puts-line}
 use borrow.Author.Needs.{needs}
 use Rattle.settle_text.proofs.put_line.Statement.{statement}
 use Rattle.settle_text.proofs.put_line.Tie as tie
-use Rattle.settle_text.proofs.put_line.Reads as reads
-use Rattle.settle_text.proofs.put_line.Lts as lts
-use Rattle.settle_text.proofs.put_byte.Reads as put-byte-reads
-use Rattle.settle_text.proofs.put_decimal.Reads as put-decimal-reads
-use Rattle.settle_text.proofs.put_hex.Reads as put-hex-reads
-use Rattle.settle_text.proofs.put_hexes.Reads as put-hexes-reads
 
 -- Places, found by their types: the only field of a type is the place itself.
 abbrev entry-of-put-hex : tie.After-put-hex → tie.Start

@@ -6,11 +6,6 @@ use Rattle.settle_text.proofs.Hex.{puts-refused}
 use borrow.Author.Needs.{needs}
 use Rattle.settle_text.proofs.put_refused.Statement.{statement}
 use Rattle.settle_text.proofs.put_refused.Tie as tie
-use Rattle.settle_text.proofs.put_refused.Reads as reads
-use Rattle.settle_text.proofs.put_refused.Lts as lts
-use Rattle.settle_text.proofs.put_byte.Reads as put-byte-reads
-use Rattle.settle_text.proofs.put_decimal.Reads as put-decimal-reads
-use Rattle.fields.proofs.paste.Reads as paste-reads
 
 -- Places, found by their types: the only field of a type is the place itself.
 abbrev entry-of-paste : tie.After-paste → tie.Start

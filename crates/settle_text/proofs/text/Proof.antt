@@ -5,12 +5,6 @@ use native.Mathlib.Omega.{arith}
 use borrow.Author.Needs.{needs}
 use Rattle.settle_text.proofs.text.Statement.{statement}
 use Rattle.settle_text.proofs.text.Tie as tie
-use Rattle.settle_text.proofs.text.Reads as reads
-use Rattle.settle_text.proofs.text.Lts as lts
-use Rattle.complete.proofs.complete.Reads as complete-reads
-use Rattle.settle_text.proofs.put_lines.Reads as put-lines-reads
-use Rattle.settle_text.proofs.put_refused.Reads as put-refused-reads
-use Rattle.terms.proofs.wide.Reads as wide-reads
 
 slice-aggregate-complete : tie.Need-slice-aggregate-complete
 slice-aggregate-complete c = search needs

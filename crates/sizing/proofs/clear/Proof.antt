@@ -7,8 +7,6 @@ use native.Mathlib.Omega.{arith}
 use Rattle.classes.proofs.Filled.{FilledTo, filled-start, filled-more, filled-end}
 use Rattle.sizing.proofs.clear.Statement.{statement}
 use Rattle.sizing.proofs.clear.Tie as tie
-use Rattle.sizing.proofs.clear.Reads as reads
-use Rattle.sizing.proofs.clear.Lts as lts
 
 abbrev Inv-loop : tie.InvT-loop
 Inv-loop sizes₀ n i₀ sizes i = FilledTo (λ j b. b ≡ 0) sizes₀ sizes i

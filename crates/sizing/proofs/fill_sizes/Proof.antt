@@ -7,9 +7,6 @@ use native.Mathlib.Omega.{arith}
 use borrow.Author.Needs.{needs}
 use Rattle.sizing.proofs.fill_sizes.Statement.{statement}
 use Rattle.sizing.proofs.fill_sizes.Tie as tie
-use Rattle.sizing.proofs.fill_sizes.Reads as reads
-use Rattle.sizing.proofs.fill_sizes.Lts as lts
-use Rattle.sizing.proofs.size_at.Reads as size-at-reads
 
 abbrev Inv-loop : tie.InvT-loop
 Inv-loop nodes table ends class sizes₀ i₀ found₀ lost₀ sizes i found lost = Sizing nodes table ends class sizes₀ sizes i found lost

@@ -4,10 +4,6 @@ use Rattle.sizing.proofs.Sizing.{clear-sized}
 use borrow.Author.Needs.{needs}
 use Rattle.sizing.proofs.measure.Statement.{statement}
 use Rattle.sizing.proofs.measure.Tie as tie
-use Rattle.sizing.proofs.measure.Reads as reads
-use Rattle.sizing.proofs.measure.Lts as lts
-use Rattle.sizing.proofs.clear.Reads as clear-reads
-use Rattle.sizing.proofs.fill_sizes.Reads as fill-sizes-reads
 
 fill-sizes-requires : tie.Need-fill-sizes-requires
 fill-sizes-requires c κs =

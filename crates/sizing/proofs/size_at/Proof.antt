@@ -5,11 +5,6 @@ use Rattle.sizing.proofs.Sizing.{size-free, sized-arguments, size-made}
 use Rattle.classes.proofs.Walks.{ready-within}
 use Rattle.sizing.proofs.size_at.Statement.{statement}
 use Rattle.sizing.proofs.size_at.Tie as tie
-use Rattle.sizing.proofs.size_at.Reads as reads
-use Rattle.sizing.proofs.size_at.Lts as lts
-use Rattle.terms.proofs.owed_by.Reads as owed-by-reads
-use Rattle.classes.proofs.wide.Reads as wide-reads
-use Rattle.sizing.proofs.total.Reads as total-reads
 
 -- Places, found by their types: the only field of a type is the place itself.
 abbrev entry-of-wide : tie.After-wide → tie.Start

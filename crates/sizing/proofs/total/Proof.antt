@@ -7,10 +7,6 @@ use Rattle.classes.proofs.Walks.{some-within}
 use Rattle.sizing.proofs.Sizing.{Adding, adding-start, adding-turn, adding-lacks, adding-end, sized-at}
 use Rattle.sizing.proofs.total.Statement.{statement}
 use Rattle.sizing.proofs.total.Tie as tie
-use Rattle.sizing.proofs.total.Reads as reads
-use Rattle.sizing.proofs.total.Lts as lts
-use Rattle.terms.proofs.wide.Reads as wide-reads
-use Rattle.sizing.proofs.capped.Reads as capped-reads
 
 abbrev Inv-loop : tie.InvT-loop
 Inv-loop nodes table ends class sizes a k p₀ left₀ sum₀ p left sum = Adding (arena nodes table ends) (at class) (at sizes) a k p left sum

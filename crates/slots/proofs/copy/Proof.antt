@@ -5,9 +5,6 @@ use mathlib.Core.Path.{refl}
 use borrow.Author.Needs.{needs}
 use Rattle.slots.proofs.copy.Statement.{statement}
 use Rattle.slots.proofs.copy.Tie as tie
-use Rattle.slots.proofs.copy.Reads as reads
-use Rattle.slots.proofs.copy.Lts as lts
-use Rattle.bytes.proofs.copy.Reads as copy-reads
 
 returns : tie.Need-returns
 returns c =

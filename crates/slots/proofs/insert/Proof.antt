@@ -4,10 +4,6 @@ use Rattle.slots.proofs.Shifting.{inserted}
 use borrow.Author.Needs.{needs}
 use Rattle.slots.proofs.insert.Statement.{statement}
 use Rattle.slots.proofs.insert.Tie as tie
-use Rattle.slots.proofs.insert.Reads as reads
-use Rattle.slots.proofs.insert.Lts as lts
-use Rattle.fields.proofs.paste.Reads as paste-reads
-use Rattle.slots.proofs.make_room.Reads as make-room-reads
 
 returns : tie.Need-returns
 returns c =

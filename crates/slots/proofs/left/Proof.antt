@@ -8,9 +8,6 @@ use Rattle.slots.proofs.Layouts.{left-short}
 use borrow.Author.Needs.{needs}
 use Rattle.slots.proofs.left.Statement.{statement}
 use Rattle.slots.proofs.left.Tie as tie
-use Rattle.slots.proofs.left.Reads as reads
-use Rattle.slots.proofs.left.Lts as lts
-use Rattle.terms.proofs.wide.Reads as wide-reads
 
 part-result-end : tie.Need-part-result-end
 part-result-end c =

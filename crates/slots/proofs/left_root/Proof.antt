@@ -7,8 +7,6 @@ use Rattle.slots.proofs.Parts.{slot-byte}
 use borrow.Author.Needs.{needs}
 use Rattle.slots.proofs.left_root.Statement.{statement}
 use Rattle.slots.proofs.left_root.Tie as tie
-use Rattle.slots.proofs.left_root.Reads as reads
-use Rattle.slots.proofs.left_root.Lts as lts
 
 returns : tie.Need-returns
 returns c =

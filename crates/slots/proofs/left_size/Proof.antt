@@ -5,9 +5,6 @@ use Rattle.slots.proofs.Reading.{left-length-at}
 use borrow.Author.Needs.{needs}
 use Rattle.slots.proofs.left_size.Statement.{statement}
 use Rattle.slots.proofs.left_size.Tie as tie
-use Rattle.slots.proofs.left_size.Reads as reads
-use Rattle.slots.proofs.left_size.Lts as lts
-use Rattle.terms.proofs.wide.Reads as wide-reads
 
 returns : tie.Need-returns
 returns c =

@@ -7,8 +7,6 @@ use Rattle.slots.proofs.Shifting.{Making, making-start, making-more, ma
 use borrow.Author.Needs.{needs}
 use Rattle.slots.proofs.make_room.Statement.{statement}
 use Rattle.slots.proofs.make_room.Tie as tie
-use Rattle.slots.proofs.make_room.Reads as reads
-use Rattle.slots.proofs.make_room.Lts as lts
 
 abbrev Inv-loop : tie.InvT-loop
 Inv-loop slots₀ k count a i₀ slots i = Making slots₀ (slot-width * count) slots i × (a ≤ i)

@@ -5,8 +5,6 @@ use Rattle.slots.proofs.Reading.{mark-bytes}
 use borrow.Author.Needs.{needs}
 use Rattle.slots.proofs.mark.Statement.{statement}
 use Rattle.slots.proofs.mark.Tie as tie
-use Rattle.slots.proofs.mark.Reads as reads
-use Rattle.slots.proofs.mark.Lts as lts
 
 returns : tie.Need-returns
 returns c =

@@ -4,11 +4,6 @@ use Rattle.slots.proofs.Shifting.{moved-last}
 use borrow.Author.Needs.{needs}
 use Rattle.slots.proofs.move_last.Statement.{statement}
 use Rattle.slots.proofs.move_last.Tie as tie
-use Rattle.slots.proofs.move_last.Reads as reads
-use Rattle.slots.proofs.move_last.Lts as lts
-use Rattle.fields.proofs.paste.Reads as paste-reads
-use Rattle.slots.proofs.copy.Reads as copy-reads
-use Rattle.slots.proofs.remove.Reads as remove-reads
 
 returns : tie.Need-returns
 returns c =

@@ -5,8 +5,6 @@ use Rattle.slots.proofs.Reading.{number-bytes-at}
 use borrow.Author.Needs.{needs}
 use Rattle.slots.proofs.number.Statement.{statement}
 use Rattle.slots.proofs.number.Tie as tie
-use Rattle.slots.proofs.number.Reads as reads
-use Rattle.slots.proofs.number.Lts as lts
 
 returns : tie.Need-returns
 returns c =

@@ -9,9 +9,6 @@ use Rattle.slots.proofs.Filling.{put-mark}
 use borrow.Author.Needs.{needs}
 use Rattle.slots.proofs.put_mark.Statement.{statement}
 use Rattle.slots.proofs.put_mark.Tie as tie
-use Rattle.slots.proofs.put_mark.Reads as reads
-use Rattle.slots.proofs.put_mark.Lts as lts
-use Rattle.fields.proofs.paste.Reads as paste-reads
 
 returns : tie.Need-returns
 returns c =

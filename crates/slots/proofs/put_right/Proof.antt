@@ -5,9 +5,6 @@ use Rattle.slots.proofs.Filling.{put-right}
 use borrow.Author.Needs.{needs}
 use Rattle.slots.proofs.put_right.Statement.{statement}
 use Rattle.slots.proofs.put_right.Tie as tie
-use Rattle.slots.proofs.put_right.Reads as reads
-use Rattle.slots.proofs.put_right.Lts as lts
-use Rattle.fields.proofs.paste.Reads as paste-reads
 
 returns : tie.Need-returns
 returns c =

@@ -7,9 +7,6 @@ use Rattle.slots.proofs.Filling.{put-sides}
 use borrow.Author.Needs.{needs}
 use Rattle.slots.proofs.put_sides.Statement.{statement}
 use Rattle.slots.proofs.put_sides.Tie as tie
-use Rattle.slots.proofs.put_sides.Reads as reads
-use Rattle.slots.proofs.put_sides.Lts as lts
-use Rattle.fields.proofs.paste.Reads as paste-reads
 
 abbrev entry-of-slots2 : tie.After-slots2 → tie.Start
 entry-of-slots2 at = search depth 0

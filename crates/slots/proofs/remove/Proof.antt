@@ -7,8 +7,6 @@ use Rattle.slots.proofs.Shifting.{Removing, removing-start, removing-mo
 use borrow.Author.Needs.{needs}
 use Rattle.slots.proofs.remove.Statement.{statement}
 use Rattle.slots.proofs.remove.Tie as tie
-use Rattle.slots.proofs.remove.Reads as reads
-use Rattle.slots.proofs.remove.Lts as lts
 
 abbrev Inv-loop : tie.InvT-loop
 Inv-loop slots₀ k count end i₀ slots i = Removing slots₀ (slot-width * k) slots i

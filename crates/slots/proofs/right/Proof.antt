@@ -8,9 +8,6 @@ use Rattle.slots.proofs.Layouts.{right-short}
 use borrow.Author.Needs.{needs}
 use Rattle.slots.proofs.right.Statement.{statement}
 use Rattle.slots.proofs.right.Tie as tie
-use Rattle.slots.proofs.right.Reads as reads
-use Rattle.slots.proofs.right.Lts as lts
-use Rattle.terms.proofs.wide.Reads as wide-reads
 
 part-result-end : tie.Need-part-result-end
 part-result-end c =

@@ -7,10 +7,6 @@ use Rattle.state.proofs.Logging.{entry-put}
 use borrow.Author.Needs.{needs}
 use Rattle.state.proofs.add_entry.Statement.{statement}
 use Rattle.state.proofs.add_entry.Tie as tie
-use Rattle.state.proofs.add_entry.Reads as reads
-use Rattle.state.proofs.add_entry.Lts as lts
-use Rattle.fields.proofs.paste.Reads as paste-reads
-use Rattle.fields.proofs.put_number.Reads as put-number-reads
 
 returns : tie.Need-returns
 returns c =

@@ -6,9 +6,6 @@ use Rattle.state.proofs.Siftings.{SiftedTo, sifting-start, sifting-goes
 use borrow.Author.Needs.{needs}
 use Rattle.state.proofs.sift.Statement.{statement}
 use Rattle.state.proofs.sift.Tie as tie
-use Rattle.state.proofs.sift.Reads as reads
-use Rattle.state.proofs.sift.Lts as lts
-use Rattle.state.proofs.sift_one.Reads as sift-one-reads
 
 abbrev Inv-loop : tie.InvT-loop
 Inv-loop pairs₀ new live count table stay₀ i₀ pairs stay i = SiftedTo table new pairs₀ live count pairs stay i

@@ -8,12 +8,6 @@ use Rattle.state.proofs.Siftings.{one-goes, one-stays}
 use borrow.Author.Needs.{needs}
 use Rattle.state.proofs.sift_one.Statement.{statement}
 use Rattle.state.proofs.sift_one.Tie as tie
-use Rattle.state.proofs.sift_one.Reads as reads
-use Rattle.state.proofs.sift_one.Lts as lts
-use Rattle.normaliser.proofs.reducible.Reads as reducible-reads
-use Rattle.slots.proofs.copy.Reads as copy-reads
-use Rattle.slots.proofs.left.Reads as left-reads
-use Rattle.slots.proofs.move_last.Reads as move-last-reads
 
 left-requires : tie.Need-left-requires
 left-requires c κs =

@@ -5,11 +5,6 @@ use native.Mathlib.Omega.{arith}
 use borrow.Author.Needs.{needs}
 use Rattle.mgu.proofs.start.begin.Statement.{statement}
 use Rattle.mgu.proofs.start.begin.Tie as tie
-use Rattle.mgu.proofs.start.begin.Reads as reads
-use Rattle.mgu.proofs.start.begin.Lts as lts
-use Rattle.classes.proofs.join.Reads as join-reads
-use Rattle.mgu.proofs.start.fill_class.Reads as fill-class-reads
-use Rattle.mgu.proofs.start.fill_ends.Reads as fill-ends-reads
 
 -- Places, found by their types: the only field of a type is the place itself.
 abbrev entry-of-fill-ends : tie.After-fill-ends → tie.Start

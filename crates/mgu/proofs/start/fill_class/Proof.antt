@@ -9,10 +9,6 @@ use native.Mathlib.Omega.{arith}
 use borrow.Author.Needs.{needs}
 use Rattle.mgu.proofs.start.fill_class.Statement.{statement}
 use Rattle.mgu.proofs.start.fill_class.Tie as tie
-use Rattle.mgu.proofs.start.fill_class.Reads as reads
-use Rattle.mgu.proofs.start.fill_class.Lts as lts
-use Rattle.terms.proofs.wide.Reads as wide-reads
-use Rattle.mgu.proofs.start.first_class.Reads as first-class-reads
 
 abbrev Inv-loop : tie.InvT-loop
 Inv-loop nodes class₀ firsts₀ n i₀ class firsts i = Classing nodes class₀ class firsts i

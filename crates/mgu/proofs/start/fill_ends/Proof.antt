@@ -5,10 +5,6 @@ use native.Mathlib.Omega.{arith}
 use borrow.Author.Needs.{needs}
 use Rattle.mgu.proofs.start.fill_ends.Statement.{statement}
 use Rattle.mgu.proofs.start.fill_ends.Tie as tie
-use Rattle.mgu.proofs.start.fill_ends.Reads as reads
-use Rattle.mgu.proofs.start.fill_ends.Lts as lts
-use Rattle.terms.proofs.owed_by.Reads as owed-by-reads
-use Rattle.mgu.proofs.start.hop.Reads as hop-reads
 
 abbrev Inv-loop : tie.InvT-loop
 Inv-loop nodes table ends₀ i₀ ends i = EndsSoFar nodes table ends₀ ends i

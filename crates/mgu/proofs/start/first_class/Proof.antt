@@ -4,10 +4,6 @@ use Rattle.mgu.proofs.Firsts.{first-symbol, first-new, first-old}
 use borrow.Author.Needs.{needs}
 use Rattle.mgu.proofs.start.first_class.Statement.{statement}
 use Rattle.mgu.proofs.start.first_class.Tie as tie
-use Rattle.mgu.proofs.start.first_class.Reads as reads
-use Rattle.mgu.proofs.start.first_class.Lts as lts
-use Rattle.terms.proofs.wide.Reads as wide-reads
-use Rattle.classes.proofs.wide.Reads as wide-reads′
 
 returns : tie.Need-returns
 returns c = first-symbol _ _ (c .if1 .taken)

@@ -10,9 +10,6 @@ use lib.ListN.{length, drop}
 use borrow.Author.Needs.{needs}
 use Rattle.mgu.proofs.start.hop.Statement.{statement}
 use Rattle.mgu.proofs.start.hop.Tie as tie
-use Rattle.mgu.proofs.start.hop.Reads as reads
-use Rattle.mgu.proofs.start.hop.Lts as lts
-use Rattle.classes.proofs.wide.Reads as wide-reads
 
 abbrev Inv-loop : tie.InvT-loop
 Inv-loop nodes table ends p k q₀ left₀ q left =

@@ -5,9 +5,6 @@ use Rattle.fields.specs.Puts.{patched}
 use borrow.Author.Needs.{needs}
 use Rattle.slots.proofs.origins.numbered.Statement.{statement}
 use Rattle.slots.proofs.origins.numbered.Tie as tie
-use Rattle.slots.proofs.origins.numbered.Reads as reads
-use Rattle.slots.proofs.origins.numbered.Lts as lts
-use Rattle.fields.proofs.put_number.Reads as put-number-reads
 
 returns : tie.Need-returns
 unfolding number-bytes patched

@@ -5,8 +5,6 @@ use Rattle.slots.proofs.Reading.{overlapping-at}
 use borrow.Author.Needs.{needs}
 use Rattle.slots.proofs.origins.overlapping.Statement.{statement}
 use Rattle.slots.proofs.origins.overlapping.Tie as tie
-use Rattle.slots.proofs.origins.overlapping.Reads as reads
-use Rattle.slots.proofs.origins.overlapping.Lts as lts
 
 returns : tie.Need-returns
 returns c =

@@ -10,10 +10,6 @@ use Rattle.state.proofs.Changing.{collapse-done}
 use borrow.Author.Needs.{needs}
 use Rattle.state.proofs.State.collapse.Statement.{statement}
 use Rattle.state.proofs.State.collapse.Tie as tie
-use Rattle.state.proofs.State.collapse.Reads as reads
-use Rattle.state.proofs.State.collapse.Lts as lts
-use Rattle.slots.proofs.copy.Reads as copy-reads
-use Rattle.state.proofs.sift.Reads as sift-reads
 
 sift-requires : tie.Need-sift-requires
 sift-requires c κs =

@@ -3,8 +3,6 @@
 use Rattle.state.proofs.Changing.{initial-done}
 use Rattle.state.proofs.State.initial.Statement.{statement}
 use Rattle.state.proofs.State.initial.Tie as tie
-use Rattle.state.proofs.State.initial.Reads as reads
-use Rattle.state.proofs.State.initial.Lts as lts
 
 returns : tie.Need-returns
 returns c = initial-done _ _ _ (c .pre .0) (c .pre .1)

@@ -10,9 +10,6 @@ use Rattle.state.proofs.Logging.{log-done}
 use borrow.Author.Needs.{needs}
 use Rattle.state.proofs.State.log.Statement.{statement}
 use Rattle.state.proofs.State.log.Tie as tie
-use Rattle.state.proofs.State.log.Reads as reads
-use Rattle.state.proofs.State.log.Lts as lts
-use Rattle.state.proofs.add_entry.Reads as add-entry-reads
 
 -- the log's room
 long : (at : tie.Start) → length (at .args .t1 .log .bytes) ≡ logged-width * most-entries

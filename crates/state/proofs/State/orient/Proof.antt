@@ -10,10 +10,6 @@ use Rattle.state.proofs.Changing.{orient-ends, orient-done}
 use borrow.Author.Needs.{needs}
 use Rattle.state.proofs.State.orient.Statement.{statement}
 use Rattle.state.proofs.State.orient.Tie as tie
-use Rattle.state.proofs.State.orient.Reads as reads
-use Rattle.state.proofs.State.orient.Lts as lts
-use Rattle.orient.proofs.rule_of.Reads as rule-of-reads
-use Rattle.state.proofs.add_pair.Reads as add-pair-reads
 
 -- Places, found by their types: the only field of a type is the place itself.
 abbrev entry-of-rule-of : tie.After-rule-of → tie.Start

@@ -4,9 +4,6 @@ use Rattle.state.proofs.Changing.{take-done, take-none}
 use borrow.Author.Needs.{needs}
 use Rattle.state.proofs.State.take.Statement.{statement}
 use Rattle.state.proofs.State.take.Tie as tie
-use Rattle.state.proofs.State.take.Reads as reads
-use Rattle.state.proofs.State.take.Lts as lts
-use Rattle.state.proofs.drop_pair.Reads as drop-pair-reads
 
 returns : tie.Need-returns
 returns c =
