@@ -79,21 +79,7 @@ returns-2 c =
 
 pub compare-spec : {M : Type 1} → statement M
 compare-spec =
-    tie.close
-    (tie.spec
-    (λ c κs. search needs)
-    (λ c. search needs)
-    (λ c. search needs)
-    sub-comparison
-    part-comparison-start
-    (λ c. search needs)
-    sub-comparison-2
-    part-comparison-start-2
-    (λ c. search needs)
-    sub-comparison-3
-    part-comparison-start-3
-    part-comparison-end-3
-    comparison-requires
-    named-requires
-    returns
-    returns-2)
+    tie.close (tie.spec
+    (λ c κs. search needs) (λ c. search needs) (λ c. search needs) sub-comparison part-comparison-start
+    (λ c. search needs) sub-comparison-2 part-comparison-start-2 (λ c. search needs) sub-comparison-3
+    part-comparison-start-3 part-comparison-end-3 comparison-requires named-requires returns returns-2)

@@ -60,17 +60,6 @@ returns-3 c =
 
 pub subterm-bounds-spec : {M : Type 1} → statement M
 subterm-bounds-spec =
-    tie.close
-    (tie.spec
-    (λ c κs. search needs)
-    (λ c. search needs)
-    (λ c. search needs)
-    sub-if1
-    returns
-    add-s
-    sub-term-end
-    part-term-end-start
-    part-term-end-end
-    term-end-requires
-    returns-2
-    returns-3)
+    tie.close (tie.spec
+    (λ c κs. search needs) (λ c. search needs) (λ c. search needs) sub-if1 returns add-s sub-term-end
+    part-term-end-start part-term-end-end term-end-requires returns-2 returns-3)

@@ -72,21 +72,7 @@ returns-3 c =
 
 pub unify-spec : {M : Type 1} → statement M
 unify-spec =
-    tie.close
-    (tie.spec
-    returns
-    (λ c κs. search needs)
-    (λ c. search needs)
-    (λ c. search needs)
-    sub-common-instance
-    part-common-instance-start
-    part-common-instance-end
-    sub-common-instance-2
-    part-common-instance-start-2
-    part-common-instance-end-2
-    sub-common-instance-3
-    common-instance-requires
-    (λ c κs. search needs)
-    returns-2
-    (λ c. search needs)
-    returns-3)
+    tie.close (tie.spec
+    returns (λ c κs. search needs) (λ c. search needs) (λ c. search needs) sub-common-instance part-common-instance-start part-common-instance-end
+    sub-common-instance-2 part-common-instance-start-2 part-common-instance-end-2 sub-common-instance-3 common-instance-requires (λ c κs. search needs)
+    returns-2 (λ c. search needs) returns-3)

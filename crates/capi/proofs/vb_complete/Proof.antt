@@ -48,14 +48,5 @@ returns-2 c =
 
 pub vb-complete-spec : {M : Type 1} → statement M
 vb-complete-spec =
-    tie.close
-    (tie.spec
-    complete-requires
-    enum-known-n
-    code-requires
-    enum-known-number
-    code-requires-2
-    same-length
-    returns
-    same-length-2
-    returns-2)
+    tie.close (tie.spec
+    complete-requires enum-known-n code-requires enum-known-number code-requires-2 same-length returns same-length-2 returns-2)

@@ -86,23 +86,6 @@ returns-2 c = walk-end _ _ _ _ _ _ _ _ (c .before .loop .inv) (c .loop-test .lef
 
 pub apart-spec : {M : Type 1} → statement M
 apart-spec =
-    tie.close
-    (tie.spec
-    Inv-loop
-    μ-loop
-    loop-holds
-    mul-if1
-    shared-slice-read-if1
-    mul-if1-2
-    shared-slice-read-if1-2
-    returns
-    mul-wide
-    shared-slice-read-wide
-    (λ c κs. search needs)
-    mul-wide-2
-    shared-slice-read-wide-2
-    (λ c κs. search needs)
-    (λ c. search needs)
-    (λ c. search needs)
-    loop-again
-    returns-2)
+    tie.close (tie.spec
+    Inv-loop μ-loop loop-holds mul-if1 shared-slice-read-if1 mul-if1-2 shared-slice-read-if1-2 returns mul-wide shared-slice-read-wide
+    (λ c κs. search needs) mul-wide-2 shared-slice-read-wide-2 (λ c κs. search needs) (λ c. search needs) (λ c. search needs) loop-again returns-2)

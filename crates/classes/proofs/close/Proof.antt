@@ -89,24 +89,6 @@ loop-again-3 c = closing-again _ _ _ _ _ _ _ (c .before .before .loop .inv)
 
 pub close-spec : {M : Type 1} → statement M
 close-spec =
-    tie.close
-    (tie.spec
-    Inv-loop
-    μ-loop
-    loop-holds
-    step-at-requires
-    (λ c. search needs)
-    (λ c. search needs)
-    loop-less
-    loop-again
-    (λ c. search needs)
-    same-length
-    returns
-    (λ c. search needs)
-    join-requires
-    loop-less-2
-    loop-again-2
-    same-length-2
-    returns-2
-    loop-less-3
-    loop-again-3)
+    tie.close (tie.spec
+    Inv-loop μ-loop loop-holds step-at-requires (λ c. search needs) (λ c. search needs) loop-less loop-again (λ c. search needs) same-length returns
+    (λ c. search needs) join-requires loop-less-2 loop-again-2 same-length-2 returns-2 loop-less-3 loop-again-3)

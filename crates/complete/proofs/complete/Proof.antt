@@ -37,13 +37,5 @@ returns-3 c =
 
 pub complete-spec : {M : Type 1} → statement M
 complete-spec =
-    tie.close
-    (tie.spec
-    returns
-    (λ c κs. search needs)
-    (λ c. search needs)
-    (λ c. search needs)
-    accepted-requires
-    returns-2
-    (λ c. search needs)
-    returns-3)
+    tie.close (tie.spec
+    returns (λ c κs. search needs) (λ c. search needs) (λ c. search needs) accepted-requires returns-2 (λ c. search needs) returns-3)

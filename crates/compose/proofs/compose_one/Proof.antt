@@ -75,22 +75,7 @@ returns-3 c =
 
 pub compose-one-spec : {M : Type 1} → statement M
 compose-one-spec =
-    tie.close
-    (tie.spec
-    right-requires
-    (λ c. search needs)
-    (λ c κs. search needs)
-    (λ c. search needs)
-    (λ c. search needs)
-    (λ c. search needs)
-    (λ c. search needs)
-    part-put-right-end
-    put-right-requires
-    (λ c. search needs)
-    (λ c. search needs)
-    same-length
-    returns
-    (λ c. search needs)
-    returns-2
-    (λ c. search needs)
-    returns-3)
+    tie.close (tie.spec
+    right-requires (λ c. search needs) (λ c κs. search needs) (λ c. search needs) (λ c. search needs)
+    (λ c. search needs) (λ c. search needs) part-put-right-end put-right-requires (λ c. search needs)
+    (λ c. search needs) same-length returns (λ c. search needs) returns-2 (λ c. search needs) returns-3)

@@ -76,21 +76,7 @@ returns c =
 
 pub put-pair-spec : {M : Type 1} → statement M
 put-pair-spec =
-    tie.close
-    (tie.spec
-    (λ c. search needs)
-    write-requires
-    (λ c. search needs)
-    write-requires-2
-    (λ c. search needs)
-    rename-front-requires
-    (λ c. search needs)
-    (λ c. search needs)
-    (λ c. search needs)
-    part-put-sides-end
-    sub-put-sides-2
-    part-put-sides-start-2
-    part-put-sides-end-2
-    put-sides-requires
-    (λ c. search needs)
-    returns)
+    tie.close (tie.spec
+    (λ c. search needs) write-requires (λ c. search needs) write-requires-2 (λ c. search needs) rename-front-requires
+    (λ c. search needs) (λ c. search needs) (λ c. search needs) part-put-sides-end sub-put-sides-2
+    part-put-sides-start-2 part-put-sides-end-2 put-sides-requires (λ c. search needs) returns)

@@ -52,11 +52,6 @@ returns-2 c =
 
 pub put-equation-spec : {M : Type 1} → statement M
 put-equation-spec =
-    tie.close
-    (tie.spec
-    (λ c. search needs) (λ c. search needs) (λ c κs. search needs)
-    (λ c. search needs) (λ c κs. search needs)
-    (λ c κs. search needs) (λ c. search needs) (λ c. search needs)
-    add-put-sides put-sides-requires
-    (λ c. search needs) returns
-    (λ c. search needs) returns-2)
+    tie.close (tie.spec
+    (λ c. search needs) (λ c. search needs) (λ c κs. search needs) (λ c. search needs) (λ c κs. search needs) (λ c κs. search needs) (λ c. search needs)
+    (λ c. search needs) add-put-sides put-sides-requires (λ c. search needs) returns (λ c. search needs) returns-2)

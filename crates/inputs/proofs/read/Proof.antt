@@ -51,10 +51,6 @@ returns c =
 
 pub read-spec : {M : Type 1} → statement M
 read-spec =
-    tie.close
-    (tie.spec
-    Inv-loop μ-loop
-    loop-holds
-    (λ c. search needs) (λ c. search needs) (λ c. search needs) (λ c. search needs) put-equation-requires
-    (λ c. search needs) (λ c. search needs) loop-again
-    returns)
+    tie.close (tie.spec
+    Inv-loop μ-loop loop-holds (λ c. search needs) (λ c. search needs) (λ c. search needs) (λ c. search needs) put-equation-requires (λ c. search needs)
+    (λ c. search needs) loop-again returns)

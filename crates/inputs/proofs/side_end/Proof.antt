@@ -66,17 +66,5 @@ returns-3 c =
 
 pub side-end-spec : {M : Type 1} → statement M
 side-end-spec =
-    tie.close
-    (tie.spec
-    Inv-loop
-    μ-loop
-    (λ c κs. search needs)
-    loop-holds
-    sub-if1
-    returns
-    shared-slice-read-if2
-    returns-2
-    add-i
-    loop-less
-    loop-again
-    returns-3)
+    tie.close (tie.spec
+    Inv-loop μ-loop (λ c κs. search needs) loop-holds sub-if1 returns shared-slice-read-if2 returns-2 add-i loop-less loop-again returns-3)

@@ -65,18 +65,6 @@ returns-3 c =
 
 pub common-instance-spec : {M : Type 1} → statement M
 common-instance-spec =
-    tie.close
-    (tie.spec
-    (λ c. search needs)
-    (λ c. search needs)
-    (λ c. search needs)
-    unify-requires
-    (λ c. search needs)
-    (λ c κs. search needs)
-    returns
-    (λ c. search needs)
-    (λ c. search needs)
-    write-instance-requires
-    (λ c. search needs)
-    returns-2
-    returns-3)
+    tie.close (tie.spec
+    (λ c. search needs) (λ c. search needs) (λ c. search needs) unify-requires (λ c. search needs) (λ c κs. search needs) returns (λ c. search needs)
+    (λ c. search needs) write-instance-requires (λ c. search needs) returns-2 returns-3)

@@ -62,14 +62,6 @@ returns c =
 
 pub write-instance-spec : {M : Type 1} → statement M
 write-instance-spec =
-    tie.close
-    (tie.spec
-    (λ c. search needs)
-    write-requires
-    (λ c. search needs)
-    rename-front-requires
-    array-share-prefix-out
-    slice-aggregate-put-field
-    put-field-requires
-    (λ c. search needs)
-    returns)
+    tie.close (tie.spec
+    (λ c. search needs) write-requires (λ c. search needs) rename-front-requires array-share-prefix-out
+    slice-aggregate-put-field put-field-requires (λ c. search needs) returns)

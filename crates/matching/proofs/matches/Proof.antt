@@ -58,20 +58,6 @@ returns-3 c =
 
 pub matches-spec : {M : Type 1} → statement M
 matches-spec =
-    tie.close
-    (tie.spec
-    Inv-loop
-    μ-loop
-    (λ c κs. search needs)
-    loop-holds
-    (λ c. search needs)
-    returns
-    (λ c. search needs)
-    advance-requires
-    (λ c. search needs)
-    returns-2
-    (λ c. search needs)
-    (λ c. search needs)
-    loop-again
-    (λ c. search needs)
-    returns-3)
+    tie.close (tie.spec
+    Inv-loop μ-loop (λ c κs. search needs) loop-holds (λ c. search needs) returns (λ c. search needs) advance-requires
+    (λ c. search needs) returns-2 (λ c. search needs) (λ c. search needs) loop-again (λ c. search needs) returns-3)

@@ -77,27 +77,7 @@ returns-3 c =
 
 pub put-piece-spec : {M : Type 1} → statement M
 put-piece-spec =
-    tie.close
-    (tie.spec
-    (λ c κs. search needs)
-    (λ c κs. search needs)
-    (λ c. search needs)
-    returns
-    (λ c. search needs)
-    mul-c
-    shared-slice-read-c
-    (λ c. search needs)
-    (λ c κs. search needs)
-    (λ c κs. search needs)
-    (λ c. search needs)
-    returns-2
-    (λ c κs. search needs)
-    sub-put-run
-    add-put-run
-    mul-put-run
-    (λ c. search needs)
-    (λ c. search needs)
-    part-put-run-end
-    (λ c κs. search needs)
-    (λ c. search needs)
-    returns-3)
+    tie.close (tie.spec
+    (λ c κs. search needs) (λ c κs. search needs) (λ c. search needs) returns (λ c. search needs) mul-c shared-slice-read-c (λ c. search needs)
+    (λ c κs. search needs) (λ c κs. search needs) (λ c. search needs) returns-2 (λ c κs. search needs) sub-put-run add-put-run mul-put-run
+    (λ c. search needs) (λ c. search needs) part-put-run-end (λ c κs. search needs) (λ c. search needs) returns-3)

@@ -26,13 +26,5 @@ returns-5 c =
 
 pub formed-spec : {M : Type 1} → statement M
 formed-spec =
-    tie.close
-    (tie.spec
-    returns
-    (λ c. search needs)
-    returns-2
-    returns-3
-    (λ c κs. search needs)
-    returns-4
-    (λ c. search needs)
-    returns-5)
+    tie.close (tie.spec
+    returns (λ c. search needs) returns-2 returns-3 (λ c κs. search needs) returns-4 (λ c. search needs) returns-5)

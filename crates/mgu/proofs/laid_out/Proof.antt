@@ -40,15 +40,5 @@ returns-2 c = forest-done _ _ _ _ (c .before .loop .inv) (c .loop-test .left)
 
 pub laid-out-spec : {M : Type 1} → statement M
 laid-out-spec =
-    tie.close
-    (tie.spec
-    Inv-loop
-    μ-loop
-    loop-holds
-    (λ c. search needs)
-    shared-slice-read-formed
-    formed-requires
-    returns
-    (λ c. search needs)
-    loop-again
-    returns-2)
+    tie.close (tie.spec
+    Inv-loop μ-loop loop-holds (λ c. search needs) shared-slice-read-formed formed-requires returns (λ c. search needs) loop-again returns-2)

@@ -51,15 +51,6 @@ returns-2 c =
 
 pub unify-spec : {M : Type 1} → statement M
 unify-spec =
-    tie.close
-    (tie.spec
-    begin-requires
-    close-requires
-    measure-requires
-    (λ c. search needs)
-    (λ c. search needs)
-    (λ c. search needs)
-    returns
-    (λ c. search needs)
-    (λ c. search needs)
-    returns-2)
+    tie.close (tie.spec
+    begin-requires close-requires measure-requires (λ c. search needs) (λ c. search needs) (λ c. search needs) returns
+    (λ c. search needs) (λ c. search needs) returns-2)

@@ -42,15 +42,5 @@ returns c =
 
 pub names-of-spec : {M : Type 1} → statement M
 names-of-spec =
-    tie.close
-    (tie.spec
-    Inv-loop
-    μ-loop
-    loop-holds
-    (λ c. search needs)
-    add-name-requires
-    (λ c. search needs)
-    (λ c. search needs)
-    loop-again
-    same-length
-    returns)
+    tie.close (tie.spec
+    Inv-loop μ-loop loop-holds (λ c. search needs) add-name-requires (λ c. search needs) (λ c. search needs) loop-again same-length returns)

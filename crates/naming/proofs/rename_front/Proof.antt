@@ -18,12 +18,5 @@ returns c =
 
 pub rename-front-spec : {M : Type 1} → statement M
 rename-front-spec =
-    tie.close
-    (tie.spec
-    (λ c. search needs)
-    (λ c. search needs)
-    (λ c. search needs)
-    (λ c. search needs)
-    rename-requires
-    (λ c. search needs)
-    returns)
+    tie.close (tie.spec
+    (λ c. search needs) (λ c. search needs) (λ c. search needs) (λ c. search needs) rename-requires (λ c. search needs) returns)

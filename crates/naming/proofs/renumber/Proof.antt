@@ -39,16 +39,6 @@ returns c = mapped-end _ _ _ _ (c .before .loop .inv) (c .loop-test .left)
 
 pub renumber-spec : {M : Type 1} → statement M
 renumber-spec =
-    tie.close
-    (tie.spec
-    Inv-loop
-    μ-loop
-    loop-holds
-    slice-read-b
-    (λ c κs. search needs)
-    slice-write-bytes
-    (λ c. search needs)
-    (λ c. search needs)
-    loop-again
-    same-length
-    returns)
+    tie.close (tie.spec
+    Inv-loop μ-loop loop-holds slice-read-b (λ c κs. search needs) slice-write-bytes (λ c. search needs)
+    (λ c. search needs) loop-again same-length returns)

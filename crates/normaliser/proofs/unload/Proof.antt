@@ -46,17 +46,6 @@ returns c =
 
 pub unload-spec : {M : Type 1} → statement M
 unload-spec =
-    tie.close
-    (tie.spec
-    Inv-loop
-    μ-loop
-    loop-holds
-    (λ c. search needs)
-    (λ c. search needs)
-    (λ c κs. search needs)
-    slice-write-t
-    (λ c. search needs)
-    (λ c. search needs)
-    loop-again
-    same-length
-    returns)
+    tie.close (tie.spec
+    Inv-loop μ-loop loop-holds (λ c. search needs) (λ c. search needs) (λ c κs. search needs) slice-write-t
+    (λ c. search needs) (λ c. search needs) loop-again same-length returns)

@@ -76,19 +76,6 @@ returns-4 c =
 
 pub sides-spec : {M : Type 1} → statement M
 sides-spec =
-    tie.close
-    (tie.spec
-    (λ c κs. search needs)
-    (λ c. search needs)
-    (λ c. search needs)
-    field-at-requires
-    (λ c. search needs)
-    (λ c. search needs)
-    returns
-    sub-term-end
-    part-term-end-start
-    part-term-end-end
-    term-end-requires
-    returns-2
-    returns-3
-    returns-4)
+    tie.close (tie.spec
+    (λ c κs. search needs) (λ c. search needs) (λ c. search needs) field-at-requires (λ c. search needs) (λ c. search needs) returns sub-term-end
+    part-term-end-start part-term-end-end term-end-requires returns-2 returns-3 returns-4)

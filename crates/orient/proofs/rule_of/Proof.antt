@@ -45,10 +45,6 @@ returns-3 c =
 
 pub rule-of-spec : {M : Type 1} → statement M
 rule-of-spec =
-    tie.close
-    (tie.spec
-    (λ c κs. search needs) (λ c κs. search needs) (λ c κs. search needs)
-    (λ c. search needs) placed-requires
-    (λ c. search needs) placed-requires-2
-    (λ c. search needs)
-    returns returns-2 returns-3)
+    tie.close (tie.spec
+    (λ c κs. search needs) (λ c κs. search needs) (λ c κs. search needs) (λ c. search needs) placed-requires (λ c. search needs) placed-requires-2
+    (λ c. search needs) returns returns-2 returns-3)

@@ -27,14 +27,5 @@ returns c = see-all _ _ _ _ (c .loop-test .left) (c .before .loop .inv)
 
 pub with-bytes-spec : {M : Type 1} → statement M
 with-bytes-spec =
-    tie.close
-    (tie.spec
-    Inv-loop
-    μ-loop
-    loop-holds
-    (λ c. search needs)
-    (λ c κs. search needs)
-    (λ c. search needs)
-    (λ c. search needs)
-    loop-again
-    returns)
+    tie.close (tie.spec
+    Inv-loop μ-loop loop-holds (λ c. search needs) (λ c κs. search needs) (λ c. search needs) (λ c. search needs) loop-again returns)

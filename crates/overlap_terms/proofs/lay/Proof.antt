@@ -40,18 +40,6 @@ returns c = laying-end _ _ _ _ _ _ (c .before .loop .inv) (c .loop-test .left)
 
 pub lay-spec : {M : Type 1} → statement M
 lay-spec =
-    tie.close
-    (tie.spec
-    Inv-loop
-    μ-loop
-    loop-holds
-    (λ c. search needs)
-    (λ c κs. search needs)
-    (λ c. search needs)
-    slice-write-nodes
-    (λ c. search needs)
-    (λ c. search needs)
-    loop-again
-    add-result
-    same-length
-    returns)
+    tie.close (tie.spec
+    Inv-loop μ-loop loop-holds (λ c. search needs) (λ c κs. search needs) (λ c. search needs) slice-write-nodes
+    (λ c. search needs) (λ c. search needs) loop-again add-result same-length returns)

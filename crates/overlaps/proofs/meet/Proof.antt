@@ -26,15 +26,6 @@ returns c =
 
 pub meet-spec : {M : Type 1} → statement M
 meet-spec =
-    tie.close
-    (tie.spec
-    (λ c. search needs)
-    (λ c κs. search needs)
-    (λ c. search needs)
-    sub-t17
-    (λ c. search needs)
-    (λ c. search needs)
-    (λ c. search needs)
-    solve-requires
-    (λ c. search needs)
-    returns)
+    tie.close (tie.spec
+    (λ c. search needs) (λ c κs. search needs) (λ c. search needs) sub-t17 (λ c. search needs) (λ c. search needs)
+    (λ c. search needs) solve-requires (λ c. search needs) returns)

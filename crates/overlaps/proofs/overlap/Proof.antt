@@ -45,13 +45,5 @@ returns-2 c =
 
 pub overlap-spec : {M : Type 1} → statement M
 overlap-spec =
-    tie.close
-    (tie.spec
-    (λ c κs. search needs)
-    returns
-    (λ c κs. search needs)
-    (λ c κs. search needs)
-    (λ c κs. search needs)
-    meet-requires
-    (λ c. search needs)
-    returns-2)
+    tie.close (tie.spec
+    (λ c κs. search needs) returns (λ c κs. search needs) (λ c κs. search needs) (λ c κs. search needs) meet-requires (λ c. search needs) returns-2)

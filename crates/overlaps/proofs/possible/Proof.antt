@@ -29,12 +29,5 @@ returns-3 c =
 
 pub possible-spec : {M : Type 1} → statement M
 possible-spec =
-    tie.close
-    (tie.spec
-    (λ c κs. search needs)
-    returns
-    (λ c. search needs)
-    returns-2
-    (λ c κs. search needs)
-    (λ c κs. search needs)
-    returns-3)
+    tie.close (tie.spec
+    (λ c κs. search needs) returns (λ c. search needs) returns-2 (λ c κs. search needs) (λ c κs. search needs) returns-3)

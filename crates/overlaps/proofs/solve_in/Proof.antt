@@ -73,23 +73,7 @@ returns-4 c =
 
 pub solve-in-spec : {M : Type 1} → statement M
 solve-in-spec =
-    tie.close
-    (tie.spec
-    (λ c κs. search needs)
-    returns
-    unify-requires
-    (λ c. search needs)
-    (λ c. search needs)
-    (λ c. search needs)
-    returns-2
-    place-requires
-    (λ c. search needs)
-    (λ c. search needs)
-    (λ c. search needs)
-    (λ c. search needs)
-    returns-3
-    (λ c. search needs)
-    (λ c. search needs)
-    (λ c. search needs)
-    (λ c. search needs)
-    returns-4)
+    tie.close (tie.spec
+    (λ c κs. search needs) returns unify-requires (λ c. search needs) (λ c. search needs) (λ c. search needs) returns-2
+    place-requires (λ c. search needs) (λ c. search needs) (λ c. search needs) (λ c. search needs) returns-3
+    (λ c. search needs) (λ c. search needs) (λ c. search needs) (λ c. search needs) returns-4)

@@ -41,16 +41,6 @@ returns-2 c = fields-end _ _ _ _ _ (c .before .loop .inv .2) (c .loop-test .left
 
 pub equations-spec : {M : Type 1} → statement M
 equations-spec =
-    tie.close
-    (tie.spec
-    Inv-loop
-    μ-loop
-    loop-holds
-    (λ c κs. search needs)
-    (λ c. search needs)
-    returns
-    (λ c. search needs)
-    (λ c. search needs)
-    loop-less
-    loop-again
-    returns-2)
+    tie.close (tie.spec
+    Inv-loop μ-loop loop-holds (λ c κs. search needs) (λ c. search needs) returns (λ c. search needs)
+    (λ c. search needs) loop-less loop-again returns-2)

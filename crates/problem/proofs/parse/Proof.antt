@@ -59,18 +59,6 @@ returns-4 c =
 
 pub parse-spec : {M : Type 1} → statement M
 parse-spec =
-    tie.close
-    (tie.spec
-    returns
-    (λ c κs. search needs)
-    (λ c. search needs)
-    (λ c. search needs)
-    sub-parse-rest
-    part-parse-rest-start
-    part-parse-rest-end
-    parse-rest-requires
-    (λ c. search needs)
-    (λ c. search needs)
-    returns-2
-    returns-3
-    returns-4)
+    tie.close (tie.spec
+    returns (λ c κs. search needs) (λ c. search needs) (λ c. search needs) sub-parse-rest part-parse-rest-start
+    part-parse-rest-end parse-rest-requires (λ c. search needs) (λ c. search needs) returns-2 returns-3 returns-4)

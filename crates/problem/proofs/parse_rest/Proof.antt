@@ -68,19 +68,6 @@ returns-4 c =
 
 pub parse-rest-spec : {M : Type 1} → statement M
 parse-rest-spec =
-    tie.close
-    (tie.spec
-    (λ c κs. search needs)
-    (λ c. search needs)
-    (λ c. search needs)
-    budget-requires
-    (λ c. search needs)
-    (λ c. search needs)
-    equations-requires
-    (λ c. search needs)
-    (λ c. search needs)
-    add-t19
-    returns
-    returns-2
-    returns-3
-    returns-4)
+    tie.close (tie.spec
+    (λ c κs. search needs) (λ c. search needs) (λ c. search needs) budget-requires (λ c. search needs) (λ c. search needs) equations-requires
+    (λ c. search needs) (λ c. search needs) add-t19 returns returns-2 returns-3 returns-4)

@@ -72,23 +72,7 @@ returns-5 c =
 
 pub symbols-spec : {M : Type 1} → statement M
 symbols-spec =
-    tie.close
-    (tie.spec
-    (λ c κs. search needs)
-    (λ c. search needs)
-    (λ c. search needs)
-    sub-check-symbols
-    part-check-symbols-start
-    part-check-symbols-end
-    (λ c κs. search needs)
-    (λ c. search needs)
-    (λ c. search needs)
-    (λ c. search needs)
-    add-t15
-    (λ c. search needs)
-    add-t16
-    returns
-    returns-2
-    returns-3
-    returns-4
-    returns-5)
+    tie.close (tie.spec
+    (λ c κs. search needs) (λ c. search needs) (λ c. search needs) sub-check-symbols part-check-symbols-start
+    part-check-symbols-end (λ c κs. search needs) (λ c. search needs) (λ c. search needs) (λ c. search needs) add-t15
+    (λ c. search needs) add-t16 returns returns-2 returns-3 returns-4 returns-5)

@@ -49,16 +49,6 @@ returns-2 c =
 
 pub is-renamed-spec : {M : Type 1} → statement M
 is-renamed-spec =
-    tie.close
-    (tie.spec
-    Inv-loop
-    μ-loop
-    loop-holds
-    (λ c. search needs)
-    (λ c κs. search needs)
-    returns
-    next-after-requires
-    (λ c. search needs)
-    (λ c. search needs)
-    loop-again
-    returns-2)
+    tie.close (tie.spec
+    Inv-loop μ-loop loop-holds (λ c. search needs) (λ c κs. search needs) returns next-after-requires
+    (λ c. search needs) (λ c. search needs) loop-again returns-2)

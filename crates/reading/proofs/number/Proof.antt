@@ -40,17 +40,6 @@ returns c = counted-end _ _ _ _ _ (c .before .loop .inv) (c .loop-test .left)
 
 pub number-spec : {M : Type 1} → statement M
 number-spec =
-    tie.close
-    (tie.spec
-    Inv-loop
-    μ-loop
-    loop-holds
-    mul-n
-    (λ c. search needs)
-    (λ c. search needs)
-    (λ c κs. search needs)
-    add-n
-    (λ c. search needs)
-    (λ c. search needs)
-    loop-again
-    returns)
+    tie.close (tie.spec
+    Inv-loop μ-loop loop-holds mul-n (λ c. search needs) (λ c. search needs) (λ c κs. search needs) add-n
+    (λ c. search needs) (λ c. search needs) loop-again returns)

@@ -33,16 +33,6 @@ returns-2 c = seen-none _ _ _ (c .loop-test .left) ∙ c .before .loop .inv .1
 
 pub rank-seen-spec : {M : Type 1} → statement M
 rank-seen-spec =
-    tie.close
-    (tie.spec
-    Inv-loop
-    μ-loop
-    loop-holds
-    (λ c. search needs)
-    (λ c. search needs)
-    (λ c. search needs)
-    (λ c. search needs)
-    returns
-    (λ c. search needs)
-    loop-again
-    returns-2)
+    tie.close (tie.spec
+    Inv-loop μ-loop loop-holds (λ c. search needs) (λ c. search needs) (λ c. search needs) (λ c. search needs) returns
+    (λ c. search needs) loop-again returns-2)

@@ -95,30 +95,8 @@ returns-4 c =
 
 pub rewrite-spec : {M : Type 1} → statement M
 rewrite-spec =
-    tie.close
-    (tie.spec
-    (λ c. search needs)
-    (λ c κs. search needs)
-    (λ c. search needs)
-    (λ c. search needs)
-    (λ c. search needs)
-    part-find-end
-    (λ c. search needs)
-    (λ c κs. search needs)
-    (λ c κs. search needs)
-    (λ c. search needs)
-    returns
-    (λ c κs. search needs)
-    (λ c. search needs)
-    returns-2
-    right-requires
-    (λ c. search needs)
-    replace-requires
-    (λ c. search needs)
-    (λ c κs. search needs)
-    same-length-3
-    returns-3
-    (λ c. search needs)
-    (λ c κs. search needs)
-    same-length-4
-    returns-4)
+    tie.close (tie.spec
+    (λ c. search needs) (λ c κs. search needs) (λ c. search needs) (λ c. search needs) (λ c. search needs) part-find-end
+    (λ c. search needs) (λ c κs. search needs) (λ c κs. search needs) (λ c. search needs) returns (λ c κs. search needs)
+    (λ c. search needs) returns-2 right-requires (λ c. search needs) replace-requires (λ c. search needs)
+    (λ c κs. search needs) same-length-3 returns-3 (λ c. search needs) (λ c κs. search needs) same-length-4 returns-4)

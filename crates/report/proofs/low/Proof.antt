@@ -31,14 +31,5 @@ returns-2 c = looking-end _ _ (c .before .loop .inv) (c .loop-test .left)
 
 pub low-spec : {M : Type 1} → statement M
 low-spec =
-    tie.close
-    (tie.spec
-    Inv-loop
-    μ-loop
-    loop-holds
-    (λ c. search needs)
-    returns
-    (λ c. search needs)
-    (λ c. search needs)
-    loop-again
-    returns-2)
+    tie.close (tie.spec
+    Inv-loop μ-loop loop-holds (λ c. search needs) returns (λ c. search needs) (λ c. search needs) loop-again returns-2)

@@ -69,16 +69,6 @@ returns-4 c =
 
 pub put-forms-if-spec : {M : Type 1} → statement M
 put-forms-if-spec =
-    tie.close
-    (tie.spec
-    (λ c. search needs)
-    returns
-    (λ c κs. search needs)
-    (λ c κs. search needs)
-    (λ c κs. search needs)
-    returns-2
-    (λ c κs. search needs)
-    returns-3
-    put-forms-requires
-    (λ c. search needs)
-    returns-4)
+    tie.close (tie.spec
+    (λ c. search needs) returns (λ c κs. search needs) (λ c κs. search needs) (λ c κs. search needs) returns-2
+    (λ c κs. search needs) returns-3 put-forms-requires (λ c. search needs) returns-4)

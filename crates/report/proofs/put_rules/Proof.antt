@@ -41,14 +41,5 @@ returns c =
 
 pub put-rules-spec : {M : Type 1} → statement M
 put-rules-spec =
-    tie.close
-    (tie.spec
-    Inv-loop
-    μ-loop
-    loop-holds
-    put-rule-requires
-    (λ c. search needs)
-    (λ c. search needs)
-    loop-again
-    same-length
-    returns)
+    tie.close (tie.spec
+    Inv-loop μ-loop loop-holds put-rule-requires (λ c. search needs) (λ c. search needs) loop-again same-length returns)

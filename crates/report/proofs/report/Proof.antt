@@ -64,15 +64,6 @@ returns c =
 
 pub report-spec : {M : Type 1} → statement M
 report-spec =
-    tie.close
-    (tie.spec
-    (λ c κs. search needs)
-    (λ c. search needs)
-    (λ c κs. search needs)
-    (λ c κs. search needs)
-    put-rules-requires
-    (λ c κs. search needs)
-    slice-aggregate-put-forms-if
-    (λ c κs. search needs)
-    (λ c. search needs)
-    returns)
+    tie.close (tie.spec
+    (λ c κs. search needs) (λ c. search needs) (λ c κs. search needs) (λ c κs. search needs) put-rules-requires
+    (λ c κs. search needs) slice-aggregate-put-forms-if (λ c κs. search needs) (λ c. search needs) returns)

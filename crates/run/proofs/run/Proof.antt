@@ -57,17 +57,6 @@ loop-again c =
 
 pub run-spec : {M : Type 1} → statement M
 run-spec =
-    tie.close
-    (tie.spec
-    Inv-loop
-    μ-loop
-    (λ c κs. search needs)
-    turn-requires
-    loop-holds
-    (λ c. search needs)
-    ended-requires
-    returns
-    (λ c. search needs)
-    turn-requires-2
-    loop-less
-    loop-again)
+    tie.close (tie.spec
+    Inv-loop μ-loop (λ c κs. search needs) turn-requires loop-holds (λ c. search needs) ended-requires returns
+    (λ c. search needs) turn-requires-2 loop-less loop-again)

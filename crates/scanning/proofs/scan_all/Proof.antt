@@ -32,12 +32,5 @@ returns-2 c =
 
 pub scan-all-spec : {M : Type 1} → statement M
 scan-all-spec =
-    tie.close
-    (tie.spec
-    (λ c κs. search needs)
-    (λ c. search needs)
-    (λ c. search needs)
-    returns
-    scan-inputs-requires
-    (λ c. search needs)
-    returns-2)
+    tie.close (tie.spec
+    (λ c κs. search needs) (λ c. search needs) (λ c. search needs) returns scan-inputs-requires (λ c. search needs) returns-2)

@@ -63,21 +63,6 @@ returns-3 c =
 
 pub scan-at-spec : {M : Type 1} → statement M
 scan-at-spec =
-    tie.close
-    (tie.spec
-    (λ c. search needs)
-    overlap-requires
-    (λ c. search needs)
-    (λ c κs. search needs)
-    (λ c. search needs)
-    (λ c κs. search needs)
-    (λ c. search needs)
-    overlapping-requires
-    (λ c. search needs)
-    (λ c κs. search needs)
-    (λ c. search needs)
-    join-requires
-    returns
-    returns-2
-    (λ c. search needs)
-    returns-3)
+    tie.close (tie.spec
+    (λ c. search needs) overlap-requires (λ c. search needs) (λ c κs. search needs) (λ c. search needs) (λ c κs. search needs) (λ c. search needs)
+    overlapping-requires (λ c. search needs) (λ c κs. search needs) (λ c. search needs) join-requires returns returns-2 (λ c. search needs) returns-3)

@@ -86,23 +86,7 @@ returns-2 c =
 
 pub scan-inputs-spec : {M : Type 1} → statement M
 scan-inputs-spec =
-    tie.close
-    (tie.spec
-    Inv-loop
-    μ-loop
-    loop-holds
-    (λ c. search needs)
-    cast-numbered
-    (λ c κs. search needs)
-    (λ c. search needs)
-    put-mark-requires
-    join-requires
-    (λ c. search needs)
-    (λ c. search needs)
-    returns
-    (λ c. search needs)
-    (λ c. search needs)
-    loop-again
-    (λ c κs. search needs)
-    (λ c. search needs)
-    returns-2)
+    tie.close (tie.spec
+    Inv-loop μ-loop loop-holds (λ c. search needs) cast-numbered (λ c κs. search needs) (λ c. search needs)
+    put-mark-requires join-requires (λ c. search needs) (λ c. search needs) returns (λ c. search needs)
+    (λ c. search needs) loop-again (λ c κs. search needs) (λ c. search needs) returns-2)

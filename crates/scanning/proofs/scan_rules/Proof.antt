@@ -93,20 +93,6 @@ returns-2 c =
 
 pub scan-rules-spec : {M : Type 1} → statement M
 scan-rules-spec =
-    tie.close
-    (tie.spec
-    Inv-loop
-    μ-loop
-    (λ c κs. search needs)
-    loop-holds
-    possible-requires
-    scan-at-requires
-    (λ c. search needs)
-    (λ c. search needs)
-    returns
-    next-requires
-    loop-less
-    loop-again
-    (λ c κs. search needs)
-    (λ c. search needs)
-    returns-2)
+    tie.close (tie.spec
+    Inv-loop μ-loop (λ c κs. search needs) loop-holds possible-requires scan-at-requires (λ c. search needs)
+    (λ c. search needs) returns next-requires loop-less loop-again (λ c κs. search needs) (λ c. search needs) returns-2)

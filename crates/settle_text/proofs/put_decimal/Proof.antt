@@ -51,22 +51,6 @@ returns c =
 
 pub put-decimal-spec : {M : Type 1} → statement M
 put-decimal-spec =
-    tie.close
-    (tie.spec
-    Inv-loop
-    μ-loop
-    (λ c κs. search needs)
-    loop-holds
-    sub-left
-    (λ c. search needs)
-    (λ c. search needs)
-    add-out-2
-    slice-write-out
-    (λ c. search needs)
-    loop-again
-    (λ c. search needs)
-    (λ c. search needs)
-    slice-write-out-2
-    (λ c. search needs)
-    same-length
-    returns)
+    tie.close (tie.spec
+    Inv-loop μ-loop (λ c κs. search needs) loop-holds sub-left (λ c. search needs) (λ c. search needs) add-out-2 slice-write-out (λ c. search needs)
+    loop-again (λ c. search needs) (λ c. search needs) slice-write-out-2 (λ c. search needs) same-length returns)

@@ -54,13 +54,6 @@ returns c =
 
 pub put-line-spec : {M : Type 1} → statement M
 put-line-spec =
-    tie.close
-    (tie.spec
-    (λ c κs. search needs)
-    (λ c κs. search needs)
-    put-decimal-requires
-    put-byte-requires-2
-    put-hexes-requires
-    put-byte-requires-3
-    (λ c. search needs)
-    returns)
+    tie.close (tie.spec
+    (λ c κs. search needs) (λ c κs. search needs) put-decimal-requires put-byte-requires-2 put-hexes-requires
+    put-byte-requires-3 (λ c. search needs) returns)

@@ -94,21 +94,6 @@ returns-2 c =
 
 pub put-lines-spec : {M : Type 1} → statement M
 put-lines-spec =
-    tie.close
-    (tie.spec
-    Inv-loop
-    μ-loop
-    loop-holds
-    (λ c κs. search needs)
-    (λ c. search needs)
-    same-length
-    returns
-    (λ c. search needs)
-    sub-put-line
-    part-put-line-start
-    part-put-line-end
-    put-line-requires
-    loop-less
-    loop-again
-    same-length-2
-    returns-2)
+    tie.close (tie.spec
+    Inv-loop μ-loop loop-holds (λ c κs. search needs) (λ c. search needs) same-length returns (λ c. search needs)
+    sub-put-line part-put-line-start part-put-line-end put-line-requires loop-less loop-again same-length-2 returns-2)

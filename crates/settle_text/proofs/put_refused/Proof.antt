@@ -55,15 +55,6 @@ returns c =
 
 pub put-refused-spec : {M : Type 1} → statement M
 put-refused-spec =
-    tie.close
-    (tie.spec
-    (λ c. search needs)
-    (λ c κs. search needs)
-    put-decimal-requires
-    (λ c. search needs)
-    paste-requires-2
-    add-put-decimal
-    put-decimal-requires-2
-    put-byte-requires
-    (λ c. search needs)
-    returns)
+    tie.close (tie.spec
+    (λ c. search needs) (λ c κs. search needs) put-decimal-requires (λ c. search needs) paste-requires-2 add-put-decimal
+    put-decimal-requires-2 put-byte-requires (λ c. search needs) returns)

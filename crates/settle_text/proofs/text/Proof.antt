@@ -77,19 +77,6 @@ returns-2 c =
 
 pub text-spec : {M : Type 1} → statement M
 text-spec =
-    tie.close
-    (tie.spec
-    slice-aggregate-complete
-    complete-requires
-    enum-known-n
-    sub-put-lines
-    part-put-lines-start
-    part-put-lines-end
-    put-lines-requires
-    enum-known-number
-    wide-requires
-    put-refused-requires
-    same-length
-    returns
-    same-length-2
-    returns-2)
+    tie.close (tie.spec
+    slice-aggregate-complete complete-requires enum-known-n sub-put-lines part-put-lines-start part-put-lines-end
+    put-lines-requires enum-known-number wide-requires put-refused-requires same-length returns same-length-2 returns-2)

@@ -105,25 +105,6 @@ loop-again-4 c =
 
 pub fill-sizes-spec : {M : Type 1} → statement M
 fill-sizes-spec =
-    tie.close
-    (tie.spec
-    Inv-loop
-    μ-loop
-    loop-holds
-    (λ c. search needs)
-    slice-read-if2
-    size-at-requires
-    cast-sizes
-    slice-write-sizes
-    loop-less
-    loop-again
-    loop-less-2
-    loop-again-2
-    loop-less-3
-    loop-again-3
-    same-length
-    returns
-    same-length-2
-    returns-2
-    loop-less-4
-    loop-again-4)
+    tie.close (tie.spec
+    Inv-loop μ-loop loop-holds (λ c. search needs) slice-read-if2 size-at-requires cast-sizes slice-write-sizes loop-less loop-again loop-less-2
+    loop-again-2 loop-less-3 loop-again-3 same-length returns same-length-2 returns-2 loop-less-4 loop-again-4)

@@ -36,14 +36,6 @@ returns-2 c =
 
 pub size-at-spec : {M : Type 1} → statement M
 size-at-spec =
-    tie.close
-    (tie.spec
-    (λ c. search needs)
-    (λ c. search needs)
-    (λ c κs. search needs)
-    shared-slice-read-f
-    returns
-    (λ c κs. search needs)
-    (λ c. search needs)
-    total-requires
-    returns-2)
+    tie.close (tie.spec
+    (λ c. search needs) (λ c. search needs) (λ c κs. search needs) shared-slice-read-f returns (λ c κs. search needs)
+    (λ c. search needs) total-requires returns-2)

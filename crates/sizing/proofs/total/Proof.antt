@@ -70,20 +70,6 @@ returns-2 c = adding-end _ _ _ _ _ _ _ _ (c .before .loop .inv) (c .loop-test .l
 
 pub total-spec : {M : Type 1} → statement M
 total-spec =
-    tie.close
-    (tie.spec
-    Inv-loop
-    μ-loop
-    loop-holds
-    shared-slice-read-wide
-    (λ c κs. search needs)
-    returns
-    add-capped
-    (λ c κs. search needs)
-    mul-wide
-    shared-slice-read-wide-2
-    (λ c κs. search needs)
-    (λ c. search needs)
-    (λ c. search needs)
-    loop-again
-    returns-2)
+    tie.close (tie.spec
+    Inv-loop μ-loop loop-holds shared-slice-read-wide (λ c κs. search needs) returns add-capped (λ c κs. search needs) mul-wide shared-slice-read-wide-2
+    (λ c κs. search needs) (λ c. search needs) (λ c. search needs) loop-again returns-2)

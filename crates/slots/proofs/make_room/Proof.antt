@@ -48,18 +48,6 @@ returns c =
 
 pub make-room-spec : {M : Type 1} → statement M
 make-room-spec =
-    tie.close
-    (tie.spec
-    Inv-loop
-    μ-loop
-    (λ c. search needs)
-    (λ c. search needs)
-    loop-holds
-    (λ c. search needs)
-    slice-read-slots
-    add-slots
-    slice-write-slots
-    (λ c. search needs)
-    loop-again
-    same-length
-    returns)
+    tie.close (tie.spec
+    Inv-loop μ-loop (λ c. search needs) (λ c. search needs) loop-holds (λ c. search needs) slice-read-slots add-slots
+    slice-write-slots (λ c. search needs) loop-again same-length returns)

@@ -40,21 +40,7 @@ returns c =
 
 pub put-sides-spec : {M : Type 1} → statement M
 put-sides-spec =
-    tie.close
-    (tie.spec
-    (λ c. search needs)
-    (λ c. search needs)
-    (λ c κs. search needs)
-    (λ c. search needs)
-    (λ c. search needs)
-    (λ c. search needs)
-    (λ c. search needs)
-    (λ c. search needs)
-    (λ c. search needs)
-    paste-requires-2
-    (λ c. search needs)
-    (λ c. search needs)
-    (λ c. search needs)
-    slice-write-slots-2
-    same-length
-    returns)
+    tie.close (tie.spec
+    (λ c. search needs) (λ c. search needs) (λ c κs. search needs) (λ c. search needs) (λ c. search needs)
+    (λ c. search needs) (λ c. search needs) (λ c. search needs) (λ c. search needs) paste-requires-2 (λ c. search needs)
+    (λ c. search needs) (λ c. search needs) slice-write-slots-2 same-length returns)

@@ -8,10 +8,12 @@ use types.Run.{OneOf, miss}
 use Rattle.slots.proofs.Layouts.{layout-zeros}
 use Rattle.turn.specs.declared.Due.{Due}
 use Rattle.turn.specs.declared.Due.the-variants.{Stop, Settle, Make}
+use Rattle.state.specs.Run.{Fine}
+use Rattle.turn.specs.declared.Turned.{Turned}
+use Rattle.turn.specs.Turns.{Turns}
 use Rattle.turn.proofs.Due.{the-type}
 use Rattle.turn.proofs.Entries.{settle-room, make-room}
-use Rattle.turn.proofs.Parts.{settle-logs, settles, orient-room, collapse-room, compose-room, make-logs}
-use Rattle.turn.proofs.Parts.{makes-unplaced, makes-full, makes-rights-end, makes-goes}
+use Rattle.turn.proofs.Parts.{settle-logs, settles, orient-room, collapse-room, compose-room, make-logs, Makes, makes-unplaced, makes-full, makes-rights-end, makes-goes}
 use Rattle.turn.proofs.Whole.{turn-spent, look-room, began-fine, turn-ends, turn-settled, turn-made}
 use borrow.Author.Needs.{needs}
 use Rattle.turn.proofs.turn.Statement.{statement}
@@ -56,6 +58,27 @@ collapse-of-compose at = search depth 0
 
 abbrev else-of-compose : tie.After-compose → tie.Else2
 else-of-compose at = search depth 0
+
+-- behind `take` a rule is made of what was looked for, and the state that began its turn is fine
+abbrev begin-of-take : tie.After-take2 → tie.After-begin
+begin-of-take at = begin-of-look (look-of-mark (mark-of-take at))
+
+abbrev entry-of-take : tie.After-take2 → tie.Start
+entry-of-take at = entry-of-begin (begin-of-take at)
+
+begun-fine : (at : tie.After-take2) → Fine (begin-of-take at .begin .result)
+begun-fine at = began-fine (entry-of-take at .pre .0) (begin-of-take at .begin .ensures)
+
+to-make-of : (at : tie.After-take2) → due-of-mark (mark-of-take at) .due-after .result ≡ Make
+to-make-of at = to-make _ (mark-of-take at .before .before .match .keys2) (at .before .match2 .keys2)
+
+made : (at : tie.After-take2) {o : Turned} → Makes (entry-of-take at .args .table .now) (begin-of-take at .begin .result) (look-of-mark (mark-of-take at) .look .result) o →
+    Turns (entry-of-take at .args .table .now) (entry-of-take at .args .inputs .now) (entry-of-take at .args .count) (entry-of-take at .args .st) o
+made at M =
+    let at-mark = mark-of-take at in
+    let at-begin = begin-of-take at in
+    turn-made (entry-of-take at .pre .0) (else-of-begin at-begin .if1 .left) (at-begin .begin .ensures) (look-of-mark at-mark .look .ensures)
+    (due-of-mark at-mark .due-after .ensures) (to-make-of at) M
 
 returns : tie.Need-returns
 returns c =
@@ -125,24 +148,15 @@ slice-aggregate-orient c =
 orient-requires : tie.Need-orient-requires
 orient-requires c κs =
     let at-take : tie.After-take2 = search depth 0 in
-    let at-look = look-of-mark (mark-of-take at-take) in
-    let at-begin = begin-of-look at-look in
-    let begun = began-fine (entry-of-begin at-begin .pre .0) (at-begin .begin .ensures) in
-    (at-take .take2 .ensures .fine, orient-room begun (at-take .take2 .ensures), at-look .look .ensures .layout)
+    (at-take .take2 .ensures .fine, orient-room (begun-fine at-take) (at-take .take2 .ensures), look-of-mark (mark-of-take at-take) .look .ensures .layout)
 
 returns-4 : tie.Need-returns-4
 returns-4 c =
     let at-orient : tie.After-orient = search depth 0 in
     let at-take = take-of-orient at-orient in
-    let at-mark = mark-of-take at-take in
-    let at-due = due-of-mark at-mark in
-    let at-look = look-of-mark at-mark in
-    let at-begin = begin-of-look at-look in
-    let entry = entry-of-begin at-begin in
-    let begun = began-fine (entry .pre .0) (at-begin .begin .ensures) in
-    turn-made (entry .pre .0) (else-of-begin at-begin .if1 .left) (at-begin .begin .ensures) (at-look .look .ensures) (at-due .due-after .ensures)
-    (to-make _ (at-mark .before .before .match .keys2) (at-take .before .match2 .keys2))
-    (makes-unplaced (at-take .take2 .ensures) (at-orient .orient .ensures) begun (at-look .look .ensures .layout) (c .before .before .way .given .1)
+    let at-look = look-of-mark (mark-of-take at-take) in
+    made at-take
+    (makes-unplaced (at-take .take2 .ensures) (at-orient .orient .ensures) (begun-fine at-take) (at-look .look .ensures .layout) (c .before .before .way .given .1)
     (c .ended3 .ensures))
 
 collapse-requires : tie.Need-collapse-requires
@@ -156,15 +170,9 @@ returns-5 c =
     let at-collapse : tie.After-collapse = search depth 0 in
     let at-orient = orient-of-collapse at-collapse in
     let at-take = take-of-orient at-orient in
-    let at-mark = mark-of-take at-take in
-    let at-due = due-of-mark at-mark in
-    let at-look = look-of-mark at-mark in
-    let at-begin = begin-of-look at-look in
-    let entry = entry-of-begin at-begin in
-    let begun = began-fine (entry .pre .0) (at-begin .begin .ensures) in
-    turn-made (entry .pre .0) (else-of-begin at-begin .if1 .left) (at-begin .begin .ensures) (at-look .look .ensures) (at-due .due-after .ensures)
-    (to-make _ (at-mark .before .before .match .keys2) (at-take .before .match2 .keys2))
-    (makes-full (at-take .take2 .ensures) (at-orient .orient .ensures) begun (at-look .look .ensures .layout)
+    let at-look = look-of-mark (mark-of-take at-take) in
+    made at-take
+    (makes-full (at-take .take2 .ensures) (at-orient .orient .ensures) (begun-fine at-take) (at-look .look .ensures .layout)
     (told-of-collapse at-collapse .enum-told2 .given .1) (at-collapse .collapse .ensures) (let full = in-then2 .if2 .taken in omega arith) (c .ended4 .ensures))
 
 compose-requires : tie.Need-compose-requires
@@ -178,15 +186,9 @@ returns-6 c =
     let at-collapse = collapse-of-compose at-compose in
     let at-orient = orient-of-collapse at-collapse in
     let at-take = take-of-orient at-orient in
-    let at-mark = mark-of-take at-take in
-    let at-due = due-of-mark at-mark in
-    let at-look = look-of-mark at-mark in
-    let at-begin = begin-of-look at-look in
-    let entry = entry-of-begin at-begin in
-    let begun = began-fine (entry .pre .0) (at-begin .begin .ensures) in
-    turn-made (entry .pre .0) (else-of-begin at-begin .if1 .left) (at-begin .begin .ensures) (at-look .look .ensures) (at-due .due-after .ensures)
-    (to-make _ (at-mark .before .before .match .keys2) (at-take .before .match2 .keys2))
-    (makes-rights-end (at-take .take2 .ensures) (at-orient .orient .ensures) begun (at-look .look .ensures .layout)
+    let at-look = look-of-mark (mark-of-take at-take) in
+    made at-take
+    (makes-rights-end (at-take .take2 .ensures) (at-orient .orient .ensures) (begun-fine at-take) (at-look .look .ensures .layout)
     (told-of-collapse at-collapse .enum-told2 .given .1) (at-collapse .collapse .ensures) (else-of-compose at-compose .if2 .left)
     (at-compose .compose .ensures) (c .before .before .composed .given .1) (c .ended5 .ensures))
 
@@ -196,10 +198,8 @@ log-requires-2 c κs =
     let at-collapse = collapse-of-compose at-compose in
     let at-orient = orient-of-collapse at-collapse in
     let at-take = take-of-orient at-orient in
-    let at-mark = mark-of-take at-take in
-    let made = to-make _ (at-mark .before .before .match .keys2) (at-take .before .match2 .keys2) in
     make-logs (at-take .take2 .ensures) (at-orient .orient .ensures) (at-collapse .collapse .ensures) (at-compose .compose .ensures)
-    (else-of-compose at-compose .if2 .left) (make-room _ _ _ (due-of-mark at-mark .due-after .ensures) made)
+    (else-of-compose at-compose .if2 .left) (make-room _ _ _ (due-of-mark (mark-of-take at-take) .due-after .ensures) (to-make-of at-take))
 
 returns-7 : tie.Need-returns-7
 returns-7 c =
@@ -209,53 +209,17 @@ returns-7 c =
     let at-collapse = collapse-of-compose at-compose in
     let at-orient = orient-of-collapse at-collapse in
     let at-take = take-of-orient at-orient in
-    let at-mark = mark-of-take at-take in
-    let at-due = due-of-mark at-mark in
-    let at-look = look-of-mark at-mark in
-    let at-begin = begin-of-look at-look in
-    let entry = entry-of-begin at-begin in
-    let begun = began-fine (entry .pre .0) (at-begin .begin .ensures) in
-    turn-made (entry .pre .0) (else-of-begin at-begin .if1 .left) (at-begin .begin .ensures) (at-look .look .ensures) (at-due .due-after .ensures)
-    (to-make _ (at-mark .before .before .match .keys2) (at-take .before .match2 .keys2))
-    (makes-goes (at-take .take2 .ensures) (at-orient .orient .ensures) begun (at-look .look .ensures .layout)
+    let at-look = look-of-mark (mark-of-take at-take) in
+    made at-take
+    (makes-goes (at-take .take2 .ensures) (at-orient .orient .ensures) (begun-fine at-take) (at-look .look .ensures .layout)
     (told-of-collapse at-collapse .enum-told2 .given .1) (at-collapse .collapse .ensures) (else-of-compose at-compose .if2 .left)
-    (at-compose .compose .ensures) (at-told .enum-told3 .given .1) (at-mark .mark .ensures) refl (at-log .log2 .ensures) (c .going2 .ensures))
+    (at-compose .compose .ensures) (at-told .enum-told3 .given .1) (mark-of-take at-take .mark .ensures) refl (at-log .log2 .ensures) (c .going2 .ensures))
 
 pub turn-spec : {M : Type 1} → statement M
 turn-spec =
-    tie.close
-    (tie.spec
-    (λ c κs. search needs)
-    returns
-    (λ c κs. search needs)
-    look-requires
-    (λ c κs. search needs)
-    (λ c. search needs)
-    (λ c κs. search needs)
-    returns-2
-    (λ c. search needs)
-    mark-requires
-    (λ c. search needs)
-    take-requires
-    log-requires
-    (λ c κs. search needs)
-    returns-3
-    take-requires-2
-    slice-aggregate-orient
-    orient-requires
-    (λ c. search needs)
-    (λ c κs. search needs)
-    returns-4
-    (λ c. search needs)
-    collapse-requires
-    (λ c κs. search needs)
-    returns-5
-    compose-requires
-    (λ c. search needs)
-    (λ c κs. search needs)
-    returns-6
-    (λ c. search needs)
-    (λ c. search needs)
-    log-requires-2
-    (λ c κs. search needs)
-    returns-7)
+    tie.close (tie.spec
+    (λ c κs. search needs) returns (λ c κs. search needs) look-requires (λ c κs. search needs) (λ c. search needs) (λ c κs. search needs) returns-2
+    (λ c. search needs) mark-requires (λ c. search needs) take-requires log-requires (λ c κs. search needs) returns-3 take-requires-2
+    slice-aggregate-orient orient-requires (λ c. search needs) (λ c κs. search needs) returns-4 (λ c. search needs) collapse-requires
+    (λ c κs. search needs) returns-5 compose-requires (λ c. search needs) (λ c κs. search needs) returns-6 (λ c. search needs) (λ c. search needs)
+    log-requires-2 (λ c κs. search needs) returns-7)

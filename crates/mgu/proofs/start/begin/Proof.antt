@@ -33,11 +33,5 @@ returns c =
 
 pub begin-spec : {M : Type 1} → statement M
 begin-spec =
-    tie.close
-    (tie.spec
-    (λ c κs. search needs)
-    (λ c κs. search needs)
-    join-requires
-    (λ c. search needs)
-    (λ c. search needs)
-    returns)
+    tie.close (tie.spec
+    (λ c κs. search needs) (λ c κs. search needs) join-requires (λ c. search needs) (λ c. search needs) returns)

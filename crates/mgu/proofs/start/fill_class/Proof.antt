@@ -61,24 +61,7 @@ returns c = filled-end _ _ _ _ _ (c .before .loop .inv .filled) (c .loop-test .l
 
 pub fill-class-spec : {M : Type 1} → statement M
 fill-class-spec =
-    tie.close
-    (tie.spec
-    Inv-loop
-    μ-loop
-    loop-holds
-    slice-aggregate-first-class
-    first-class-requires
-    cast-class
-    (λ c. search needs)
-    slice-write-class
-    (λ c. search needs)
-    (λ c κs. search needs)
-    (λ c. search needs)
-    cast-firsts
-    (λ c. search needs)
-    array-write-firsts
-    (λ c. search needs)
-    (λ c. search needs)
-    loop-again
-    same-length
-    returns)
+    tie.close (tie.spec
+    Inv-loop μ-loop loop-holds slice-aggregate-first-class first-class-requires cast-class (λ c. search needs)
+    slice-write-class (λ c. search needs) (λ c κs. search needs) (λ c. search needs) cast-firsts (λ c. search needs)
+    array-write-firsts (λ c. search needs) (λ c. search needs) loop-again same-length returns)

@@ -57,20 +57,6 @@ returns c = ended-all _ _ _ _ _ (c .before .loop .inv) (omega (arith, c .loop-te
 
 pub fill-ends-spec : {M : Type 1} → statement M
 fill-ends-spec =
-    tie.close
-    (tie.spec
-    Inv-loop
-    μ-loop
-    loop-holds
-    (λ c. search needs)
-    (λ c. search needs)
-    (λ c κs. search needs)
-    (λ c. search needs)
-    hop-requires
-    cast-ends
-    (λ c. search needs)
-    slice-write-ends
-    (λ c. search needs)
-    loop-again
-    same-length
-    returns)
+    tie.close (tie.spec
+    Inv-loop μ-loop loop-holds (λ c. search needs) (λ c. search needs) (λ c κs. search needs) (λ c. search needs)
+    hop-requires cast-ends (λ c. search needs) slice-write-ends (λ c. search needs) loop-again same-length returns)
