@@ -72,7 +72,8 @@ begun-fine at = began-fine (entry-of-take at .pre .0) (begin-of-take at .begin .
 to-make-of : (at : tie.After-take2) → due-of-mark (mark-of-take at) .due-after .result ≡ Make
 to-make-of at = to-make _ (mark-of-take at .before .before .match .keys2) (at .before .match2 .keys2)
 
-made : (at : tie.After-take2) {o : Turned} → Makes (entry-of-take at .args .table .now) (begin-of-take at .begin .result) (look-of-mark (mark-of-take at) .look .result) o →
+made : (at : tie.After-take2) {o : Turned} →
+    Makes (entry-of-take at .args .table .now) (begin-of-take at .begin .result) (look-of-mark (mark-of-take at) .look .result) o →
     Turns (entry-of-take at .args .table .now) (entry-of-take at .args .inputs .now) (entry-of-take at .args .count) (entry-of-take at .args .st) o
 made at M =
     let at-mark = mark-of-take at in
@@ -156,7 +157,8 @@ returns-4 c =
     let at-take = take-of-orient at-orient in
     let at-look = look-of-mark (mark-of-take at-take) in
     made at-take
-    (makes-unplaced (at-take .take2 .ensures) (at-orient .orient .ensures) (begun-fine at-take) (at-look .look .ensures .layout) (c .before .before .way .given .1)
+    (makes-unplaced (at-take .take2 .ensures) (at-orient .orient .ensures) (begun-fine at-take) (at-look .look .ensures .layout)
+    (c .before .before .way .given .1)
     (c .ended3 .ensures))
 
 collapse-requires : tie.Need-collapse-requires
