@@ -37,7 +37,7 @@ fn accepted(
 
 // Completion of the problem's equations. For every input the answer and the lent result bytes are the definition's (refused: every byte as it was;
 // accepted: the result's fields, then what stood there). And demand 3: where field 10 of what is written holds 0, the rules that its fields 12 hold
-// settle the problem's equations.
+// settle the problem's equations; whatever the end, these rules with what waits are derived from the equations by the transition rules.
 pub fn complete(problem: &[u8], result: &mut [u8]) -> Completed
     ensures answer { λ r. ⌜ completed-told r ≡ counted (complete-call (now (problem .entry)) (length (now (result .entry)))) ⌝ }
     ensures bytes { λ r. ⌜ now (result .exit) ≡ after-complete (complete-call (now (problem .entry)) (length (now (result .entry)))) (now (result .entry)) ⌝ }
