@@ -41,8 +41,11 @@ fn cases(text: &[u8]) {
     }
 }
 
+// The most bytes of cases.
+const TEXT: usize = 32768;
+
 fn main() {
-    let mut text = [0u8; 32768];
+    let mut text = [0u8; TEXT];
     let n = io::read_full(0, &mut text);
     cases(&text[..n]);
 }

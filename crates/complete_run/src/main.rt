@@ -39,8 +39,11 @@ fn cases(text: &[u8]) {
     }
 }
 
+// The most bytes of cases.
+const TEXT: usize = 65536;
+
 fn main() {
-    let mut text = [0u8; 65536];
+    let mut text = [0u8; TEXT];
     let n = io::read_full(0, &mut text);
     cases(&text[..n]);
 }

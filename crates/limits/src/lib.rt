@@ -39,6 +39,9 @@ pub const ARENA: usize = 5 * NODES;
 // The values of a byte.
 pub const BYTES: usize = 256;
 
+// The values of a field's length, two bytes: 65,536.
+pub const LENGTHS: usize = BYTES * BYTES;
+
 // A cell is a node's byte, and so many times the size of its subterm: a byte's values.
 pub const CELL: u16 = BYTES as u16;
 

@@ -3,6 +3,7 @@ use mathlib.Core.Path.{_≡_}
 use mathlib.Core.List.{List}
 use Prim.Native.Nat.{ℕ, _+_, _-_, _≤_}
 use lib.ListN.{length, take, drop}
+use Rattle.limits.specs.Limits.{field-head, most-problem}
 use Rattle.terms.specs.Term.{Term, size}
 use Rattle.terms.specs.Flat.{Starts}
 use Rattle.reading.specs.Answers.{symbols-of, Table}
@@ -13,7 +14,7 @@ use Rattle.only_equation.specs.declared.Equation.the-variants.{At, Refus
 
 -- the table of a problem, and the two sides of its only equation
 abbrev pub table : List ℕ → ℕ → List ℕ
-table l e = take (e - 3) (drop 3 l)
+table l e = take (e - field-head) (drop field-head l)
 
 abbrev pub left-side : Single → Term
 left-side S = S .equation .sides .left
@@ -24,12 +25,12 @@ right-side S = S .equation .sides .right
 -- a problem with one equation field, whose table ends at e: its sides begin at a and b, and the second ends at c
 pub record SidesAt (l : List ℕ) (e a b c : ℕ) (S : Single) : Type 0 where
   pub is : parse-single l ≡ ok S
-  pub small : length l ≤ 8192
+  pub small : length l ≤ most-problem
   pub symbols-are : S .symbols ≡ symbols-of (table l e)
   pub known : Table (table l e)
   pub low : 5 ≤ e
   pub table-within : e ≤ length l
-  pub left-is : a ≡ S .equation .first + 3
+  pub left-is : a ≡ S .equation .first + field-head
   pub right-is : b ≡ a + size (left-side S)
   pub end-is : c ≡ b + size (right-side S)
   pub within : c ≤ length l
