@@ -1,12 +1,12 @@
 -- Bytes put behind or before bytes that were put are all of them put at once. Assumes nothing.
 -- Read first: specs/Puts (patched), proofs/Patching.
-use mathlib.Core.Path.{_≡_, refl, sym, ap₂, _∙_}
+use mathlib.Core.Path.{_≡_, refl, sym, ap, ap₂, _∙_}
 use mathlib.Core.List.{List, [], _∷_, _++_, append-assoc}
 use Prim.Native.Nat.{ℕ, _+_, _≤_, _<_}
 use native.Mathlib.Omega.{arith}
 use native.Mathlib.Numerals.{add-one}
 use lib.ListN.{length, take, drop, set, length-append, take-append-drop}
-use lib.Seq.{length-take-le, drop-at, take-take, take-append-le, set-split}
+use lib.Seq.{length-take-le, take-at, drop-at, take-take, take-append-le, set-split}
 use Rattle.fields.specs.Puts.{patched}
 use Rattle.fields.proofs.Patching.{patched-after, front-more}
 
@@ -52,3 +52,13 @@ patched-one at b l h = rw (add-one at) (set-split l at b h)
 pub patched-front : (ys l : List ℕ) → patched 0 ys l ≡ ys ++ drop (length ys) l
 unfolding patched
 patched-front ys l = let z : 0 + length ys ≡ length ys = omega arith in rw z refl
+
+-- two lists, one behind the other, put at the front
+pub both-front : (left right d d₁ d₂ : List ℕ) → d₁ ≡ patched 0 left d → d₂ ≡ patched (length left) right d₁ →
+    take (length left + length right) d₂ ≡ left ++ right
+unfolding patched
+both-front left right d d₁ d₂ p q =
+    let a : take (length left) d₁ ≡ left = ap (take (length left)) p ∙ take-at left (drop (0 + length left) d) (length left) refl in
+    let rest : List ℕ = drop (length left + length right) d₁ in
+    ap (take (length left + length right)) (q ∙ ap (λ z. z ++ (right ++ rest)) a ∙ sym (append-assoc left right rest))
+    ∙ take-at (left ++ right) rest (length left + length right) (length-append left right)

@@ -10,10 +10,9 @@ use lib.Seq.{take-at, drop-at, take-add, drop-drop, take-length, length-take-le}
 use Rattle.terms.specs.Term.{Pair, size, term-bytes, renamed}
 use Rattle.terms.proofs.Every.{every-append, every-in}
 use Rattle.terms.proofs.Bytes.{length-bytes}
-use Rattle.terms.proofs.Limits.{renamed-left-size, renamed-right-size}
 use Rattle.naming.specs.Names.{collect, renamed-bytes}
 use Rattle.naming.proofs.Few.{names-few}
-use Rattle.naming.proofs.Pairs.{wf-low, wf-few, renamed-pair, renamed-left-wf, renamed-right-wf}
+use Rattle.naming.proofs.Pairs.{left-cut, right-cut, wf-few, renamed-left-wf, renamed-right-wf}
 use Rattle.slots.specs.Slots.{Sides, PutSides, PutMark, numbered-bytes}
 use Rattle.slots.proofs.Layouts.{pair-put}
 use Rattle.problem.specs.Problem.{ok, refused, ReadField, due}
@@ -56,8 +55,6 @@ module _ (tab l : List ℕ) (at m e : ℕ) (a : SideEnd tab l at m) (b : SideEnd
       renamed-sides p S =
           let u : List ℕ = term-bytes (p .left) in
           let v : List ℕ = term-bytes (p .right) in
-          let x : List ℕ = term-bytes (renamed p .left) in
-          let y : List ℕ = term-bytes (renamed p .right) in
           let rest : List ℕ = drop (e - at) h₁ in
           let few = wf-few 16 tab p (S .left-wf) (S .right-wf) in
           let i : m ≡ at + size (p .left) = a .answer (p .left) (v ++ S .rest) (S .left-wf) (S .left-small) (S .bytes) in
@@ -68,19 +65,12 @@ module _ (tab l : List ℕ) (at m e : ℕ) (a : SideEnd tab l at m) (b : SideEnd
           let both : take (e - at) (drop at l) ≡ u ++ v =
           ap (take (e - at)) (S .bytes ∙ sym (append-assoc u v (S .rest)))
           ∙ take-at (u ++ v) (S .rest) (e - at) (length-append u v ∙ omega (arith, length-bytes (p .left), length-bytes (p .right))) in
-          let w : h₂ ≡ x ++ (y ++ rest) =
-          r ∙ ap (λ z. renamed-bytes z ++ rest) (copied ∙ both)
-          ∙ ap (λ z. z ++ rest) (renamed-pair p (wf-low 16 tab (p .left) (S .left-wf)) (wf-low 16 tab (p .right) (S .right-wf)))
-          ∙ append-assoc x y rest in
-          let lx : length x ≡ m - at = length-bytes (renamed p .left) ∙ renamed-left-size p ∙ omega arith in
-          let ly : length y ≡ e - at - (m - at) = length-bytes (renamed p .right) ∙ renamed-right-size p ∙ omega arith in
+          let w = r ∙ ap (λ z. renamed-bytes z ++ rest) (copied ∙ both) in
           record {
             left-wf = renamed-left-wf 16 16 tab p few (S .left-wf);
             right-wf = renamed-right-wf 16 16 tab p few (S .right-wf);
-            left-bytes = ap (take (m - at - 0)) w ∙ take-at x (y ++ rest) (m - at - 0) (omega arith);
-            right-bytes = ap (λ z. take (e - at - (m - at)) (drop (m - at) z)) w
-                ∙ ap (take (e - at - (m - at))) (drop-at x (y ++ rest) (m - at) lx)
-                ∙ take-at y rest (e - at - (m - at)) ly;
+            left-bytes = left-cut 16 tab p (S .left-wf) (S .right-wf) h₂ rest w (m - at - 0) (omega arith);
+            right-bytes = right-cut 16 tab p (S .left-wf) (S .right-wf) h₂ rest w (m - at) (e - at - (m - at)) (omega arith) (omega arith);
           }
 
       pub sides-put : (slots : List ℕ) (k : ℕ) (slots′ : List ℕ) →

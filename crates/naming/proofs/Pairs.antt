@@ -1,17 +1,19 @@
--- Well-formed terms have symbols below 128; the renamed bytes of two sides are those of the renamed pair, which is well-formed. Assumes nothing.
+-- Well-formed terms have symbols below 128; the renamed bytes of two sides are those of the renamed pair, which is well-formed, also cut from a buffer. Assumes nothing.
 -- Read first: terms/specs/Flat (Wf), terms/specs/Term (renamed), proofs/Renaming (renamed-terms).
 use mathlib.Core.Path.{_≡_, sym, ap, _∙_}
-use mathlib.Core.List.{List, _++_, append-nil}
+use mathlib.Core.List.{List, _++_, append-assoc, append-nil}
 use Prim.Native.Nat.{ℕ, _≤_, _<_}
 use native.Mathlib.Omega.{arith}
-use lib.ListN.{length}
+use lib.ListN.{length, drop, take}
+use lib.Seq.{take-at, drop-at}
 use Rattle.terms.specs.Base.{place-in}
-use Rattle.terms.specs.Term.{Term, var, node, Terms, nil, cons, term-bytes, terms-bytes, Pair, pair-variables, renamed}
+use Rattle.terms.specs.Term.{Term, var, node, Terms, nil, cons, term-bytes, terms-bytes, Pair, pair-variables, renamed, size}
 use Rattle.terms.specs.Flat.{Wf, Wfs}
 use Rattle.terms.proofs.Flats.{wf-below, wf-subst}
 use Rattle.terms.proofs.Subst.{In}
 use Rattle.terms.proofs.Below.{place-in-below, in-pair-left, in-pair-right}
-use Rattle.terms.proofs.Limits.{variables-few}
+use Rattle.terms.proofs.Limits.{variables-few, renamed-left-size, renamed-right-size}
+use Rattle.terms.proofs.Bytes.{length-bytes}
 use Rattle.terms.proofs.Rename.{renamed-sides}
 use Rattle.naming.specs.Names.{renamed-bytes}
 use Rattle.naming.proofs.Renaming.{Low, Lows, renamed-terms}
@@ -35,6 +37,25 @@ renamed-pair e v w =
     ∙ renamed-terms (cons (e .left) (cons (e .right) nil)) (v, (w, tt))
     ∙ ap terms-bytes (sym (renamed-sides e))
     ∙ ap (λ z. term-bytes (renamed e .left) ++ z) (append-nil (term-bytes (renamed e .right)))
+
+-- both sides renamed at the front of a buffer d, and cut from it
+module _ (n : ℕ) (tab : List ℕ) (e : Pair) (v : Wf n tab (e .left)) (w : Wf n tab (e .right)) (d rest : List ℕ)
+    (r : d ≡ renamed-bytes (term-bytes (e .left) ++ term-bytes (e .right)) ++ rest) where
+  sides-are : d ≡ term-bytes (renamed e .left) ++ (term-bytes (renamed e .right) ++ rest)
+  sides-are =
+      r ∙ ap (λ z. z ++ rest) (renamed-pair e (wf-low n tab (e .left) v) (wf-low n tab (e .right) w))
+      ∙ append-assoc (term-bytes (renamed e .left)) (term-bytes (renamed e .right)) rest
+
+  pub left-cut : (a : ℕ) → a ≡ size (e .left) → take a d ≡ term-bytes (renamed e .left)
+  left-cut a p =
+      ap (take a) sides-are
+      ∙ take-at (term-bytes (renamed e .left)) (term-bytes (renamed e .right) ++ rest) a (length-bytes (renamed e .left) ∙ renamed-left-size e ∙ sym p)
+
+  pub right-cut : (a b : ℕ) → a ≡ size (e .left) → b ≡ size (e .right) → take b (drop a d) ≡ term-bytes (renamed e .right)
+  right-cut a b p q =
+      ap (λ z. take b (drop a z)) sides-are
+      ∙ ap (take b) (drop-at (term-bytes (renamed e .left)) (term-bytes (renamed e .right) ++ rest) a (length-bytes (renamed e .left) ∙ renamed-left-size e ∙ sym p))
+      ∙ take-at (term-bytes (renamed e .right)) rest b (length-bytes (renamed e .right) ∙ renamed-right-size e ∙ sym q)
 
 -- variables below n: at most n different ones
 pub wf-few : (n : ℕ) (tab : List ℕ) (e : Pair) → Wf n tab (e .left) → Wf n tab (e .right) → length (pair-variables e) ≤ n
