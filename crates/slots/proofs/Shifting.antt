@@ -5,7 +5,7 @@ use mathlib.Core.List.{List}
 use Prim.Native.Nat.{ℕ, _+_, _*_, _-_, _<_, _≤_}
 use native.Mathlib.Omega.{arith}
 use native.Mathlib.Decide.{ℕ-discrete}
-use lib.ListN.{length, getD, drop, take, set, length-set}
+use lib.ListN.{length, getD, drop, take, set}
 use lib.Seq.{getD-set-same, getD-set-other, take-all}
 use Rattle.fields.specs.Puts.{patched}
 use Rattle.fields.proofs.Patching.{patched-here}
@@ -15,22 +15,20 @@ use Rattle.slots.proofs.Parts.{slot-moved, only-patched}
 -- the bytes from a to i are those one slot further on, all others as they were
 pub record Removing (d : List ℕ) (a : ℕ) (d′ : List ℕ) (i : ℕ) : Type 0 where
   pub from : a ≤ i
-  pub same : length d′ ≡ length d
   pub before : (j : ℕ) → j < a → getD d′ j 0 ≡ getD d j 0
   pub moved : (j : ℕ) → a ≤ j → j < i → getD d′ j 0 ≡ getD d (j + slot-width) 0
   pub rest : (j : ℕ) → i ≤ j → getD d′ j 0 ≡ getD d j 0
 
 pub removing-start : (d : List ℕ) (a : ℕ) → Removing d a d a
-removing-start d a = record { from = omega arith; same = refl; before = λ j h. refl; moved = λ j h n. absurd (omega arith); rest = λ j h. refl }
+removing-start d a = record { from = omega arith; before = λ j h. refl; moved = λ j h n. absurd (omega arith); rest = λ j h. refl }
 
-pub removing-more : (d : List ℕ) (a : ℕ) (d′ : List ℕ) (i : ℕ) → Removing d a d′ i → i < length d → Removing d a (set d′ i (getD d′ (i + slot-width) 0)) (i + 1)
-removing-more d a d′ i r h =
-    let m = r .same in
+pub removing-more : (d : List ℕ) (a : ℕ) (d′ : List ℕ) (i : ℕ) → Removing d a d′ i → length d′ ≡ length d → i < length d →
+    Removing d a (set d′ i (getD d′ (i + slot-width) 0)) (i + 1)
+removing-more d a d′ i r m h =
     let f = r .from in
     let v : ℕ = getD d′ (i + slot-width) 0 in
     record {
       from = omega arith;
-      same = length-set d′ i v ∙ m;
       before = λ j q. getD-set-other d′ i j v 0 (λ e. omega arith) ∙ r .before j q;
       moved = λ j q n. go j q n (ℕ-discrete j i);
       rest = λ j q. getD-set-other d′ i j v 0 (λ e. omega arith) ∙ r .rest j (omega arith);
@@ -38,7 +36,6 @@ removing-more d a d′ i r h =
   where
     go : (j : ℕ) → a ≤ j → j < i + 1 → Dec (j ≡ i) → getD (set d′ i (getD d′ (i + slot-width) 0)) j 0 ≡ getD d (j + slot-width) 0
     go j q n (yes e) =
-        let m = r .same in
         ap (λ z. getD (set d′ i (getD d′ (i + slot-width) 0)) z 0) e
         ∙ getD-set-same d′ i (getD d′ (i + slot-width) 0) 0 (omega arith)
         ∙ r .rest (i + slot-width) (omega arith)
@@ -46,10 +43,8 @@ removing-more d a d′ i r h =
     go j q n (no e) = getD-set-other d′ i j (getD d′ (i + slot-width) 0) 0 e ∙ r .moved j q (omega (arith, e))
 
 pub removing-end : (slots : List ℕ) (k count : ℕ) (slots′ : List ℕ) (i : ℕ) → k < count → slot-width * count ≤ length slots →
-    Removing slots (slot-width * k) slots′ i →
-    slot-width * (count - 1) ≤ i → Removed slots k count slots′
-removing-end slots k count slots′ i h m r e =
-    let l = r .same in
+    Removing slots (slot-width * k) slots′ i → length slots′ ≡ length slots → slot-width * (count - 1) ≤ i → Removed slots k count slots′
+removing-end slots k count slots′ i h m r l e =
     record {
       same = l;
       before = λ j b. slot-moved slots slots′ j j (omega arith) (omega arith) (λ a q. r .before (slot-width * j + a) (omega arith));
@@ -62,30 +57,23 @@ removing-end slots k count slots′ i h m r e =
 
 -- the bytes from i to `end` stand one slot further on, those before i + slot-width as they were
 pub record Making (d : List ℕ) (end : ℕ) (d′ : List ℕ) (i : ℕ) : Type 0 where
-  pub to : i ≤ end
-  pub same : length d′ ≡ length d
   pub kept : (j : ℕ) → j < i + slot-width → getD d′ j 0 ≡ getD d j 0
   pub moved : (j : ℕ) → i ≤ j → j < end → getD d′ (j + slot-width) 0 ≡ getD d j 0
 
 pub making-start : (d : List ℕ) (end : ℕ) → Making d end d end
-making-start d end = record { to = omega arith; same = refl; kept = λ j h. refl; moved = λ j h n. absurd (omega arith) }
+making-start d end = record { kept = λ j h. refl; moved = λ j h n. absurd (omega arith) }
 
-pub making-more : (d : List ℕ) (end : ℕ) (d′ : List ℕ) (i n : ℕ) → Making d end d′ i → n + 1 ≡ i → end + slot-width ≤ length d →
-    Making d end (set d′ (n + slot-width) (getD d′ n 0)) n
-making-more d end d′ i n r e h =
-    let m = r .same in
-    let t = r .to in
+pub making-more : (d : List ℕ) (end : ℕ) (d′ : List ℕ) (i n : ℕ) → Making d end d′ i → length d′ ≡ length d → i ≤ end → n + 1 ≡ i →
+    end + slot-width ≤ length d → Making d end (set d′ (n + slot-width) (getD d′ n 0)) n
+making-more d end d′ i n r m t e h =
     let v : ℕ = getD d′ n 0 in
     record {
-      to = omega arith;
-      same = length-set d′ (n + slot-width) v ∙ m;
       kept = λ j q. getD-set-other d′ (n + slot-width) j v 0 (λ f. omega arith) ∙ r .kept j (omega arith);
       moved = λ j q w. go j q w (ℕ-discrete j n);
     }
   where
     go : (j : ℕ) → n ≤ j → j < end → Dec (j ≡ n) → getD (set d′ (n + slot-width) (getD d′ n 0)) (j + slot-width) 0 ≡ getD d j 0
     go j q w (yes f) =
-        let m = r .same in
         ap (λ z. getD (set d′ (n + slot-width) (getD d′ n 0)) (z + slot-width) 0) f
         ∙ getD-set-same d′ (n + slot-width) (getD d′ n 0) 0 (omega arith)
         ∙ r .kept n (omega arith)
@@ -93,9 +81,8 @@ making-more d end d′ i n r e h =
     go j q w (no f) = getD-set-other d′ (n + slot-width) (j + slot-width) (getD d′ n 0) 0 (λ g. f (omega arith)) ∙ r .moved j (omega (arith, f)) w
 
 pub making-end : (slots : List ℕ) (k count : ℕ) (slots′ : List ℕ) (i : ℕ) → k ≤ count → slot-width * (count + 1) ≤ length slots →
-    Making slots (slot-width * count) slots′ i → i ≡ slot-width * k → RoomMade slots k count slots′
-making-end slots k count slots′ i h m r e =
-    let l = r .same in
+    Making slots (slot-width * count) slots′ i → length slots′ ≡ length slots → i ≡ slot-width * k → RoomMade slots k count slots′
+making-end slots k count slots′ i h m r l e =
     record {
       same = l;
       before = λ j b. slot-moved slots slots′ j j (omega arith) (omega arith) (λ a q. r .kept (slot-width * j + a) (omega arith));
