@@ -2,11 +2,10 @@
 -- Read first: specs/Inputs (SidesAt, InputsRead), problem/proofs/Laid, slots/proofs/Listing.
 use mathlib.Core.Path.{_≡_, refl, sym, ap, _∙_, subst}
 use mathlib.Core.List.{List, [], _∷_, _++_, map, append-assoc, append-nil}
-use Prim.Native.Nat.{ℕ, zero, suc, _+_, _-_, _*_, _<_, _≤_}
+use Prim.Native.Nat.{ℕ, suc, _+_, _-_, _*_, _<_, _≤_}
 use native.Mathlib.Omega.{arith}
-use lib.ListN.{length, getD, drop, take, replicate, length-append, length-replicate}
-use lib.Seq.{drop-at, drop-drop, getD-take, getD-drop}
-use Rattle.limits.specs.Limits.{most-equations}
+use lib.ListN.{length, drop, take, replicate, length-append}
+use lib.Seq.{drop-at, drop-drop}
 use Rattle.terms.specs.Term.{Term, size, term-bytes, renamed}
 use Rattle.terms.specs.Base.{Every, of-none, of-cons}
 use Rattle.terms.proofs.Bytes.{length-bytes}
@@ -18,9 +17,9 @@ use Rattle.completion.specs.Turn.{waiting-input, candidates}
 use Rattle.completion.specs.Calls.{origin-bytes}
 use Rattle.completion.proofs.Limits.{HeldPair, length-candidates}
 use Rattle.completion.proofs.Accepts.{accepts}
-use Rattle.slots.specs.Slots.{slot-width, slot, left-length, right-length, Short, Layout, AllFrom, MarkedAt, Holds}
+use Rattle.slots.specs.Slots.{slot-width, Layout, AllFrom, MarkedAt, Holds}
 use Rattle.slots.proofs.Listing.{all-none, all-one, all-join, all-moved, marked-moved}
-use Rattle.slots.proofs.Layouts.{layout-put}
+use Rattle.slots.proofs.Layouts.{zeros-layout, layout-put}
 use Rattle.inputs.specs.Inputs.{marked, SidesAt, PutsEquation, InputsRead}
 
 sides-at : (n : ℕ) (tab : List ℕ) (T : Table tab) (l : List ℕ) (at e : ℕ) (q : Equation) → Both tab T l at e q → HeldPair n 16 (q .sides) →
@@ -50,9 +49,6 @@ laid-fields n tab T l at [] h of-none = tt
 laid-fields n tab T l at (q ∷ es) h (of-cons k ks) =
     (h .0, h .1, sides-at n tab T l at (h .0) q (h .4) k, laid-fields n tab T l (h .0) es (h .5) ks)
 
-pub parsed-few : (l : List ℕ) (e b at n : ℕ) (P : Problem) → ParsedAt l e b at n P → n ≤ most-equations
-parsed-few l e b at n P A = omega (arith, A .number, accepts l P (A .is) .equations-few)
-
 -- the equation is the candidate in slot k
 abbrev pub Input : List ℕ → List ℕ → ℕ → Equation → Type 0
 Input tab slots k q = MarkedAt tab slots k (marked (record { origin = waiting-input (k + 1); sides = renamed (q .sides) }))
@@ -78,22 +74,9 @@ pub record SoFar (l : List ℕ) (e at count : ℕ) (slots : List ℕ) (k i : ℕ
   pub layout : Layout slots count
   pub split : (b : ℕ) (P : Problem) → ParsedAt l e b at count P → Split (take (e - 3) (drop 3 l)) l slots k i (P .equations)
 
-zeros-at : (n i : ℕ) → _≡_ {A = ℕ} (getD (replicate n 0) i 0) 0
-zeros-at zero i = refl
-zeros-at (suc n) zero = refl
-zeros-at (suc n) (suc i) = zeros-at n i
-
-zeros-short : (n k : ℕ) → Short (slot (replicate n 0) k)
-unfolding slot left-length right-length
-zeros-short n k = record { left = omega (arith, byte 6 (omega arith)); right = omega (arith, byte 7 (omega arith)) }
-  where
-    byte : (a : ℕ) → a < slot-width → _≡_ {A = ℕ} (getD (take slot-width (drop (slot-width * k) (replicate n 0))) a 0) 0
-    byte a h =
-        getD-take slot-width (drop (slot-width * k) (replicate n 0)) a 0 h ∙ getD-drop (slot-width * k) (replicate n 0) a 0 ∙ zeros-at n (slot-width * k + a)
-
 pub read-start : (l : List ℕ) (e at count n : ℕ) → slot-width * count ≤ n → SoFar l e at count (replicate n 0) 0 at
 read-start l e at count n h = record {
-  layout = record { room = omega (arith, length-replicate {A = ℕ} n 0); short = λ k _. zeros-short n k };
+  layout = zeros-layout n count h;
   split = λ b P A.
       let fits = accepts l P (A .is) .equations-fit in
       let tab : List ℕ = take (e - 3) (drop 3 l) in

@@ -1,6 +1,6 @@
 -- Steps 4 and 5 of a turn by each test's outcome: which side is above, and the rule in its slot or the end. Assumes nothing.
 -- Read first: specs/Orients (IsUpper, RuleOf), specs/Seen (Counted), completion/specs/Turn (orient).
-use mathlib.Core.Path.{_≡_, refl, sym, ap, _∙_, subst, subst₂}
+use mathlib.Core.Path.{_≡_, refl, sym, ap, _∙_, subst}
 use mathlib.Core.Bool.{Bool, true, false}
 use mathlib.Core.Logic.{⊎-elim}
 use mathlib.Core.List.{List, [], _++_, append-nil, Memᴰ·append-left, Memᴰ·append-right, List·Memᴰ·append-cases}
@@ -23,8 +23,8 @@ use Rattle.rewriting.proofs.Holds.{NormalEnd}
 use Rattle.rewriting.proofs.Verdicts.{goes≢ends}
 use Rattle.problem.specs.Problem.{rank-of, Problem}
 use Rattle.completion.specs.Turn.{orient}
-use Rattle.slots.specs.Slots.{slot-width, slot, left-of, right-of, Sides, PairAt}
-use Rattle.slots.proofs.Layouts.{layout-zeros}
+use Rattle.slots.specs.Slots.{slot-width, slot, left-of, right-of, Sides}
+use Rattle.slots.proofs.Layouts.{layout-zeros, sides-read}
 use Rattle.orient.specs.Seen.{Counted}
 use Rattle.orient.specs.declared.Above.the-variants.{Left, Right, Ends as UpperEnds}
 use Rattle.orient.specs.Orients.{oriented, turned, UpperIs, LowBytes, IsUpper, Placed, OrientedIs, RuleOf}
@@ -103,16 +103,13 @@ turned-low {tab} {left} {right} u b i =
     u .low b (⊎-elim (λ j. Memᴰ·append-right left j) (λ j. Memᴰ·append-left right j) (List·Memᴰ·append-cases right i))
 
 module _ (tab pair left right : List ℕ) (number : ℕ) (l : left ≡ left-of (slot pair 0)) (r : right ≡ right-of (slot pair 0)) where
-  sides-of : (e : Pair) → PairAt 32 tab pair 0 e → Sides 32 tab left right e
-  sides-of e h = subst₂ (λ x y. Sides 32 tab x y e) (sym l) (sym r) (h .sides)
-
   pub rule-left : (one : List ℕ) → IsUpper tab left right Left → Placed left right number one →
       RuleOf tab pair number (record { rule = one; verdict = GoesOn })
   rule-left one u p = record {
     layout = p .layout;
     marked = λ _. p .marked;
     answer = λ P q e h units.
-        let s = sides-of e h in
+        let s = sides-read l r h in
         let a = u .answer P q e s units in
         rw (a .0) (refl, refl, p .rule tab e s (a .1));
   }
@@ -123,7 +120,7 @@ module _ (tab pair left right : List ℕ) (number : ℕ) (l : left ≡ left-of (
     layout = p .layout;
     marked = λ _. p .marked;
     answer = λ P q e h units.
-        let s = sides-of e h in
+        let s = sides-read l r h in
         let a = u .answer P q e s units in
         rw (a .0) (refl, refl, p .rule tab (turned e) (turned-sides s) (omega (arith, a .1, swapped-variables e)));
   }
@@ -133,5 +130,5 @@ module _ (tab pair left right : List ℕ) (number : ℕ) (l : left ≡ left-of (
   rule-none end u = record {
     layout = layout-zeros;
     marked = λ z. absurd (goes≢ends z refl);
-    answer = λ P q e h units. ends-as tab end e units (oriented P e units) (u .answer P q e (sides-of e h) units);
+    answer = λ P q e h units. ends-as tab end e units (oriented P e units) (u .answer P q e (sides-read l r h) units);
   }

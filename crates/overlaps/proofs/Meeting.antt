@@ -1,20 +1,19 @@
 -- From the sides of two stored rules to the definition of their overlap. Assumes nothing.
 -- Read first: specs/Answer (Meets, Overlapped), rewriting/specs/Overlap (overlap), proofs/Apart.
-use mathlib.Core.Path.{_≡_, refl, sym, ap, subst, subst₂, _∙_}
+use mathlib.Core.Path.{_≡_, refl, sym, ap, subst, _∙_}
 use mathlib.Core.List.{List}
 use mathlib.Core.Option.{Option, none, some}
-use Prim.Native.Nat.{ℕ, _+_, _-_, _*_, _≤_, _<_}
+use Prim.Native.Nat.{ℕ, _+_, _-_, _≤_, _<_}
 use native.Mathlib.Omega.{arith}
-use lib.ListN.{length, take, drop, length-drop}
-use lib.Seq.{length-take-le}
+use lib.ListN.{length, take, drop}
 use Rattle.terms.specs.Term.{Term, node, Terms, Pair, size, sizes, subterm-at, replace-at}
 use Rattle.terms.proofs.Bytes.{length-bytes, length-bytes-all}
 use Rattle.terms.proofs.Limits.{size-vars}
 use Rattle.terms.proofs.Places.{size-pos}
 use Rattle.terms.proofs.Positions.{subterm-below}
 use Rattle.unify.specs.Unify.{Binding, mgu}
-use Rattle.slots.specs.Slots.{left-at, slot-width, slot, left-length, left-of, right-of, Layout, Sides, PairAt}
-use Rattle.slots.proofs.Layouts.{kept-none}
+use Rattle.slots.specs.Slots.{slot, left-of, right-of, Sides}
+use Rattle.slots.proofs.Layouts.{sides-read, kept-none}
 use Rattle.rewriting.specs.Overlap.{apart, overlap, overlap-at, overlap-by}
 use Rattle.overlap_terms.specs.Layout.{LaysFour}
 use Rattle.overlap_terms.proofs.Layers.{laid-bytes, laid-requires}
@@ -80,21 +79,6 @@ module _ {tab l₁ r₁ l₂ r₂ : List ℕ} {p : ℕ} {nodes nodes′ : List �
           subst (λ v. Says one′ r v) (sym (overlap-is i o p f ts e))
           (s .answer (o .left) (apart (i .left)) z (o .right) (four-wf tab l₁ r₁ l₂ r₂ i o c d p) (laid-bytes tab l₁ r₁ l₂ r₂ p nodes nodes′ end g ∙ q)
           (omega arith) (omega arith) (omega arith) (node f ts) e)
-
--- the left side of a slot is as long as the slot says
-pub left-long : (slots : List ℕ) (k : ℕ) → Layout slots (k + 1) → length (left-of (slot slots k)) ≡ left-length (slot slots k)
-unfolding left-of slot
-left-long slots k y =
-    let s : List ℕ = slot slots k in
-    let n = y .room in
-    let m = y .short k (omega arith) .left in
-    length-take-le (left-length s) (drop left-at s)
-    (omega (arith, length-drop left-at s, length-take-le slot-width (drop (slot-width * k) slots) (omega (arith, length-drop (slot-width * k) slots))))
-
--- the sides that were read are those of the pair in the slot
-pub sides-read : {tab slots l r : List ℕ} {k : ℕ} {e : Pair} → l ≡ left-of (slot slots k) → r ≡ right-of (slot slots k) →
-    PairAt 16 tab slots k e → Sides 16 tab l r e
-sides-read {tab} {e = e} el er h = subst₂ (λ l r. Sides 16 tab l r e) (sym el) (sym er) (h .sides)
 
 pub overlap-empty : {tab rules r₂ one : List ℕ} {inner outer p : ℕ} → r₂ ≡ right-of (slot rules outer) → length r₂ ≡ 0 →
     Overlapped tab rules inner outer p one one Nothing

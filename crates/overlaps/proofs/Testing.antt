@@ -20,10 +20,11 @@ use Rattle.terms.proofs.Subst.{subst-subst}
 use Rattle.unify.specs.Unify.{Binding, mgu}
 use Rattle.unify.proofs.Correct.{mgu-right, unifier}
 use Rattle.slots.specs.Slots.{slot, left-of, right-of, Layout, Sides, PairAt}
+use Rattle.slots.proofs.Layouts.{left-long, sides-read}
 use Rattle.rewriting.specs.Overlap.{apart, overlap, overlap-at}
 use Rattle.clash.specs.Clashing.{NeverOne, Clashing}
 use Rattle.overlaps.specs.Answer.{instances, AtSymbol, Possible}
-use Rattle.overlaps.proofs.Meeting.{overlap-is, overlap-none, overlap-behind, left-long, sides-read}
+use Rattle.overlaps.proofs.Meeting.{overlap-is, overlap-none, overlap-behind}
 
 -- terms with no common instance have no unifier when renamed apart
 never-mgu : (s t : Term) → NeverOne s t → mgu (apart s) t ≡ none

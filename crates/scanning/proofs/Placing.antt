@@ -15,13 +15,12 @@ use Rattle.rewriting.specs.Rewrite.{too-large, Paid, done, stop, Paying, return
 use Rattle.completion.specs.Turn.{Origin, overlapping, Candidate, scan-overlap, if-different, if-different-overlap}
 use Rattle.completion.specs.Calls.{origin-bytes}
 use Rattle.slots.specs.Slots.{slot, left-length, Layout, PairAt, Stored, PutMark, overlapping-bytes}
-use Rattle.slots.proofs.Layouts.{layout-less}
+use Rattle.slots.proofs.Layouts.{layout-less, left-long}
 use Rattle.slots.proofs.Listing.{all-at}
 use Rattle.critical_pairs.specs.Placed.{InSlot}
 use Rattle.overlaps.specs.declared.Met.{Met}
 use Rattle.overlaps.specs.declared.Met.the-variants.{Nothing, TooLarge, Pair as Met-pair}
 use Rattle.overlaps.specs.Answer.{PairIs, Says, Possible, Overlapped}
-use Rattle.overlaps.proofs.Meeting.{left-long}
 use Rattle.rewriting.specs.declared.End.the-variants.{TooLarge as TooLargeEnd}
 use Rattle.forms.specs.declared.Walk.{Walk}
 use Rattle.forms.specs.declared.Found.the-variants.{Equal, Ends}

@@ -9,8 +9,9 @@ use lib.Seq.{getD-take, getD-drop}
 use Rattle.limits.specs.Limits.{most-nodes, origin-width}
 use Rattle.fields.specs.Puts.{patched}
 use Rattle.fields.proofs.Patching.{length-patched, patched-here, patched-before, patched-after}
+use Rattle.fields.proofs.Appending.{patched-one}
 use Rattle.slots.specs.Slots.{left-at, right-at, slot-width, slot, mark-of, left-length, right-length, left-of, right-of, Short, OnlySlot, PutSides, PutMark, PutRight}
-use Rattle.slots.proofs.Parts.{slot-length, slot-patched, only-patched, only-trans, set-patched}
+use Rattle.slots.proofs.Parts.{slot-length, slot-patched, only-patched, only-trans}
 
 -- one byte, as a part
 byte-of : (s : List ℕ) (i : ℕ) → getD s i 0 ≡ getD (take 1 (drop i s)) 0 0
@@ -18,18 +19,17 @@ byte-of s i =
     let e : i ≡ i + 0 = omega arith in
     ap (λ z. getD s z 0) e ∙ sym (getD-drop i s 0 0) ∙ sym (getD-take 1 (drop i s) 0 0 (omega arith))
 
--- a byte outside the part that was put, and the byte that was put
-module _ (a : ℕ) (p s : List ℕ) (room : a + length p ≤ length s) where
-  byte-before : (i : ℕ) → i < a → getD (patched a p s) i 0 ≡ getD s i 0
-  byte-before i h =
-      byte-of (patched a p s) i ∙ ap (λ z. getD z 0 0) (patched-before a p s room i 1 (omega arith)) ∙ sym (byte-of s i)
-
-  byte-after : (i : ℕ) → a + length p ≤ i → getD (patched a p s) i 0 ≡ getD s i 0
-  byte-after i h =
-      byte-of (patched a p s) i ∙ ap (λ z. getD (take 1 z) 0 0) (patched-after a p s room i h) ∙ sym (byte-of s i)
+-- a byte behind the part that was put, and the byte that was put
+byte-after : (a : ℕ) (p s : List ℕ) → a + length p ≤ length s → (i : ℕ) → a + length p ≤ i → getD (patched a p s) i 0 ≡ getD s i 0
+byte-after a p s room i h =
+    byte-of (patched a p s) i ∙ ap (λ z. getD (take 1 z) 0 0) (patched-after a p s room i h) ∙ sym (byte-of s i)
 
 byte-here : (a v : ℕ) (s : List ℕ) → a + 1 ≤ length s → getD (patched a (v ∷ []) s) a 0 ≡ v
 byte-here a v s h = byte-of (patched a (v ∷ []) s) a ∙ ap (λ z. getD z 0 0) (patched-here a (v ∷ []) s h)
+
+-- a side at a with its length at b
+abbrev with-side : ℕ → ℕ → List ℕ → List ℕ → List ℕ
+with-side a b side s = patched b (length side ∷ []) (patched a side s)
 
 -- one slot, by itself
 module _ (s : List ℕ) (whole : length s ≡ slot-width) where
@@ -55,79 +55,69 @@ module _ (s : List ℕ) (whole : length s ≡ slot-width) where
     unfolding right-of
     mark-right = ap₂ take mark-right-length (patched-after 0 mark s (omega arith) right-at (omega arith))
 
-  -- a right side with its length
+  -- a side with its length before it
+  module _ (a b : ℕ) (side : List ℕ) (before : b < a) (fits : a + length side ≤ slot-width) where
+    room : b + 1 ≤ length (patched a side s)
+    room = omega (arith, length-patched a side s (omega arith))
+
+    side-before : (i n : ℕ) → i + n ≤ b → take n (drop i (with-side a b side s)) ≡ take n (drop i s)
+    side-before i n h = patched-before b (length side ∷ []) (patched a side s) room i n h ∙ patched-before a side s (omega arith) i n (omega arith)
+
+    side-behind : (i : ℕ) → b < i → drop i (with-side a b side s) ≡ drop i (patched a side s)
+    side-behind i h = patched-after b (length side ∷ []) (patched a side s) room i (omega arith)
+
+    side-length : getD (with-side a b side s) b 0 ≡ length side
+    side-length = byte-here b (length side) (patched a side s) room
+
+    side-here : (n : ℕ) → n ≡ length side → take n (drop a (with-side a b side s)) ≡ side
+    side-here n e = ap₂ take e (side-behind a before) ∙ patched-here a side s (omega arith)
+
+  -- a right side
   module _ (right : List ℕ) (few : length right ≤ most-nodes) where
-    length-right : length (patched right-at right s) ≡ slot-width
-    length-right = length-patched right-at right s (omega arith) ∙ whole
-
-    abbrev pub with-right : List ℕ
-    with-right = patched (origin-width + 1) (length right ∷ []) (patched right-at right s)
-
-    pub length-with-right : length with-right ≡ slot-width
-    length-with-right =
-        length-patched (origin-width + 1) (length right ∷ []) (patched right-at right s) (omega (arith, length-right)) ∙ length-right
-
-    -- what stands before
-    right-before : (a n : ℕ) → a + n ≤ origin-width + 1 → take n (drop a with-right) ≡ take n (drop a s)
-    right-before a n h =
-        patched-before (origin-width + 1) (length right ∷ []) (patched right-at right s) (omega (arith, length-right)) a n h
-        ∙ patched-before right-at right s (omega arith) a n (omega arith)
+    abbrev with-right : List ℕ
+    with-right = with-side right-at (origin-width + 1) right s
 
     pub right-mark : mark-of with-right ≡ mark-of s
     unfolding mark-of
-    right-mark = right-before 0 origin-width (omega arith)
+    right-mark = side-before right-at (origin-width + 1) right (omega arith) (omega arith) 0 origin-width (omega arith)
 
     pub right-left-length : left-length with-right ≡ left-length s
     unfolding left-length
-    right-left-length = byte-of with-right origin-width ∙ ap (λ z. getD z 0 0) (right-before origin-width 1 (omega arith)) ∙ sym (byte-of s origin-width)
+    right-left-length =
+        byte-of with-right origin-width
+        ∙ ap (λ z. getD z 0 0) (side-before right-at (origin-width + 1) right (omega arith) (omega arith) origin-width 1 (omega arith))
+        ∙ sym (byte-of s origin-width)
 
     pub right-length-is : right-length with-right ≡ length right
     unfolding right-length
-    right-length-is = byte-here (origin-width + 1) (length right) (patched right-at right s) (omega (arith, length-right))
+    right-length-is = side-length right-at (origin-width + 1) right (omega arith) (omega arith)
 
     pub right-left : left-length s ≤ most-nodes → left-of with-right ≡ left-of s
     unfolding left-of
     right-left h =
-        ap (λ z. take z (drop left-at with-right)) right-left-length
-        ∙ ap (take (left-length s))
-        (patched-after (origin-width + 1) (length right ∷ []) (patched right-at right s) (omega (arith, length-right)) left-at (omega arith))
+        ap₂ take right-left-length (side-behind right-at (origin-width + 1) right (omega arith) (omega arith) left-at (omega arith))
         ∙ patched-before right-at right s (omega arith) left-at (left-length s) (omega arith)
 
     pub right-right : right-of with-right ≡ right
     unfolding right-of
-    right-right =
-        ap (λ z. take z (drop right-at with-right)) right-length-is
-        ∙ ap (take (length right))
-        (patched-after (origin-width + 1) (length right ∷ []) (patched right-at right s) (omega (arith, length-right)) right-at (omega arith))
-        ∙ patched-here right-at right s (omega arith)
+    right-right = side-here right-at (origin-width + 1) right (omega arith) (omega arith) (right-length with-right) right-length-is
 
-  -- a left side with its length
+  -- a left side
   module _ (left : List ℕ) (few : length left ≤ most-nodes) where
-    length-left : length (patched left-at left s) ≡ slot-width
-    length-left = length-patched left-at left s (omega arith) ∙ whole
-
-    abbrev pub with-left : List ℕ
-    with-left = patched origin-width (length left ∷ []) (patched left-at left s)
-
-    pub length-with-left : length with-left ≡ slot-width
-    length-with-left = length-patched origin-width (length left ∷ []) (patched left-at left s) (omega (arith, length-left)) ∙ length-left
+    abbrev with-left : List ℕ
+    with-left = with-side left-at origin-width left s
 
     pub left-mark : mark-of with-left ≡ mark-of s
     unfolding mark-of
-    left-mark =
-        patched-before origin-width (length left ∷ []) (patched left-at left s) (omega (arith, length-left)) 0 origin-width (omega arith)
-        ∙ patched-before left-at left s (omega arith) 0 origin-width (omega arith)
+    left-mark = side-before left-at origin-width left (omega arith) (omega arith) 0 origin-width (omega arith)
 
     pub left-length-is : left-length with-left ≡ length left
     unfolding left-length
-    left-length-is = byte-here origin-width (length left) (patched left-at left s) (omega (arith, length-left))
+    left-length-is = side-length left-at origin-width left (omega arith) (omega arith)
 
     pub left-left : left-of with-left ≡ left
     unfolding left-of
-    left-left =
-        ap (λ z. take z (drop left-at with-left)) left-length-is
-        ∙ ap (take (length left)) (patched-after origin-width (length left ∷ []) (patched left-at left s) (omega (arith, length-left)) left-at (omega arith))
-        ∙ patched-here left-at left s (omega arith)
+    left-left = side-here left-at origin-width left (omega arith) (omega arith) (left-length with-left) left-length-is
 
 -- Slot k of a list.
 module _ (slots : List ℕ) (k : ℕ) (room : slot-width * (k + 1) ≤ length slots) where
@@ -144,7 +134,7 @@ module _ (slots : List ℕ) (k : ℕ) (room : slot-width * (k + 1) ≤ length sl
 
     module _ (b v : ℕ) (in-slot : b + 1 ≤ slot-width) where
       set-is : set slots₁ (slot-width * k + b) v ≡ patched (slot-width * k + b) (v ∷ []) slots₁
-      set-is = set-patched slots₁ (slot-width * k + b) v (omega (arith, first-only .same))
+      set-is = patched-one (slot-width * k + b) v slots₁ (omega (arith, first-only .same))
 
       pub both-only : OnlySlot slots k (set slots₁ (slot-width * k + b) v)
       both-only =

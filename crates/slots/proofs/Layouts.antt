@@ -1,18 +1,17 @@
 -- Room and lengths of slots, and the pair that stands in a slot that was put. Assumes nothing.
 -- Read first: specs/Slots (Layout, OnlySlot, PutSides).
-use mathlib.Core.Path.{_≡_, refl, sym, _∙_, subst}
+use mathlib.Core.Path.{_≡_, refl, sym, _∙_, subst, subst₂}
 use mathlib.Core.List.{List}
 use Prim.Native.Nat.{ℕ, zero, suc, _+_, _*_, _<_, _≤_}
 use native.Mathlib.Omega.{arith}
 use native.Mathlib.Decide.{ℕ-discrete}
-use lib.ListN.{length, drop, replicate, length-take}
-use Rattle.limits.specs.Limits.{most-nodes}
+use lib.ListN.{length, getD, drop, replicate, length-take, length-drop, length-replicate}
+use lib.Seq.{length-take-le}
+use Rattle.limits.specs.Limits.{most-nodes, origin-width}
 use Rattle.terms.specs.Term.{Term, Pair, term-bytes}
 use Rattle.terms.specs.Flat.{Wf}
 use Rattle.slots.specs.Slots.{slot-width, left-at, right-at, slot, left-of, right-of, left-length, right-length, Short, Layout, Sides, PairAt, OnlySlot, PutSides, PutMark, PutRight, KeptSlot}
-
-pub layout-none : (slots : List ℕ) → Layout slots 0
-layout-none slots = record { room = omega arith; short = λ k h. absurd (omega arith) }
+use Rattle.slots.proofs.Parts.{slot-length, slot-byte}
 
 pub layout-less : {slots : List ℕ} {m n : ℕ} → m ≤ n → Layout slots n → Layout slots m
 layout-less h y = let r = y .room in record { room = omega arith; short = λ k j. y .short k (omega arith) }
@@ -31,26 +30,31 @@ layout-put {slots} {slots′} {n} {k} y o s = let r = y .room in record { room =
     go i h (yes e) = subst (λ z. Short (slot slots′ z)) (sym e) s
     go i h (no e) = short-moved slots slots′ i i (o .others i e) (y .short i h)
 
--- the same, with slot n written for the first time
-pub layout-more : {slots slots′ : List ℕ} {n : ℕ} → Layout slots n → slot-width * (n + 1) ≤ length slots → OnlySlot slots n slots′ → Short (slot slots′ n) →
-    Layout slots′ (n + 1)
-layout-more {slots} {slots′} {n} y r o s = record { room = omega (arith, o .same); short = λ i h. go i h (ℕ-discrete i n) }
-  where
-    go : (i : ℕ) → i < n + 1 → Dec (i ≡ n) → Short (slot slots′ i)
-    go i h (yes e) = subst (λ z. Short (slot slots′ z)) (sym e) s
-    go i h (no e) = short-moved slots slots′ i i (o .others i e) (y .short i (omega arith))
+-- one slot, and one copied from a list
+pub layout-one : {one : List ℕ} → slot-width ≤ length one → Short (slot one 0) → Layout one 1
+layout-one {one} r s = record { room = omega arith; short = λ k h. let e : 0 ≡ k = omega arith in subst (λ z. Short (slot one z)) e s }
 
--- one slot of zeros
-zeros-short : Short (slot (replicate slot-width 0) 0)
-unfolding slot left-length right-length
-zeros-short = record { left = omega arith; right = omega arith }
+pub copied-layout : (slots one : List ℕ) (k n : ℕ) → Layout slots n → k < n → slot one 0 ≡ slot slots k → length one ≡ slot-width → Layout one 1
+copied-layout slots one k n y h e l = layout-one (omega arith) (short-moved slots one k 0 e (y .short k h))
+
+-- slots of zeros
+zeros-at : (n i : ℕ) → _≡_ {A = ℕ} (getD (replicate n 0) i 0) 0
+zeros-at zero i = refl
+zeros-at (suc n) zero = refl
+zeros-at (suc n) (suc i) = zeros-at n i
+
+pub zeros-layout : (n count : ℕ) → slot-width * count ≤ n → Layout (replicate n 0) count
+unfolding left-length right-length
+zeros-layout n count h = record {
+  room = omega (arith, length-replicate {A = ℕ} n 0);
+  short = λ k _. record { left = omega (arith, byte k origin-width (omega arith)); right = omega (arith, byte k (origin-width + 1) (omega arith)) };
+}
+  where
+    byte : (k a : ℕ) → a < slot-width → getD (slot (replicate n 0) k) a 0 ≡ 0
+    byte k a b = slot-byte (replicate n 0) k a b ∙ zeros-at n (slot-width * k + a)
 
 pub layout-zeros : Layout (replicate slot-width 0) 1
-layout-zeros = record { room = omega arith; short = go }
-  where
-    go : (k : ℕ) → k < 1 → Short (slot (replicate slot-width 0) k)
-    go zero h = zeros-short
-    go (suc k) h = absurd (omega arith)
+layout-zeros = zeros-layout slot-width 1 (omega arith)
 
 pub left-short : {s : List ℕ} → Short s → length (left-of s) ≤ most-nodes
 unfolding left-of
@@ -59,6 +63,19 @@ left-short {s} h = let m = h .left in omega (arith, length-take (left-length s) 
 pub right-short : {s : List ℕ} → Short s → length (right-of s) ≤ most-nodes
 unfolding right-of
 right-short {s} h = let m = h .right in omega (arith, length-take (right-length s) (drop right-at s))
+
+-- the left side of a slot is as long as the slot says
+pub left-long : (slots : List ℕ) (k : ℕ) → Layout slots (k + 1) → length (left-of (slot slots k)) ≡ left-length (slot slots k)
+unfolding left-of
+left-long slots k y =
+    let m = y .short k (omega arith) .left in
+    length-take-le (left-length (slot slots k)) (drop left-at (slot slots k))
+    (omega (arith, length-drop left-at (slot slots k), slot-length slots k (y .room)))
+
+-- the sides that were read are those of the pair in the slot
+pub sides-read : {n : ℕ} {tab slots l r : List ℕ} {k : ℕ} {e : Pair} → l ≡ left-of (slot slots k) → r ≡ right-of (slot slots k) →
+    PairAt n tab slots k e → Sides n tab l r e
+sides-read {n} {tab} {e = e} p q h = subst₂ (λ l r. Sides n tab l r e) (sym p) (sym q) (h .sides)
 
 -- the pair of a slot that was put, of one that got a mark, and of one that got another right side
 pub pair-put : {n : ℕ} {tab slots : List ℕ} {k : ℕ} {left right slots′ : List ℕ} {e : Pair} → PutSides slots k left right slots′ → Sides n tab left right e →

@@ -1,13 +1,12 @@
 -- A slot's bytes are those of the list from the slot's place on; bytes put into a slot change that slot alone, and there the same part. Assumes nothing.
 -- Read first: specs/Slots (slot, OnlySlot), fields/specs/Puts (patched), fields/proofs/Patching.
 use mathlib.Core.Path.{_≡_, sym, ap, ap₂, _∙_}
-use mathlib.Core.List.{List, [], _∷_, _++_, append-assoc}
+use mathlib.Core.List.{List, _++_, append-assoc}
 use Prim.Native.Nat.{ℕ, _+_, _*_, _-_, _<_, _≤_}
 use native.Mathlib.Omega.{arith}
 use native.Mathlib.Decide.{decLt}
-use native.Mathlib.Numerals.{add-one}
-use lib.ListN.{length, getD, drop, take, set, length-append, length-take, length-drop}
-use lib.Seq.{length-take-le, take-take, take-add, take-append-add, drop-at, drop-drop, getD-take, getD-drop, ext-getD, set-split}
+use lib.ListN.{length, getD, drop, take, length-append, length-drop}
+use lib.Seq.{length-take-le, take-take, take-add, take-append-add, drop-at, drop-drop, getD-take, getD-drop, ext-getD}
 use Rattle.terms.proofs.Lists.{take-drop}
 use Rattle.fields.specs.Puts.{patched}
 use Rattle.fields.proofs.Patching.{length-patched, patched-before, patched-after}
@@ -31,23 +30,12 @@ unfolding slot
 slot-byte slots k a h = getD-take slot-width (drop (slot-width * k) slots) a 0 h ∙ getD-drop (slot-width * k) slots a 0
 
 -- two slots with the same bytes
-slot-as : (slots slots′ : List ℕ) (i j : ℕ) → length (slot slots′ i) ≡ length (slot slots j) →
-    ((a : ℕ) → a < slot-width → getD slots′ (slot-width * i + a) 0 ≡ getD slots (slot-width * j + a) 0) → slot slots′ i ≡ slot slots j
-unfolding slot
-slot-as slots slots′ i j m f =
-    ext-getD 0 (slot slots′ i) (slot slots j) m
-    (λ a h.
-    let b : a < slot-width = omega (arith, length-take slot-width (drop (slot-width * i) slots′)) in
-    slot-byte slots′ i a b ∙ f a b ∙ sym (slot-byte slots j a b))
-
 pub slot-moved : (slots slots′ : List ℕ) (i j : ℕ) → slot-width * (i + 1) ≤ length slots′ → slot-width * (j + 1) ≤ length slots →
     ((a : ℕ) → a < slot-width → getD slots′ (slot-width * i + a) 0 ≡ getD slots (slot-width * j + a) 0) → slot slots′ i ≡ slot slots j
-slot-moved slots slots′ i j r s f = slot-as slots slots′ i j (slot-length slots′ i r ∙ sym (slot-length slots j s)) f
-
--- one byte put is a list of one byte put
-pub set-patched : (d : List ℕ) (i v : ℕ) → i < length d → set d i v ≡ patched i (v ∷ []) d
-unfolding patched
-set-patched d i v h = set-split d i v h ∙ ap (λ z. take i d ++ (v ∷ drop z d)) (sym (add-one i))
+slot-moved slots slots′ i j r s f =
+    let m = slot-length slots′ i r in
+    ext-getD 0 (slot slots′ i) (slot slots j) (m ∙ sym (slot-length slots j s))
+    (λ a h. let b : a < slot-width = omega arith in slot-byte slots′ i a b ∙ f a b ∙ sym (slot-byte slots j a b))
 
 -- Bytes put into slot k.
 module _ (a : ℕ) (p : List ℕ) where

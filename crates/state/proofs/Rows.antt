@@ -2,13 +2,12 @@
 -- Read first: specs/Run (as-removed, held), inputs/specs/Inputs (marked).
 use mathlib.Core.Path.{_≡_, refl, ap, _∙_, subst}
 use mathlib.Core.List.{List, [], _∷_, _++_, map}
-use Prim.Native.Nat.{ℕ, zero, suc, _+_, _<_}
+use Prim.Native.Nat.{ℕ, _+_}
 use native.Mathlib.Omega.{arith}
 use lib.ListN.{length, length-append, length-map}
 use Rattle.rewriting.specs.Overlap.{Rule}
-use Rattle.slots.specs.Slots.{slot-width, slot, Short, Layout, Marked, MarkedAt, Holds}
+use Rattle.slots.specs.Slots.{Marked, MarkedAt, Holds}
 use Rattle.slots.proofs.Listing.{all-split, all-first}
-use Rattle.slots.proofs.Layouts.{short-moved}
 use Rattle.completion.specs.Turn.{Candidate}
 use Rattle.inputs.specs.Inputs.{marked}
 use Rattle.state.specs.Run.{as-removed, held}
@@ -41,11 +40,3 @@ row-at tab slots k xs m ys h e =
     let p = all-first (MarkedAt tab slots) (0 + length xs) m ys (all-split (MarkedAt tab slots) 0 xs (m ∷ ys) h .1) in
     let z : 0 + length xs ≡ k = omega arith in
     subst (λ i. MarkedAt tab slots i m) z p
-
--- a slot by value
-pub copied-layout : (slots one : List ℕ) (k n : ℕ) → Layout slots n → k < n → slot one 0 ≡ slot slots k → length one ≡ slot-width → Layout one 1
-copied-layout slots one k n y h e l = record { room = omega arith; short = go }
-  where
-    go : (i : ℕ) → i < 1 → Short (slot one i)
-    go zero j = short-moved slots one k 0 e (y .short k h)
-    go (suc i) j = absurd (omega arith)

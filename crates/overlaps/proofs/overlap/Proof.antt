@@ -1,6 +1,7 @@
 -- `overlap`: no right side (`overlap-empty`), or what `meet` answers of the sides (`overlap-met`). Assumes nothing.
 -- Read first: specs/Answer (Overlapped), proofs/Meeting.
-use Rattle.overlaps.proofs.Meeting.{left-long, overlap-empty, overlap-met}
+use Rattle.slots.proofs.Layouts.{left-long}
+use Rattle.overlaps.proofs.Meeting.{overlap-empty, overlap-met}
 use native.Mathlib.Omega.{arith}
 use mathlib.Core.Path.{ap}
 use lib.ListN.{length}

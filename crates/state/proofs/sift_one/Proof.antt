@@ -3,7 +3,7 @@
 use mathlib.Core.Path.{_≡_, ap, _∙_}
 use lib.ListN.{length}
 use Rattle.slots.specs.Slots.{slot-width, left-of}
-use Rattle.state.proofs.Rows.{copied-layout}
+use Rattle.slots.proofs.Layouts.{copied-layout}
 use Rattle.state.proofs.Siftings.{one-goes, one-stays}
 use borrow.Author.Needs.{needs}
 use Rattle.state.proofs.sift_one.Statement.{statement}

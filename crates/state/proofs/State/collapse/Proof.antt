@@ -4,8 +4,7 @@ use mathlib.Core.Path.{_≡_}
 use native.Mathlib.Omega.{arith}
 use lib.ListN.{length}
 use Rattle.slots.specs.Slots.{slot-width}
-use Rattle.slots.proofs.Layouts.{layout-less}
-use Rattle.state.proofs.Rows.{copied-layout}
+use Rattle.slots.proofs.Layouts.{layout-less, copied-layout}
 use Rattle.state.proofs.Changing.{collapse-done}
 use borrow.Author.Needs.{needs}
 use Rattle.state.proofs.State.collapse.Statement.{statement}
