@@ -1,4 +1,5 @@
--- Well-formed terms have symbols below 128; the renamed bytes of two sides are those of the renamed pair, which is well-formed, also cut from a buffer. Assumes nothing.
+-- Well-formed terms have symbols below 128; the renamed bytes of two sides, also cut from a buffer, are those of the renamed pair, which is
+-- well-formed. Assumes nothing.
 -- Read first: terms/specs/Flat (Wf), terms/specs/Term (renamed), proofs/Renaming (renamed-terms).
 use mathlib.Core.Path.{_≡_, sym, ap, _∙_}
 use mathlib.Core.List.{List, _++_, append-assoc, append-nil}
@@ -46,15 +47,16 @@ module _ (n : ℕ) (tab : List ℕ) (e : Pair) (v : Wf n tab (e .left)) (w : Wf 
       r ∙ ap (λ z. z ++ rest) (renamed-pair e (wf-low n tab (e .left) v) (wf-low n tab (e .right) w))
       ∙ append-assoc (term-bytes (renamed e .left)) (term-bytes (renamed e .right)) rest
 
+  left-long : length (term-bytes (renamed e .left)) ≡ size (e .left)
+  left-long = length-bytes (renamed e .left) ∙ renamed-left-size e
+
   pub left-cut : (a : ℕ) → a ≡ size (e .left) → take a d ≡ term-bytes (renamed e .left)
-  left-cut a p =
-      ap (take a) sides-are
-      ∙ take-at (term-bytes (renamed e .left)) (term-bytes (renamed e .right) ++ rest) a (length-bytes (renamed e .left) ∙ renamed-left-size e ∙ sym p)
+  left-cut a p = ap (take a) sides-are ∙ take-at (term-bytes (renamed e .left)) (term-bytes (renamed e .right) ++ rest) a (left-long ∙ sym p)
 
   pub right-cut : (a b : ℕ) → a ≡ size (e .left) → b ≡ size (e .right) → take b (drop a d) ≡ term-bytes (renamed e .right)
   right-cut a b p q =
       ap (λ z. take b (drop a z)) sides-are
-      ∙ ap (take b) (drop-at (term-bytes (renamed e .left)) (term-bytes (renamed e .right) ++ rest) a (length-bytes (renamed e .left) ∙ renamed-left-size e ∙ sym p))
+      ∙ ap (take b) (drop-at (term-bytes (renamed e .left)) (term-bytes (renamed e .right) ++ rest) a (left-long ∙ sym p))
       ∙ take-at (term-bytes (renamed e .right)) rest b (length-bytes (renamed e .right) ∙ renamed-right-size e ∙ sym q)
 
 -- variables below n: at most n different ones

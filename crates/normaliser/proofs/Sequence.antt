@@ -133,18 +133,14 @@ others : (rules : List Rule) (big : ℕ → Bool) (ts : Terms) (u : Term) (m : �
     normalise-all rules big (cons u ts) m ≡ then-others rules big ts u m
 unfolding size
 others rules big ts u m e =
-    seq m ts
+    sequence (step-in rules) (λ vs. big (sizes vs)) (step-in rules) (cons u) (λ us. none) laws m ts
+    ∙ and-then-same (normalise-all rules (λ n. big (size u + n)) ts m) _ (λ us k. done (cons u us) k) (λ us k q. pay us k)
   where
     laws : (us : Terms) → step-in rules (cons u us) ≡ or-else (mapped (cons u) (step-in rules us)) none
     laws us = step-cons rules u us e ∙ or-none (mapped (cons u) (step-in rules us))
 
     pay : (us : Terms) (k : ℕ) → pay-for (λ vs. big (sizes vs)) (λ vs n. normalise-all rules big vs n) (cons u us) none k ≡ done (cons u us) k
     pay us k = unfold pay-for in refl
-
-    seq : (m : ℕ) (ts : Terms) → normalise-all rules big (cons u ts) m ≡ then-others rules big ts u m
-    seq m ts =
-        sequence (step-in rules) (λ vs. big (sizes vs)) (step-in rules) (cons u) (λ us. none) laws m ts
-        ∙ and-then-same (normalise-all rules (λ n. big (size u + n)) ts m) _ (λ us k. done (cons u us) k) (λ us k q. pay us k)
 
 pub normalise-cons : (rules : List Rule) (big : ℕ → Bool) (t : Term) (ts : Terms) (left : ℕ) →
     normalise-all rules big (cons t ts) left ≡ and-then (normalise-in rules (λ n. big (n + sizes ts)) t left) (λ u m. then-others rules big ts u m)

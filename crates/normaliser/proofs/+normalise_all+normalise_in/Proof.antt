@@ -154,18 +154,9 @@ module _ (t : ℕ) where
 
 pub +normalise-all+normalise-in-spec : {M : Type 1} → statement M
 +normalise-all+normalise-in-spec = close μ-normalise-all μ-normalise-in (λ t. normalise-all-lts.spec
-    (all-cs t)
-    (normalise-all-at t)
-    normalise-all.Post
-    all-Inv
-    all-μ
+    (all-cs t) (normalise-all-at t) normalise-all.Post all-Inv all-μ
     (λ c. let entry : All-Start t = search depth 0 in row-start (entry .pre .1 .1))
-    (λ c. search needs)
-    (λ c. search needs)
-    (λ c. search needs)
-    (λ c. search needs)
-    (λ c. search needs)
-    (λ c. search needs)
+    (λ c. search needs) (λ c. search needs) (λ c. search needs) (λ c. search needs) (λ c. search needs) (λ c. search needs)
     (λ c κs.
     let at-loop : All-At-loop t = search depth 0 in
     let p = all-entry-of t at-loop .pre in
@@ -189,35 +180,20 @@ pub +normalise-all+normalise-in-spec : {M : Type 1} → statement M
     (λ c.
     let at : All-After-normalise-in t = search depth 0 in
     let b = row-room (all-loop-of t at .loop .inv) (at .before .before .loop-test .taken) (at .normalise-in .ensures) in search needs)
-    (λ c. search needs)
-    (λ c. search needs)
+    (λ c. search needs) (λ c. search needs)
     (λ c.
     let at : All-After-normalise-in t = search depth 0 in
     row-on (all-loop-of t at .loop .inv) (at .before .before .loop-test .taken) (at .normalise-in .ensures) (c .before .before .enum-told .given .1))
-    (λ c κs. search needs)
-    (λ c. search needs)
+    (λ c κs. search needs) (λ c. search needs)
     (λ c. row-end (c .before .before .loop .inv) (search needs) (c .ended .ensures)))
     λ t. normalise-in-lts.spec
-    (in-cs t)
-    (normalise-in-at t)
-    normalise-in.Post
-    in-Inv
-    in-μ
+    (in-cs t) (normalise-in-at t) normalise-in.Post in-Inv in-μ
     (λ c. let entry : In-Start t = search depth 0 in turn-start (entry .pre .1 .1))
-    (λ c κs. search needs)
-    (λ c. search needs)
+    (λ c κs. search needs) (λ c. search needs)
     (λ c. turn-empty (c .before .before .loop .inv) (c .before .if1 .taken) (c .ended .ensures))
-    (λ c. search needs)
-    (λ c κs. search needs)
-    (λ c. search needs)
+    (λ c. search needs) (λ c κs. search needs) (λ c. search needs)
     (λ c. let at-loop : In-At-loop t = search depth 0 in turn-leave (at-loop .loop .inv) (c .before .if2 .taken) (c .leave .ensures))
-    (λ c κs. search needs)
-    (λ c κs. search needs)
-    (λ c. search needs)
-    (λ c. search needs)
-    (λ c. search needs)
-    (λ c. search needs)
-    (λ c. search needs)
+    (λ c κs. search needs) (λ c κs. search needs) (λ c. search needs) (λ c. search needs) (λ c. search needs) (λ c. search needs) (λ c. search needs)
     (λ c κs.
     let in-else1 : In-Else1 t = search depth 0 in
     let at-loop : In-At-loop t = search depth 0 in
@@ -229,11 +205,9 @@ pub +normalise-all+normalise-in-spec : {M : Type 1} → statement M
     let n = in-else1 .if1 .left in
     let e = from-length 1 (at-loop .loop .t) in
     (omega arith, (p .1 .0, (omega arith, omega arith, omega arith))))
-    (λ c. search needs)
-    (λ c. search needs)
+    (λ c. search needs) (λ c. search needs)
     (λ c. turn-stop (below t (search depth 0)) (λ z. not-normal (rw z at (c .match .keys2))))
-    (λ c. search needs)
-    (λ c. search needs)
+    (λ c. search needs) (λ c. search needs)
     (λ c κs.
     let at : In-After-normalise-all t = search depth 0 in
     (entry-of t (loop-of t at) .pre .1 .0, turn-room (below t at)))
