@@ -12,6 +12,7 @@ use Rattle.rewriting.specs.Overlap.{Rule}
 use Rattle.rewriting.specs.Rewrite.{Paid, done, stop}
 use Rattle.rewriting.specs.declared.End.{End}
 use Rattle.rewriting.specs.declared.Verdict.the-variants.{GoesOn, Ends}
+use Rattle.rewriting.proofs.Verdicts.{goes≢ends}
 use Rattle.slots.specs.Slots.{slot-width, slot, Layout, PairAt, MarkedAt, Holds, Removed, Inserted}
 use Rattle.slots.specs.declared.Pairs.{Pairs}
 use Rattle.slots.proofs.Listing.{pair-moved}
@@ -122,21 +123,18 @@ module _ (st : State) (fine : Fine st) where
 -- `orient`
 module _ (tab pair : List ℕ) (st : State) (o : Oriented) where
   module _ (number : ℕ) (h : RuleOf tab pair number o) (e : End) (ends : o .verdict ≡ Ends e) where
-    no-rule : o .verdict ≡ GoesOn → ⊥
-    no-rule g = let q : Ends e ≡ GoesOn = sym ends ∙ g in let z : _≡_ {A = ℕ} 0 1 = cc in omega arith
-
     abbrev as-it-was : Stepped
     as-it-was = record { state = st; verdict = o .verdict }
 
     ended : (s : RunState) (p : Pair) (units : ℕ) (m : Paid Pair) → OrientedIs tab o p units m → NewRule tab s p units as-it-was m
-    ended s p units (done q left) a = absurd (no-rule (a .0))
+    ended s p units (done q left) a = absurd (goes≢ends (a .0) ends)
     ended s p units (stop f left) a = a
 
     pub orient-ends : Orients tab pair st as-it-was
     orient-ends = record {
-      fine = λ g. absurd (no-rule g);
-      live = λ g. absurd (no-rule g);
-      made = λ g. absurd (no-rule g);
+      fine = λ g. absurd (goes≢ends g ends);
+      live = λ g. absurd (goes≢ends g ends);
+      made = λ g. absurd (goes≢ends g ends);
       same = record { log = refl; units = refl };
       answer = λ P k s p r q units. ended s p units (oriented P p units) (h .answer P k p q units);
     }

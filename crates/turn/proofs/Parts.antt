@@ -31,7 +31,7 @@ use Rattle.turn.proofs.Making.{make-unplaced, make-full, make-rights-en
 
 -- steps 2 and 3, from a state that has begun its turn
 pub record Settles (st : State) (t : Taken) (o : Turned) : Type 0 where
-  pub safe : t .units ≤ st .units → TurnSafe st o
+  pub safe : Layout (t .pair) 1 → t .units ≤ st .units → TurnSafe st o
   pub goes : o .verdict ≡ GoesOn
   pub units : o .state .units ≡ t .units
   pub represents : (tab : List ℕ) (s : RunState) (from : Origin) → Represents tab st s → mark-of (slot (t .pair) 0) ≡ origin-bytes from →
@@ -39,7 +39,7 @@ pub record Settles (st : State) (t : Taken) (o : Turned) : Type 0 where
 
 -- steps 4 to 7 and the log
 pub record Makes (tab : List ℕ) (st : State) (t : Taken) (o : Turned) : Type 0 where
-  pub safe : t .units ≤ st .units → TurnSafe st o
+  pub safe : Fine st → Layout (t .pair) 1 → t .units ≤ st .units → TurnSafe st o
   pub answer : (P : Problem) → rank-of (P .symbols) ≡ rank tab → (s : RunState) (k : TakenPair) → Represents tab st s → k .waiting ≡ behind-first (s .waiting) →
       PairAt most-apart tab (t .pair) 0 (k .pair .sides) → mark-of (slot (t .pair) 0) ≡ origin-bytes (k .pair .origin) → TurnedIs tab s o
       (make-rule P s k (t .units))
@@ -62,12 +62,12 @@ settle-logs T few =
       omega (arith, same-count (T .same .log)),
     )
 
-pub settles : {st tk lg : State} {t : Taken} {origin : List ℕ} {o : Turned} → Layout (t .pair) 1 → Takes st tk → origin ≡ mark-of (slot (t .pair) 0) →
+pub settles : {st tk lg : State} {t : Taken} {origin : List ℕ} {o : Turned} → Takes st tk → origin ≡ mark-of (slot (t .pair) 0) →
     Logs tk origin 0 (t .units) lg → o ≡ going-as lg (t .pair) → Settles st t o
-settles {st} {tk} {lg} {t} y T from L e =
+settles {st} {tk} {lg} {t} T from L e =
     subst (Settles st t) (sym e)
     (record {
-      safe = λ l. go-safe (L .fine) (L .entries ∙ ap (λ n. n + 1) (same-count (T .same .log))) (omega (arith, L .units-are)) y;
+      safe = λ y l. go-safe (L .fine) (L .entries ∙ ap (λ n. n + 1) (same-count (T .same .log))) (omega (arith, L .units-are)) y;
       goes = refl;
       units = L .units-are;
       represents = λ tab s o R m. L .represents tab (without-oldest s) o (T .represents tab s R) (from ∙ m);
@@ -101,47 +101,46 @@ module _ {tab pair : List ℕ} {st tk : State} {o : Stepped} (T : Takes st tk) (
 pub compose-room : {tab : List ℕ} {st next : State} → Collapses tab st next → Layout (next .pairs .bytes) (next .live)
 compose-room C = layout-less (C .fine .within) (C .fine .layout)
 
-module _ {tab : List ℕ} {st tk : State} {t : Taken} {o : Stepped} (T : Takes st tk) (O : Orients tab (t .pair) tk o) where
-  module _ (F : Fine st) (y : Layout (t .pair) 1) {r : Turned} where
-    pub makes-unplaced : {end : Ending} → o .verdict ≡ Ends end → r ≡ ended-as st end (t .units) (t .pair) → Makes tab st t r
-    makes-unplaced v e =
+module _ {tab : List ℕ} {st tk : State} {t : Taken} {o : Stepped} (T : Takes st tk) (O : Orients tab (t .pair) tk o) {r : Turned} where
+  pub makes-unplaced : {end : Ending} → o .verdict ≡ Ends end → r ≡ ended-as st end (t .units) (t .pair) → Makes tab st t r
+  makes-unplaced v e =
+      subst (Makes tab st t) (sym e)
+      (record {
+        safe = λ F y l. stop-safe F l y;
+        answer = λ P ranks s k R waits shown mark.
+            make-unplaced tab P s k waits (t .units) st R (t .pair) o (oriented-as T O (t .units) P ranks s k R shown) v shown;
+      })
+
+  module _ (v : o .verdict ≡ GoesOn) {next : State} (C : Collapses tab (o .state) next) where
+    pub makes-full : most-rules < next .live → r ≡ ended-as st RulesFull (t .units) (t .pair) → Makes tab st t r
+    makes-full full e =
         subst (Makes tab st t) (sym e)
         (record {
-          safe = λ l. stop-safe F l y;
+          safe = λ F y l. stop-safe F l y;
           answer = λ P ranks s k R waits shown mark.
-              make-unplaced tab P s k waits (t .units) st R (t .pair) o (oriented-as T O (t .units) P ranks s k R shown) v shown;
+              make-full tab P s k waits (t .units) st R (t .pair) o (oriented-as T O (t .units) P ranks s k R shown) v C full;
         })
 
-    module _ (v : o .verdict ≡ GoesOn) {next : State} (C : Collapses tab (o .state) next) where
-      pub makes-full : most-rules < next .live → r ≡ ended-as st RulesFull (t .units) (t .pair) → Makes tab st t r
-      makes-full full e =
+    module _ (few : next .live ≤ most-rules) {b : List ℕ} {c : Composed} (A : All tab (next .pairs .bytes) b (next .live) (t .units) c) where
+      pub makes-rights-end : {end : Ending} → c .verdict ≡ Ends end → r ≡ ended-as st end (c .units) (t .pair) → Makes tab st t r
+      makes-rights-end w e =
+          let less = A .left-over in
           subst (Makes tab st t) (sym e)
           (record {
-            safe = λ l. stop-safe F l y;
+            safe = λ F y l. stop-safe F (omega arith) y;
             answer = λ P ranks s k R waits shown mark.
-                make-full tab P s k waits (t .units) st R (t .pair) o (oriented-as T O (t .units) P ranks s k R shown) v C full;
+                make-rights-end tab P s k waits (t .units) st R (t .pair) o (oriented-as T O (t .units) P ranks s k R shown) v C few A w;
           })
 
-      module _ (few : next .live ≤ most-rules) {b : List ℕ} {c : Composed} (A : All tab (next .pairs .bytes) b (next .live) (t .units) c) where
-        pub makes-rights-end : {end : Ending} → c .verdict ≡ Ends end → r ≡ ended-as st end (c .units) (t .pair) → Makes tab st t r
-        makes-rights-end w e =
-            let less = A .left-over in
-            subst (Makes tab st t) (sym e)
-            (record {
-              safe = λ l. stop-safe F (omega arith) y;
-              answer = λ P ranks s k R waits shown mark.
-                  make-rights-end tab P s k waits (t .units) st R (t .pair) o (oriented-as T O (t .units) P ranks s k R shown) v C few A w;
-            })
-
-        pub makes-goes : {origin : List ℕ} {made : ℕ} {lg : State} → c .verdict ≡ GoesOn → origin ≡ mark-of (slot (t .pair) 0) → made ≡ next .made →
-            Logs (with-slots next b) origin made (c .units) lg → r ≡ going-as lg (t .pair) → Makes tab st t r
-        makes-goes {origin} {made} {lg} w from m L′ e =
-            let L : Logs (with-slots next b) origin (next .made) (c .units) lg = subst (λ n. Logs (with-slots next b) origin n (c .units) lg) m L′ in
-            let less = A .left-over in
-            subst (Makes tab st t) (sym e)
-            (record {
-              safe = λ l. go-safe (L .fine) (omega (arith, L .entries, log-same T O C)) (omega (arith, L .units-are)) y;
-              answer = λ P ranks s k R waits shown mark.
-                  make-goes tab P s k waits (t .units) st R (t .pair) o (oriented-as T O (t .units) P ranks s k R shown) v C few A w L
-                  (from ∙ mark);
-            })
+      pub makes-goes : {origin : List ℕ} {made : ℕ} {lg : State} → c .verdict ≡ GoesOn → origin ≡ mark-of (slot (t .pair) 0) → made ≡ next .made →
+          Logs (with-slots next b) origin made (c .units) lg → r ≡ going-as lg (t .pair) → Makes tab st t r
+      makes-goes {origin} {made} {lg} w from m L′ e =
+          let L : Logs (with-slots next b) origin (next .made) (c .units) lg = subst (λ n. Logs (with-slots next b) origin n (c .units) lg) m L′ in
+          let less = A .left-over in
+          subst (Makes tab st t) (sym e)
+          (record {
+            safe = λ F y l. go-safe (L .fine) (omega (arith, L .entries, log-same T O C)) (omega (arith, L .units-are)) y;
+            answer = λ P ranks s k R waits shown mark.
+                make-goes tab P s k waits (t .units) st R (t .pair) o (oriented-as T O (t .units) P ranks s k R shown) v C few A w L
+                (from ∙ mark);
+          })

@@ -204,7 +204,7 @@ module _ {tab inputs : List ℕ} {count : ℕ} {st begun : State} {t : Taken} {d
   pub turn-settled : {o : Turned} → d ≡ Settle → Settles begun t o → Turns tab inputs count st o
   turn-settled {o} p S′ =
       let S : Settles (with-units st u) t o = subst (λ b. Settles b t o) began S′ in
-      turned o (S .safe (L .left-over)) (λ P G s R. go S P s R (steps P G s R))
+      turned o (S .safe (L .layout) (L .left-over)) (λ P G s R. go S P s R (steps P G s R))
     where
       go : Settles (with-units st u) t o → (P : Problem) (s : RunState) → Represents tab st s → Step tab P s u t (length (s .log)) d →
           TurnedIs tab s o (turn P s (suc u))
@@ -218,7 +218,7 @@ module _ {tab inputs : List ℕ} {count : ℕ} {st begun : State} {t : Taken} {d
   pub turn-made : {o : Turned} → d ≡ Make → Makes tab begun t o → Turns tab inputs count st o
   turn-made {o} p M′ =
       let M : Makes tab (with-units st u) t o = subst (λ b. Makes tab b t o) began M′ in
-      turned o (M .safe (L .left-over)) (λ P G s R. go M P G s R (steps P G s R))
+      turned o (M .safe (units-fine u F) (L .layout) (L .left-over)) (λ P G s R. go M P G s R (steps P G s R))
     where
       go : Makes tab (with-units st u) t o → (P : Problem) → Given tab inputs count P → (s : RunState) → Represents tab st s →
           Step tab P s u t (length (s .log)) d →

@@ -59,15 +59,18 @@ collapse-of-compose at = search depth 0
 abbrev else-of-compose : tie.After-compose → tie.Else2
 else-of-compose at = search depth 0
 
--- behind `take` a rule is made of what was looked for, and the state that began its turn is fine
+-- the state that began its turn is fine, and behind `take` a rule is made of what was looked for
+abbrev begin-of-mark : tie.After-mark → tie.After-begin
+begin-of-mark at = begin-of-look (look-of-mark at)
+
+begun-fine : (at : tie.After-mark) → Fine (begin-of-mark at .begin .result)
+begun-fine at = began-fine (entry-of-begin (begin-of-mark at) .pre .0) (begin-of-mark at .begin .ensures)
+
 abbrev begin-of-take : tie.After-take2 → tie.After-begin
-begin-of-take at = begin-of-look (look-of-mark (mark-of-take at))
+begin-of-take at = begin-of-mark (mark-of-take at)
 
 abbrev entry-of-take : tie.After-take2 → tie.Start
 entry-of-take at = entry-of-begin (begin-of-take at)
-
-begun-fine : (at : tie.After-take2) → Fine (begin-of-take at .begin .result)
-begun-fine at = began-fine (entry-of-take at .pre .0) (begin-of-take at .begin .ensures)
 
 to-make-of : (at : tie.After-take2) → due-of-mark (mark-of-take at) .due-after .result ≡ Make
 to-make-of at = to-make _ (mark-of-take at .before .before .match .keys2) (at .before .match2 .keys2)
@@ -109,10 +112,7 @@ mark-requires c κs =
     at-look .look .ensures .layout .room
 
 take-requires : tie.Need-take-requires
-take-requires c κs =
-    let at-mark : tie.After-mark = search depth 0 in
-    let at-begin = begin-of-look (look-of-mark at-mark) in
-    began-fine (entry-of-begin at-begin .pre .0) (at-begin .begin .ensures)
+take-requires c κs = begun-fine (search depth 0)
 
 log-requires : tie.Need-log-requires
 log-requires c κs =
@@ -133,13 +133,10 @@ returns-3 c =
     let entry = entry-of-begin at-begin in
     turn-settled (entry .pre .0) (else-of-begin at-begin .if1 .left) (at-begin .begin .ensures) (at-look .look .ensures) (at-due .due-after .ensures)
     (at-told .enum-told .given .1)
-    (settles (at-look .look .ensures .layout) (at-take .take .ensures) (at-mark .mark .ensures) (at-log .log .ensures) (c .going .ensures))
+    (settles (at-take .take .ensures) (at-mark .mark .ensures) (at-log .log .ensures) (c .going .ensures))
 
 take-requires-2 : tie.Need-take-requires-2
-take-requires-2 c κs =
-    let at-mark : tie.After-mark = search depth 0 in
-    let at-begin = begin-of-look (look-of-mark at-mark) in
-    began-fine (entry-of-begin at-begin .pre .0) (at-begin .begin .ensures)
+take-requires-2 c κs = begun-fine (search depth 0)
 
 slice-aggregate-orient : tie.Need-slice-aggregate-orient
 slice-aggregate-orient c =
@@ -149,17 +146,13 @@ slice-aggregate-orient c =
 orient-requires : tie.Need-orient-requires
 orient-requires c κs =
     let at-take : tie.After-take2 = search depth 0 in
-    (at-take .take2 .ensures .fine, orient-room (begun-fine at-take) (at-take .take2 .ensures), look-of-mark (mark-of-take at-take) .look .ensures .layout)
+    (at-take .take2 .ensures .fine, orient-room (begun-fine (mark-of-take at-take)) (at-take .take2 .ensures), look-of-mark (mark-of-take at-take) .look .ensures .layout)
 
 returns-4 : tie.Need-returns-4
 returns-4 c =
     let at-orient : tie.After-orient = search depth 0 in
     let at-take = take-of-orient at-orient in
-    let at-look = look-of-mark (mark-of-take at-take) in
-    made at-take
-    (makes-unplaced (at-take .take2 .ensures) (at-orient .orient .ensures) (begun-fine at-take) (at-look .look .ensures .layout)
-    (c .before .before .way .given .1)
-    (c .ended3 .ensures))
+    made at-take (makes-unplaced (at-take .take2 .ensures) (at-orient .orient .ensures) (c .before .before .way .given .1) (c .ended3 .ensures))
 
 collapse-requires : tie.Need-collapse-requires
 collapse-requires c κs =
@@ -172,10 +165,9 @@ returns-5 c =
     let at-collapse : tie.After-collapse = search depth 0 in
     let at-orient = orient-of-collapse at-collapse in
     let at-take = take-of-orient at-orient in
-    let at-look = look-of-mark (mark-of-take at-take) in
     made at-take
-    (makes-full (at-take .take2 .ensures) (at-orient .orient .ensures) (begun-fine at-take) (at-look .look .ensures .layout)
-    (told-of-collapse at-collapse .enum-told2 .given .1) (at-collapse .collapse .ensures) (let full = in-then2 .if2 .taken in omega arith) (c .ended4 .ensures))
+    (makes-full (at-take .take2 .ensures) (at-orient .orient .ensures) (told-of-collapse at-collapse .enum-told2 .given .1)
+    (at-collapse .collapse .ensures) (let full = in-then2 .if2 .taken in omega arith) (c .ended4 .ensures))
 
 compose-requires : tie.Need-compose-requires
 compose-requires c κs =
@@ -188,11 +180,10 @@ returns-6 c =
     let at-collapse = collapse-of-compose at-compose in
     let at-orient = orient-of-collapse at-collapse in
     let at-take = take-of-orient at-orient in
-    let at-look = look-of-mark (mark-of-take at-take) in
     made at-take
-    (makes-rights-end (at-take .take2 .ensures) (at-orient .orient .ensures) (begun-fine at-take) (at-look .look .ensures .layout)
-    (told-of-collapse at-collapse .enum-told2 .given .1) (at-collapse .collapse .ensures) (else-of-compose at-compose .if2 .left)
-    (at-compose .compose .ensures) (c .before .before .composed .given .1) (c .ended5 .ensures))
+    (makes-rights-end (at-take .take2 .ensures) (at-orient .orient .ensures) (told-of-collapse at-collapse .enum-told2 .given .1)
+    (at-collapse .collapse .ensures) (else-of-compose at-compose .if2 .left) (at-compose .compose .ensures)
+    (c .before .before .composed .given .1) (c .ended5 .ensures))
 
 log-requires-2 : tie.Need-log-requires-2
 log-requires-2 c κs =
@@ -211,11 +202,10 @@ returns-7 c =
     let at-collapse = collapse-of-compose at-compose in
     let at-orient = orient-of-collapse at-collapse in
     let at-take = take-of-orient at-orient in
-    let at-look = look-of-mark (mark-of-take at-take) in
     made at-take
-    (makes-goes (at-take .take2 .ensures) (at-orient .orient .ensures) (begun-fine at-take) (at-look .look .ensures .layout)
-    (told-of-collapse at-collapse .enum-told2 .given .1) (at-collapse .collapse .ensures) (else-of-compose at-compose .if2 .left)
-    (at-compose .compose .ensures) (at-told .enum-told3 .given .1) (mark-of-take at-take .mark .ensures) refl (at-log .log2 .ensures) (c .going2 .ensures))
+    (makes-goes (at-take .take2 .ensures) (at-orient .orient .ensures) (told-of-collapse at-collapse .enum-told2 .given .1)
+    (at-collapse .collapse .ensures) (else-of-compose at-compose .if2 .left) (at-compose .compose .ensures)
+    (at-told .enum-told3 .given .1) (mark-of-take at-take .mark .ensures) refl (at-log .log2 .ensures) (c .going2 .ensures))
 
 pub turn-spec : {M : Type 1} → statement M
 turn-spec =
