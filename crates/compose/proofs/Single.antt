@@ -1,35 +1,30 @@
 -- The right side of one rule, normalised by all live rules: written back (`composed`), or the end and the units left (`stopped`). Assumes nothing.
 -- Read first: specs/Rights (Amid, One), proofs/Narrow, slots/proofs/{Listing, Layouts}.
 use mathlib.Core.Path.{_≡_, refl, sym, ap, _∙_, subst}
-use mathlib.Core.List.{List, _∷_, _++_, map-append}
+use mathlib.Core.List.{List, _∷_, _++_}
 use Prim.Native.Nat.{ℕ, suc, _+_, _-_, _<_}
 use native.Mathlib.Omega.{arith}
 use native.Mathlib.Decide.{ℕ-discrete}
 use native.Mathlib.Nat.{sub-zero}
 use lib.ListN.{length, drop, take, length-map}
 use Rattle.limits.specs.Limits.{most-symbols, most-variables, most-apart}
-use Rattle.terms.proofs.Shape.{zero≢one}
 use Rattle.terms.specs.Term.{Term, Pair, size}
 use Rattle.terms.proofs.Flats.{widen, made-wf}
 use Rattle.rewriting.specs.Overlap.{Rule, sides-of}
-use Rattle.rewriting.specs.Rewrite.{Paid, done, stop, normalise, End, complete, neither-above, spent, too-large, rules-full, log-full}
-use Rattle.rewriting.specs.Ends.{ending}
-use Rattle.rewriting.specs.declared.Verdict.{Verdict}
+use Rattle.rewriting.specs.Rewrite.{Paid, done, stop, normalise}
 use Rattle.rewriting.specs.declared.Verdict.the-variants.{GoesOn, Ends}
-use Rattle.rewriting.specs.declared.End.the-variants.{Spent, TooLarge}
 use Rattle.rewriting.proofs.Holds.{Holds}
+use Rattle.completion.proofs.Derived.{sides-append}
 use Rattle.slots.specs.Slots.{slot, mark-of, right-of, Layout, PairAt, Stored, OnlySlot, PutRight}
 use Rattle.slots.proofs.Listing.{all-split, all-join, all-first, all-rest, all-cons, stored-moved}
 use Rattle.slots.proofs.Layouts.{layout-put, pair-right}
 use Rattle.normaliser.specs.Settled.{FormStops, NormalIs, Normalised}
+use Rattle.normaliser.proofs.Stopping.{Stopped, end-of, stopping, stopped-form, stopped-end}
 use Rattle.normaliser.specs.declared.Form.{Form}
-use Rattle.normaliser.specs.declared.Form.the-variants.{Normal, Spent as SpentForm, TooLarge as TooLargeForm}
+use Rattle.normaliser.specs.declared.Form.the-variants.{Normal}
 use Rattle.normaliser.specs.declared.Reached.{Reached}
-use Rattle.compose.specs.Rights.{Amid, RightsOnly, NoForms, OneIs, One}
+use Rattle.compose.specs.Rights.{Amid, RightsOnly, OneIs, One}
 use Rattle.compose.proofs.Narrow.{Below, normal-below}
-
-pub sides-append : (a b : List Rule) → sides-of (a ++ b) ≡ sides-of a ++ sides-of b
-sides-append = map-append (λ r. r .sides)
 
 length-sides : (a : List Rule) → length (sides-of a) ≡ length a
 length-sides a = length-map a (λ r. r .sides)
@@ -37,25 +32,6 @@ length-sides a = length-map a (λ r. r .sides)
 -- nothing changed
 pub rights-none : (a e : ℕ) (slots : List ℕ) → RightsOnly a e slots slots
 rights-none a e slots = record { same = refl; marks = λ i. refl; before = λ i h. refl; behind = λ i h. refl; layout = λ n y. y }
-
--- the end that each form of a stop is
-pub for-spent : (f : Form) → f ≡ SpentForm → (c : End) → FormStops c f → (Ends Spent ≡ Ends (ending c)) × NoForms c
-unfolding ending
-for-spent f e complete h = absurd h
-for-spent f e (neither-above g) h = absurd h
-for-spent f e spent h = (refl, λ g q. zero≢one (cc))
-for-spent f e too-large h = absurd (zero≢one (cc))
-for-spent f e rules-full h = absurd h
-for-spent f e log-full h = absurd h
-
-pub for-large : (f : Form) → f ≡ TooLargeForm → (c : End) → FormStops c f → (Ends TooLarge ≡ Ends (ending c)) × NoForms c
-unfolding ending
-for-large f e complete h = absurd h
-for-large f e (neither-above g) h = absurd h
-for-large f e spent h = absurd (zero≢one (cc))
-for-large f e too-large h = (refl, λ g q. zero≢one (cc))
-for-large f e rules-full h = absurd h
-for-large f e log-full h = absurd h
 
 rule-here : (tab rules : List ℕ) (k count : ℕ) (before : List Rule) (old : Rule) (after : List Rule) →
     Amid tab rules k count before old after → PairAt most-variables tab rules k (old .sides)
@@ -93,18 +69,17 @@ module _ (tab rules : List ℕ) (k count units : ℕ) (t out out′ : List ℕ) 
     low = normal-below tab rules (before ++ (old ∷ after)) (h .stored) (old .sides .right) (here .sides .right-wf) units
 
   -- no answer: nothing is written
-  pub stopped : (v : Verdict) → ((n : ℕ) → o .form ≡ Normal n → ⊥) → ((c : End) → FormStops c (o .form) → (v ≡ Ends (ending c)) × NoForms c) →
-      One tab rules rules k count units (record { verdict = v; units = units - o .paid })
-  stopped v none ends = record {
+  pub stopped : (f : Form) → o .form ≡ f → Stopped f → One tab rules rules k count units (record { verdict = Ends (end-of f); units = units - o .paid })
+  stopped f g s = record {
     only = rights-none k (k + 1) rules;
     left-over = omega arith;
     answer = λ before old after h. go before old after (normalise (before ++ (old ∷ after)) (old .sides .right) units) (normalised before old after h);
   }
     where
       go : (before : List Rule) (old : Rule) (after : List Rule) (p : Paid Term) → NormalIs tab out′ units o p →
-          OneIs tab rules before old after (record { verdict = v; units = units - o .paid }) p
-      go before old after (done x left) e = absurd (none (size x) (e .0))
-      go before old after (stop c left) e = let q = ends c (e .0) in (q .0, omega (arith, e .1), q .1)
+          OneIs tab rules before old after (record { verdict = Ends (end-of f); units = units - o .paid }) p
+      go before old after (done x left) e = absurd (subst Stopped (sym g ∙ e .0) s)
+      go before old after (stop c left) e = let q = stopped-end (stopping c f (subst (FormStops c) g (e .0))) in (ap Ends (q .0), omega (arith, e .1), q .1)
 
   -- the answer is written
   module _ (len : ℕ) (normal : o .form ≡ Normal len) (rules′ : List ℕ) (written : PutRight rules k (take (len - 0) (drop 0 out′)) rules′) where
@@ -143,12 +118,4 @@ module _ (tab rules : List ℕ) (k count units : ℕ) (t out out′ : List ℕ) 
                   (ap (λ z. take z out′) (sub-zero len ∙ n) ∙ e .2))
                   (subst (λ z. Stored tab rules 0 z) (sides-append before (old ∷ after)) (h .stored)),
             )
-        go before old after h (stop c left) e b = absurd (no-stop c (e .0))
-          where
-            no-stop : (c : End) → FormStops c (o .form) → ⊥
-            no-stop complete q = q
-            no-stop (neither-above g) q = q
-            no-stop spent q = zero≢one (cc)
-            no-stop too-large q = zero≢one (cc)
-            no-stop rules-full q = q
-            no-stop log-full q = q
+        go before old after h (stop c left) e b = absurd (subst Stopped normal (stopped-form (stopping c (o .form) (e .0))))

@@ -14,9 +14,10 @@ use Rattle.slots.specs.Slots.{Stored}
 use Rattle.completion.specs.Turn.{normalise-rights}
 use Rattle.completion.proofs.Ends.{with-right}
 use Rattle.completion.proofs.Limits.{numbers}
+use Rattle.completion.proofs.Derived.{sides-append}
 use Rattle.compose.specs.Rights.{RightsOnly, OneIs, One, AllIs, All}
 use Rattle.compose.specs.declared.Composed.{Composed}
-use Rattle.compose.proofs.Single.{sides-append, rights-none}
+use Rattle.compose.proofs.Single.{rights-none}
 
 -- The rules `before` are done and the rules `later` are to come.
 pub record Midway (tab rules : List ℕ) (rs : List Rule) (new : Rule) (k units left : ℕ) (before later : List Rule) : Type 0 where

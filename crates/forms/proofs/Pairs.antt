@@ -1,6 +1,6 @@
 -- `join_right` and `join` by their returns: a side that does not come to a normal form, equal forms, different forms. Assumes nothing.
 -- Read first: specs/Forms (RightWalk, PairWalk, compared), normaliser/specs/Settled (Normalised), proofs/Walking.
-use mathlib.Core.Path.{_≡_, refl, sym, _∙_, ap, subst}
+use mathlib.Core.Path.{_≡_, refl, sym, _∙_, ap, ap₂, subst}
 use mathlib.Core.Bool.{Bool, true, false}
 use mathlib.Core.List.{List, [], append-nil}
 use Prim.Native.Nat.{ℕ, _-_, _≤_}
@@ -12,19 +12,18 @@ use Rattle.terms.specs.Flat.{Wf}
 use Rattle.terms.proofs.Flats.{unique, widen}
 use Rattle.terms.proofs.Shape.{same-dec}
 use Rattle.rewriting.specs.Overlap.{Rule}
-use Rattle.rewriting.specs.Rewrite.{End, complete, neither-above, spent, too-large, rules-full, log-full, Paid, done, stop, Paying, return, and-then, _>>=_, normalise, normalise-pair}
-use Rattle.rewriting.specs.declared.End.the-variants.{Spent, TooLarge}
+use Rattle.rewriting.specs.Rewrite.{End, Paid, done, stop, Paying, return, and-then, _>>=_, normalise, normalise-pair}
 use Rattle.completion.specs.Turn.{Origin, Candidate, if-different}
 use Rattle.matching.proofs.Replacing.{take-less-zero}
 use Rattle.slots.specs.Slots.{PairAt, slot, mark-of, left-of, right-of, Layout, PutSides, PutMark}
 use Rattle.slots.proofs.Layouts.{kept-none, kept-put, layout-put, pair-put}
 use Rattle.normaliser.specs.Settled.{FormStops, SmallForm, NormalIs, Normalised}
+use Rattle.normaliser.proofs.Stopping.{Stopped, end-of, Stopping, no-unit, no-room, stopping, stopped-form}
 use Rattle.normaliser.specs.declared.Reached.{Reached}
 use Rattle.normaliser.specs.declared.Form.{Form}
-use Rattle.normaliser.specs.declared.Form.the-variants.{Normal as NormalForm, Spent as SpentForm, TooLarge as TooLargeForm}
+use Rattle.normaliser.specs.declared.Form.the-variants.{Normal as NormalForm}
 use Rattle.forms.specs.declared.Walk.{Walk}
 use Rattle.forms.specs.declared.Taken.{Taken}
-use Rattle.forms.specs.declared.Found.{Found}
 use Rattle.forms.specs.declared.Found.the-variants.{Equal, Different, Ends}
 use Rattle.forms.specs.Forms.{ScanPart, compared, compared-right, Walked, found, short, large, on, RightWalk, PairWalk, OldestIs}
 use Rattle.forms.proofs.Walking.{found-is, units-is, bare-room, room-from, walked-from}
@@ -59,43 +58,20 @@ module _ (rs : List Rule) (o : Origin) (next : Paying Candidate) (u : ℕ) where
     unfolding compared-right _>>=_ and-then return if-different if_then_else_
     forms-differ y v q s = rw (q, s)
 
--- what a walk finds where a side comes to no normal form
-abbrev pub Stopped : Form → Type 0
-Stopped (NormalForm n) = ⊥
-Stopped SpentForm = Unit {0}
-Stopped TooLargeForm = Unit {0}
-
-abbrev pub found-of : Form → Found
-found-of (NormalForm n) = Equal
-found-of SpentForm = Ends Spent
-found-of TooLargeForm = Ends TooLarge
-
-stops : (x : End) (f : Form) → FormStops x f → Stopped f
-stops complete f h = absurd h
-stops (neither-above p) f h = absurd h
-stops spent f h = subst Stopped (sym h) tt
-stops too-large f h = subst Stopped (sym h) tt
-stops rules-full f h = absurd h
-stops log-full f h = absurd h
-
 -- the part d stops with x
-ends : {tab one : List ℕ} {d : ScanPart} {u k : ℕ} {w : Walk} (f : Form) (x : End) → FormStops x f → w .found ≡ found-of f → w .units ≡ k →
+ends : {tab one : List ℕ} {d : ScanPart} {u k : ℕ} {w : Walk} (f : Form) (x : End) → Stopping x f → w .found ≡ Ends (end-of f) → w .units ≡ k →
     ((next : Paying Candidate) → d next u ≡ stop x k) → Walked tab one d u w
-ends f complete h q z e = absurd h
-ends f (neither-above p) h q z e = absurd h
-ends f spent h q z e = short (q ∙ ap found-of h) (λ next. e next ∙ ap (stop spent) (sym z))
-ends f too-large h q z e = large (q ∙ ap found-of h) (λ next. e next ∙ ap (stop too-large) (sym z))
-ends f rules-full h q z e = absurd h
-ends f log-full h q z e = absurd h
+ends f x (no-unit i h) q z e = short (q ∙ ap (λ g. Ends (end-of g)) h) (λ next. e next ∙ ap₂ stop i (sym z))
+ends f x (no-room i h) q z e = large (q ∙ ap (λ g. Ends (end-of g)) h) (λ next. e next ∙ ap₂ stop i (sym z))
 
 -- a side that was normalised
 module _ {tab rules : List ℕ} {count : ℕ} {t out out′ : List ℕ} {units : ℕ} {r : Reached} (hr : Normalised tab rules count t out out′ units r) where
   -- it came to no normal form
-  module _ (f : Form) (s : Stopped f) (g : r .form ≡ f) {w : Walk} (e : w ≡ record { found = found-of f; units = units - r .paid }) where
+  module _ (f : Form) (s : Stopped f) (g : r .form ≡ f) {w : Walk} (e : w ≡ record { found = Ends (end-of f); units = units - r .paid }) where
     side-ends : {one : List ℕ} {d : ScanPart} (p : Paid Term) → NormalIs tab out′ units r p →
         ((x : End) (k : ℕ) → p ≡ stop x k → (next : Paying Candidate) → d next units ≡ stop x k) → Walked tab one d units w
     side-ends (done y k) h q = absurd (subst Stopped (sym g ∙ h .0) s)
-    side-ends (stop x k) h q = ends f x (subst (FormStops x) g (h .0)) (found-is e) (let a = h .1 in units-is e ∙ omega arith) (q x k refl)
+    side-ends (stop x k) h q = ends f x (stopping x f (subst (FormStops x) g (h .0))) (found-is e) (let a = h .1 in units-is e ∙ omega arith) (q x k refl)
 
     pub right-ends : {first one : List ℕ} → RightWalk tab rules count first t one one units w
     right-ends = record {
@@ -124,7 +100,7 @@ module _ {tab rules : List ℕ} {count : ℕ} {t out out′ : List ℕ} {units :
         let a : NormalForm n ≡ NormalForm (size y) = sym g ∙ h .0 in
         let z : n ≡ size y = cc in
         f y k refl (let b = h .1 in omega arith) (take-less-zero n out′ ∙ ap (λ j. take j out′) z ∙ h .2) (h .3)
-    normal-form (stop x k) h f = absurd (subst Stopped g (stops x (r .form) (h .0)))
+    normal-form (stop x k) h f = absurd (subst Stopped g (stopped-form (stopping x (r .form) (h .0))))
 
     module _ {first one : List ℕ} where
       pub right-same : {w : Walk} → first ≡ take (n - 0) out′ → w ≡ record { found = Equal; units = units - r .paid } →

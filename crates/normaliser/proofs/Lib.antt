@@ -4,3 +4,4 @@ pub mod Settling
 pub mod Together
 pub mod Loading
 pub mod Whole
+pub mod Stopping

@@ -6,17 +6,17 @@ use mathlib.Core.List.{List, [], _∷_, _++_, map, flatMap, append-assoc, append
 use Prim.Native.Nat.{ℕ, suc, _+_, _*_}
 use native.Mathlib.Omega.{arith}
 use lib.ListN.{length, take, drop, length-append, take-append-drop}
-use lib.Seq.{take-at, take-take, drop-at, drop-drop}
+use lib.Seq.{take-at, drop-at, drop-drop}
 use Rattle.limits.specs.Limits.{most-apart, origin-width}
 use Rattle.terms.specs.Base.{if_then_else_, number-bytes, Field, field-bytes}
 use Rattle.terms.specs.Term.{Pair, renamed}
-use Rattle.terms.proofs.Lists.{take-drop, flatMap-append}
+use Rattle.terms.proofs.Lists.{flatMap-append}
 use Rattle.terms.proofs.Limits.{length-number-bytes}
 use Rattle.rewriting.specs.Overlap.{Rule}
 use Rattle.rewriting.specs.Rewrite.{End, complete, neither-above, spent, too-large, rules-full, log-full, end-number}
 use Rattle.rewriting.specs.Ends.{ending, number-of as end-of}
 use Rattle.rewriting.proofs.Holds.{number-of-ending}
-use Rattle.slots.specs.Slots.{slot, mark-of, number-of, left-of, right-of, Sides, PairAt, MarkedAt, Holds}
+use Rattle.slots.specs.Slots.{slot, left-of, right-of, Sides, PairAt, MarkedAt, Holds}
 use Rattle.slots.proofs.Listing.{all-first, all-rest}
 use Rattle.naming.specs.Names.{renamed-bytes}
 use Rattle.naming.proofs.Renaming.{Low}
@@ -26,6 +26,7 @@ use Rattle.completion.specs.Calls.{pair-bytes, rule-field, origin-bytes, entry-
 use Rattle.fields.specs.Puts.{tagged}
 use Rattle.inputs.specs.Inputs.{marked}
 use Rattle.state.specs.Run.{logged-width, logged, as-removed, held}
+use Rattle.state.proofs.Rows.{rule-number}
 use Rattle.run.specs.declared.Ran.{Ran}
 use Rattle.run.specs.Runs.{RanIs}
 use Rattle.report.specs.Fields.{slot-field, slot-fields, logged-field, logged-fields, low, forms-bytes, forms-if}
@@ -33,17 +34,6 @@ use Rattle.report.proofs.Lowness.{term-low}
 use Rattle.report.proofs.Whole.{all-bytes}
 
 -- Fields 12.
-mark-number : (s : List ℕ) → number-of s ≡ take 2 (drop 1 (mark-of s))
-unfolding number-of mark-of
-mark-number s = sym (ap (take 2) (sym (take-drop 1 5 s)) ∙ take-take 2 5 (drop 1 s) (omega arith))
-
--- the number of a rule's mark is the rule's
-rule-number : (s : List ℕ) (n : ℕ) → mark-of s ≡ origin-bytes (removed-rule n) → number-of s ≡ number-bytes 2 n
-unfolding origin-bytes
-rule-number s n e =
-    mark-number s ∙ ap (λ l. take 2 (drop 1 l)) e ∙ ap (take 2) (append-assoc (number-bytes 2 n) (number-bytes 2 0) (number-bytes 1 0))
-    ∙ take-at (number-bytes 2 n) (number-bytes 2 0 ++ number-bytes 1 0) 2 (length-number-bytes 2 n)
-
 module _ (tab slots : List ℕ) where
   one-field : (k : ℕ) (r : Rule) → MarkedAt tab slots k (marked (as-removed r)) → slot-field slots k ≡ rule-field r
   unfolding slot-field rule-field pair-bytes as-removed

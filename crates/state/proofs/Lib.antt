@@ -1,4 +1,4 @@
-mod Rows
+pub mod Rows
 mod Siftings
 mod Changing
 mod Logging

@@ -1,10 +1,10 @@
 -- The rules and what waits, in the slots of a state: what stands there for each, and what stands there once right sides are others. Assumes nothing.
 -- Read first: state/specs/Run (held, as-removed), slots/proofs/Listing, compose/specs/Rights (RightsOnly).
-use mathlib.Core.Path.{_≡_, refl, sym, ap, _∙_, subst}
+use mathlib.Core.Path.{_≡_, sym, ap, _∙_, subst}
 use mathlib.Core.List.{List, [], _∷_, map, map-append}
 use Prim.Native.Nat.{ℕ, suc, _+_, _<_}
 use native.Mathlib.Omega.{arith}
-use lib.ListN.{length, length-map, length-append}
+use lib.ListN.{length, length-map}
 use Rattle.terms.proofs.Shape.{zero≢one}
 use Rattle.terms.specs.Base.{number-bytes}
 use Rattle.rewriting.specs.Overlap.{Rule, sides-of}
@@ -16,6 +16,7 @@ use Rattle.inputs.specs.Inputs.{marked}
 use Rattle.scanning.specs.Walk.{no-rule, rule-at}
 use Rattle.compose.specs.Rights.{RightsOnly}
 use Rattle.state.specs.Run.{as-removed, held}
+use Rattle.state.proofs.Rows.{rule-number}
 
 all-unmap : {A B : Type 0} (S : ℕ → B → Type 0) (f : A → B) (k : ℕ) (xs : List A) → AllFrom S k (map f xs) → AllFrom (λ i x. S i (f x)) k xs
 unfolding AllFrom
@@ -25,21 +26,6 @@ all-unmap S f k (x ∷ xs) h = (h .0, all-unmap S f (suc k) xs (h .1))
 -- a rule stands in its slot, its number in the mark
 abbrev RuleIn : List ℕ → List ℕ → ℕ → Rule → Type 0
 RuleIn tab slots k r = MarkedAt tab slots k (marked (as-removed r))
-
-pub held-length : (rs : List Rule) (cs : List Candidate) → length (held rs cs) ≡ length rs + length cs
-held-length rs cs = omega (arith, length-append (map as-removed rs) cs, length-map rs as-removed)
-
--- the number in a mark
-mark-number : (s : List ℕ) → number-of s ≡ number-of (mark-of s)
-unfolding number-of mark-of
-mark-number [] = refl
-mark-number (a ∷ []) = refl
-mark-number (a ∷ b ∷ []) = refl
-mark-number (a ∷ b ∷ c ∷ s) = refl
-
-rule-number : (n : ℕ) → number-of (origin-bytes (removed-rule n)) ≡ number-bytes 2 n
-unfolding number-of origin-bytes number-bytes
-rule-number n = refl
 
 module _ (tab slots : List ℕ) (rs : List Rule) (cs : List Candidate) (h : Holds tab slots 0 (map marked (held rs cs))) where
   parts : Holds tab slots 0 (map marked (map as-removed rs)) × Holds tab slots (length rs) (map marked cs)
@@ -63,7 +49,7 @@ module _ (tab slots : List ℕ) (rs : List Rule) (cs : List Candidate) (h : Hold
   rules-numbered k l =
       let e : 0 + k ≡ k = omega arith in
       let m : RuleIn tab slots k (rule-at rs k) = subst (λ i. RuleIn tab slots i (rule-at rs k)) e (all-at (RuleIn tab slots) 0 rs no-rule k rules-in l) in
-      mark-number (slot slots k) ∙ ap number-of (m .mark) ∙ rule-number (rule-at rs k .number)
+      rule-number (slot slots k) (rule-at rs k .number) (m .mark)
 
   -- and behind them what waits
   pub waiting-held : Holds tab slots (length rs) (map marked cs)

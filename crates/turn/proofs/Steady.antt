@@ -15,7 +15,8 @@ use Rattle.state.specs.declared.State.{State}
 use Rattle.state.specs.Run.{FineBut, Fine, Represents, with-units}
 use Rattle.turn.specs.declared.Turned.{Turned}
 use Rattle.turn.specs.Turns.{ended-as, going-as, TurnSafe}
-use Rattle.turn.proofs.Holding.{held-length, same-many, rights-held}
+use Rattle.state.proofs.Rows.{length-held}
+use Rattle.turn.proofs.Holding.{same-many, rights-held}
 
 pub units-fine : {b : ℕ} {st : State} (u : ℕ) → FineBut b st → FineBut b (with-units st u)
 units-fine u F =
@@ -50,7 +51,7 @@ slots-represent {tab} {b} {st} {s} rs R o h e =
       pairs = record {
         holds = rights-held tab (st .pairs .bytes) b (s .rules) rs (s .waiting)
             (subst (λ z. RightsOnly 0 z (st .pairs .bytes) b) (R .live) o) e h (R .pairs .holds);
-        counted = omega (arith, R .pairs .counted, held-length (s .rules) (s .waiting), held-length rs (s .waiting), n);
+        counted = omega (arith, R .pairs .counted, length-held (s .rules) (s .waiting), length-held rs (s .waiting), n);
       };
       live = R .live ∙ sym n;
       made = R .made;

@@ -31,7 +31,7 @@ use Rattle.turn.specs.declared.Due.{Due}
 use Rattle.turn.specs.declared.Due.the-variants.{Stop, Settle, Make}
 use Rattle.turn.specs.Turns.{Given, ended-as, due-after, some-wait, PairsOf, FormsIn, LookStops, LookIs, Looks, TurnSafe, TurnedIs, Turns}
 use Rattle.turn.proofs.Parts.{Settles, Makes}
-use Rattle.turn.proofs.Holding.{held-length}
+use Rattle.state.proofs.Rows.{length-held}
 use Rattle.turn.proofs.Entries.{Room, none-left, some-left, room}
 use Rattle.turn.proofs.Steady.{units-fine, units-represent, stop-safe, begun-safe}
 
@@ -96,7 +96,7 @@ pairs-of {st = st} {s = s} R w =
       holds = R .pairs .holds;
       live-is = R .live;
       waits-is = w ∙ waits-are (st .live) (st .pairs .count) (s .waiting)
-          (omega (arith, R .pairs .counted, held-length (s .rules) (s .waiting), R .live));
+          (omega (arith, R .pairs .counted, length-held (s .rules) (s .waiting), R .live));
     }
 
 -- `turn`: no unit is left

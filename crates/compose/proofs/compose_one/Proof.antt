@@ -1,9 +1,9 @@
 -- `compose_one`: the right side is normalised, and written back if it came to a normal form: `stopped`, `composed`. Assumes nothing.
 -- Read first: specs/Rights (One), proofs/Single.
 use native.Mathlib.Omega.{arith}
-use Rattle.terms.proofs.Shape.{zero≢one}
+use Rattle.normaliser.specs.declared.Form.the-variants.{Spent, TooLarge}
 use Rattle.slots.proofs.Layouts.{layout-less}
-use Rattle.compose.proofs.Single.{for-spent, for-large, stopped, composed}
+use Rattle.compose.proofs.Single.{stopped, composed}
 use borrow.Author.Needs.{needs}
 use Rattle.compose.proofs.compose_one.Statement.{statement}
 use Rattle.compose.proofs.compose_one.Tie as tie
@@ -61,17 +61,15 @@ returns-2 : tie.Need-returns-2
 returns-2 c =
     let at-normalise : tie.After-normalise = search depth 0 in
     let entry = entry-of-normalise at-normalise in
-    let form = c .enum-told .given .1 in
     stopped _ _ _ _ _ _ _ _ _ (entry .pre .0) (entry .pre .1) (right-of-normalise at-normalise .right .ensures .0)
-    (at-normalise .normalise .ensures) _ (λ n e. zero≢one (cc)) (for-spent _ form)
+    (at-normalise .normalise .ensures) Spent (c .enum-told .given .1) tt
 
 returns-3 : tie.Need-returns-3
 returns-3 c =
     let at-normalise : tie.After-normalise = search depth 0 in
     let entry = entry-of-normalise at-normalise in
-    let form = c .enum-told2 .given .1 in
     stopped _ _ _ _ _ _ _ _ _ (entry .pre .0) (entry .pre .1) (right-of-normalise at-normalise .right .ensures .0)
-    (at-normalise .normalise .ensures) _ (λ n e. zero≢one (cc)) (for-large _ form)
+    (at-normalise .normalise .ensures) TooLarge (c .enum-told2 .given .1) tt
 
 pub compose-one-spec : {M : Type 1} → statement M
 compose-one-spec =

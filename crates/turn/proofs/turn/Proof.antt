@@ -146,7 +146,8 @@ slice-aggregate-orient c =
 orient-requires : tie.Need-orient-requires
 orient-requires c κs =
     let at-take : tie.After-take2 = search depth 0 in
-    (at-take .take2 .ensures .fine, orient-room (begun-fine (mark-of-take at-take)) (at-take .take2 .ensures), look-of-mark (mark-of-take at-take) .look .ensures .layout)
+    let at-mark = mark-of-take at-take in
+    (at-take .take2 .ensures .fine, orient-room (begun-fine at-mark) (at-take .take2 .ensures), look-of-mark at-mark .look .ensures .layout)
 
 returns-4 : tie.Need-returns-4
 returns-4 c =
