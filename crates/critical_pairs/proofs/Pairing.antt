@@ -1,22 +1,19 @@
 -- The instances of two nodes, written one after the other and renamed, are the renamed pair; their names are few. Assumes nothing.
--- Read first: specs/Placed (PutPair, BothSmall), mgu/specs/Written (WritesTerms), naming/proofs/Pairs (renamed-pair), naming/proofs/Few.
+-- Read first: specs/Placed (PutPair, BothSmall), mgu/specs/Written (WritesTerms), naming/proofs/Pairs (left-cut, right-cut), naming/proofs/Few.
 use mathlib.Core.Path.{_≡_, sym, ap, ap₂, subst₂, _∙_}
 use mathlib.Core.Logic.{⊎-elim}
-use mathlib.Core.List.{List, [], _++_, append-assoc, append-nil, List·Memᴰ·not-nil, List·Memᴰ·cases-cons, List·Memᴰ·append-cases}
+use mathlib.Core.List.{List, [], _++_, append-nil, List·Memᴰ·not-nil, List·Memᴰ·cases-cons, List·Memᴰ·append-cases}
 use Prim.Native.Nat.{ℕ, _+_, _-_, _≤_, _<_}
 use native.Mathlib.Omega.{arith}
-use native.Mathlib.Nat.{sub-zero}
-use lib.ListN.{length, take, drop, length-append}
-use lib.Seq.{take-at, drop-at}
+use lib.ListN.{length, take, drop, length-append, length-take}
 use Rattle.terms.specs.Term.{Term, Terms, nil, cons, Pair, size, sizes, variables, variables-of, term-bytes, terms-bytes, renamed}
 use Rattle.terms.proofs.Bytes.{length-bytes}
 use Rattle.terms.proofs.Subst.{In}
-use Rattle.terms.proofs.Limits.{renamed-left-size, renamed-right-size}
 use Rattle.classes.specs.Arena.{Spells, free, made, SpellsAll, none, more}
 use Rattle.classes.specs.Steps.{at, arena, Ready}
 use Rattle.naming.specs.Names.{collect, renamed-bytes}
-use Rattle.naming.proofs.Renaming.{Lows}
-use Rattle.naming.proofs.Pairs.{renamed-pair}
+use Rattle.naming.proofs.Renaming.{Lows, length-renamed}
+use Rattle.naming.proofs.Pairs.{left-cut, right-cut}
 use Rattle.naming.proofs.Few.{terms-few}
 use Rattle.mgu.specs.Written.{put, RoomFor, WritesTerms}
 use Rattle.classes.proofs.Arena.{spells-one}
@@ -116,28 +113,22 @@ module _ {l tab ends cs : List ℕ} (rd : Ready l tab ends cs) (low : VariablesL
 
       -- the buffer with its front renamed
       module _ {d₃ : List ℕ} (h : d₃ ≡ renamed-bytes (take f d₂) ++ drop f d₂) where
-        halves : d₃ ≡ term-bytes (renamed pair .left) ++ (term-bytes (renamed pair .right) ++ drop f d₂)
-        unfolding terms-bytes Lows
-        halves =
-            h ∙ ap (λ k. renamed-bytes k ++ drop f d₂) (written ∙ ap (λ k. term-bytes y ++ k) (append-nil (term-bytes z)))
-            ∙ ap (λ k. k ++ drop f d₂) (renamed-pair pair (lows-both .0) (lows-both .1 .0))
-            ∙ append-assoc (term-bytes (renamed pair .left)) (term-bytes (renamed pair .right)) (drop f d₂)
+        renamed-front : d₃ ≡ renamed-bytes (term-bytes y ++ term-bytes z) ++ drop f d₂
+        unfolding terms-bytes
+        renamed-front = h ∙ ap (λ k. renamed-bytes k ++ drop f d₂) (written ∙ ap (λ k. term-bytes y ++ k) (append-nil (term-bytes z)))
 
         pub pair-halves : Halves e f d₃ y z
+        unfolding Lows
         pair-halves =
-            let L : List ℕ = term-bytes (renamed pair .left) in
-            let R : List ℕ = term-bytes (renamed pair .right) in
-            let m : length L ≡ e = length-bytes (renamed pair .left) ∙ renamed-left-size pair ∙ sym first-end in
-            let n : length R ≡ f - e = length-bytes (renamed pair .right) ∙ renamed-right-size pair ∙ omega (arith, first-end, second-end) in
-            let x : take (e - 0) d₃ ≡ L = ap₂ take (sub-zero e) halves ∙ take-at L (R ++ drop f d₂) e m in
-            let y : take (f - e) (drop e d₃) ≡ R =
-            ap (λ k. take (f - e) (drop e k)) halves ∙ ap (take (f - e)) (drop-at L (R ++ drop f d₂) e m) ∙ take-at R (drop f d₂) (f - e) n in
+            let u = lows-both .0 in
+            let v = lows-both .1 .0 in
+            let m = length-renamed (term-bytes y ++ term-bytes z) ∙ length-append (term-bytes y) (term-bytes z) in
             record {
               order = omega (arith, first-end, second-end);
-              inside = omega (arith, simp length-append at (ap length halves), first-end, second-end);
-              left = x;
-              right = y;
-              short = (omega (arith, ap length x, first-end, s .4), omega (arith, ap length y, first-end, second-end, s .5));
+              inside = omega (arith, simp length-append at (ap length renamed-front), m, length-bytes y, length-bytes z, second-end);
+              left = left-cut pair u v d₃ (drop f d₂) renamed-front (e - 0) (omega (arith, first-end));
+              right = right-cut pair u v d₃ (drop f d₂) renamed-front e (f - e) first-end (omega (arith, first-end, second-end));
+              short = (omega (arith, length-take (e - 0) d₃, first-end, s .4), omega (arith, length-take (f - e) (drop e d₃), first-end, second-end, s .5));
             }
 
   pub pair-put : {e f : ℕ} {d one one′ : List ℕ} → Halves e f d y z → PutSides one 0 (take (e - 0) d) (take (f - e) (drop e d)) one′ →

@@ -12,7 +12,7 @@ use Rattle.terms.proofs.Every.{every-append, every-in}
 use Rattle.terms.proofs.Bytes.{length-bytes}
 use Rattle.naming.specs.Names.{collect, renamed-bytes}
 use Rattle.naming.proofs.Few.{names-few}
-use Rattle.naming.proofs.Pairs.{left-cut, right-cut, wf-few, renamed-left-wf, renamed-right-wf}
+use Rattle.naming.proofs.Pairs.{wf-low, left-cut, right-cut, wf-few, renamed-left-wf, renamed-right-wf}
 use Rattle.slots.specs.Slots.{Sides, PutSides, PutMark, numbered-bytes}
 use Rattle.slots.proofs.Layouts.{pair-put}
 use Rattle.problem.specs.Problem.{ok, refused, ReadField, due}
@@ -66,11 +66,13 @@ module _ (tab l : List ℕ) (at m e : ℕ) (a : SideEnd tab l at m) (b : SideEnd
           ap (take (e - at)) (S .bytes ∙ sym (append-assoc u v (S .rest)))
           ∙ take-at (u ++ v) (S .rest) (e - at) (length-append u v ∙ omega (arith, length-bytes (p .left), length-bytes (p .right))) in
           let w = r ∙ ap (λ z. renamed-bytes z ++ rest) (copied ∙ both) in
+          let x = wf-low 16 tab (p .left) (S .left-wf) in
+          let y = wf-low 16 tab (p .right) (S .right-wf) in
           record {
             left-wf = renamed-left-wf 16 16 tab p few (S .left-wf);
             right-wf = renamed-right-wf 16 16 tab p few (S .right-wf);
-            left-bytes = left-cut 16 tab p (S .left-wf) (S .right-wf) h₂ rest w (m - at - 0) (omega arith);
-            right-bytes = right-cut 16 tab p (S .left-wf) (S .right-wf) h₂ rest w (m - at) (e - at - (m - at)) (omega arith) (omega arith);
+            left-bytes = left-cut p x y h₂ rest w (m - at - 0) (omega arith);
+            right-bytes = right-cut p x y h₂ rest w (m - at) (e - at - (m - at)) (omega arith) (omega arith);
           }
 
       pub sides-put : (slots : List ℕ) (k : ℕ) (slots′ : List ℕ) →

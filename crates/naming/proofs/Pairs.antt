@@ -40,12 +40,11 @@ renamed-pair e v w =
     ∙ ap (λ z. term-bytes (renamed e .left) ++ z) (append-nil (term-bytes (renamed e .right)))
 
 -- both sides renamed at the front of a buffer d, and cut from it
-module _ (n : ℕ) (tab : List ℕ) (e : Pair) (v : Wf n tab (e .left)) (w : Wf n tab (e .right)) (d rest : List ℕ)
+module _ (e : Pair) (v : Low (e .left)) (w : Low (e .right)) (d rest : List ℕ)
     (r : d ≡ renamed-bytes (term-bytes (e .left) ++ term-bytes (e .right)) ++ rest) where
   sides-are : d ≡ term-bytes (renamed e .left) ++ (term-bytes (renamed e .right) ++ rest)
   sides-are =
-      r ∙ ap (λ z. z ++ rest) (renamed-pair e (wf-low n tab (e .left) v) (wf-low n tab (e .right) w))
-      ∙ append-assoc (term-bytes (renamed e .left)) (term-bytes (renamed e .right)) rest
+      r ∙ ap (λ z. z ++ rest) (renamed-pair e v w) ∙ append-assoc (term-bytes (renamed e .left)) (term-bytes (renamed e .right)) rest
 
   left-long : length (term-bytes (renamed e .left)) ≡ size (e .left)
   left-long = length-bytes (renamed e .left) ∙ renamed-left-size e

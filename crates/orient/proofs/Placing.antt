@@ -9,7 +9,7 @@ use Rattle.terms.specs.Term.{Pair, size, pair-variables, renamed}
 use Rattle.terms.proofs.Bytes.{length-bytes}
 use Rattle.naming.specs.Names.{collect, renamed-bytes}
 use Rattle.naming.proofs.Few.{names-few}
-use Rattle.naming.proofs.Pairs.{left-cut, right-cut, renamed-left-wf, renamed-right-wf}
+use Rattle.naming.proofs.Pairs.{wf-low, left-cut, right-cut, renamed-left-wf, renamed-right-wf}
 use Rattle.fields.specs.Puts.{patched}
 use Rattle.fields.proofs.Appending.{both-front}
 use Rattle.completion.specs.Calls.{origin-bytes}
@@ -30,12 +30,14 @@ module _ (left right d d₁ d₂ : List ℕ) (p : d₁ ≡ patched 0 left d) (q 
         let m : length left ≡ size (e .left) = ap length (s .left-bytes) ∙ length-bytes (e .left) in
         let n : length right ≡ size (e .right) = ap length (s .right-bytes) ∙ length-bytes (e .right) in
         let rest : List ℕ = drop (length left + length right) d₂ in
+        let u = wf-low 32 tab (e .left) (s .left-wf) in
+        let v = wf-low 32 tab (e .right) (s .right-wf) in
         let w = r ∙ ap (λ z. renamed-bytes z ++ rest) (both-front left right d d₁ d₂ p q ∙ ap₂ _++_ (s .left-bytes) (s .right-bytes)) in
         record {
           left-wf = renamed-left-wf 16 32 tab e few (s .left-wf);
           right-wf = renamed-right-wf 16 32 tab e few (s .right-wf);
-          left-bytes = left-cut 32 tab e (s .left-wf) (s .right-wf) d₃ rest w (length left - 0) (omega arith);
-          right-bytes = right-cut 32 tab e (s .left-wf) (s .right-wf) d₃ rest w (length left) (length left + length right - length left) m (omega arith);
+          left-bytes = left-cut e u v d₃ rest w (length left - 0) (omega arith);
+          right-bytes = right-cut e u v d₃ rest w (length left) (length left + length right - length left) m (omega arith);
         }
 
     pub in-slot : (number : ℕ) (mark one one′ : List ℕ) → mark ≡ numbered-bytes 2 number →
