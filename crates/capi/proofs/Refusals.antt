@@ -11,7 +11,9 @@ use Rattle.terms.specs.Base.{number-from, Every, of-none, of-cons}
 use Rattle.terms.specs.Term.{Term, term-bytes}
 use Rattle.terms.proofs.Bytes.{length-bytes}
 use Rattle.terms.proofs.Every.{every-head, every-tail}
-use Rattle.problem.specs.Problem.{Reading, ok, refused, _>>=_, refuse-if, ReadField, read-field, due, Symbol, arity-of, read-symbols, symbol-field, budget-field, Byte, symbol, variable, neither, byte-of, ReadPart, read-term, read-terms, read-side, Equation, equation-field, equation-fields, Problem, parse, only-equation}
+use Rattle.problem.specs.Problem.{Reading, ok, refused, _>>=_, refuse-if, ReadField, read-field, due, Symbol, arity-of, read-symbols, symbol-field}
+use Rattle.problem.specs.Problem.{budget-field, Byte, symbol, variable, neither, byte-of, ReadPart, read-term, read-terms, read-side, Equation}
+use Rattle.problem.specs.Problem.{equation-field, equation-fields, Problem, parse, only-equation}
 use Rattle.completion.specs.Calls.{enough, complete-call, Single, parse-single, compare-call, unify-call}
 use Rattle.completion.proofs.Accepts.{only-fits}
 use Rattle.problem.proofs.Reading.{ReadsTo, reads, from-bind, no-ok, ok-injective, passed}

@@ -19,7 +19,8 @@ use Rattle.unify.specs.Unify.{Binding, under, mgu}
 use Rattle.rewriting.specs.Rewrite.{end-number}
 use Rattle.problem.specs.Problem.{Reading, ok, refused, rank-of}
 use Rattle.problem.proofs.Reading.{from-bind, ok-injective}
-use Rattle.completion.specs.Calls.{Single, parse-single, complete-call, compare-call, unify-call, CommonInstance, instance, no-instance, instance-too-large, unified, Part, part-of, subterm-part}
+use Rattle.completion.specs.Calls.{Single, parse-single, complete-call, compare-call, unify-call, CommonInstance, instance, no-instance, instance-too-large}
+use Rattle.completion.specs.Calls.{unified, Part, part-of, subterm-part}
 use Rattle.completion.proofs.Accepts.{single-fits}
 use Rattle.completion.proofs.Capacity.{complete-writes}
 use Rattle.complete.specs.Answer.{counted}

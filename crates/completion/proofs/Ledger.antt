@@ -14,9 +14,11 @@ use Rattle.terms.specs.Term.{Term, Pair, same, size, pair-variables, renamed}
 use Rattle.terms.proofs.Every.{every-append}
 use Rattle.order.specs.Order.{above}
 use Rattle.rewriting.specs.Overlap.{Rule, Overlap, overlap, Place, all-places}
-use Rattle.rewriting.specs.Rewrite.{step, End, complete, neither-above, too-large, rules-full, log-full, Paid, done, stop, Paying, return, end-with, and-then, _>>=_, end-if, pay, hold, normalise, normalise-pair}
+use Rattle.rewriting.specs.Rewrite.{step, End, complete, neither-above, too-large, rules-full, log-full, Paid, done, stop, Paying, return, end-with}
+use Rattle.rewriting.specs.Rewrite.{and-then, _>>=_, end-if, pay, hold, normalise, normalise-pair}
 use Rattle.problem.specs.Problem.{Problem, rank-of}
-use Rattle.completion.specs.Turn.{Origin, scanned-input, Candidate, candidates, kept, State, Taken, Finished, initial, scan-overlap, if-different, if-different-overlap, scan-inputs, scan, take-pair, orient, normalise-rights, make-rule, settled, turn, turns, run}
+use Rattle.completion.specs.Turn.{Origin, scanned-input, Candidate, candidates, kept, State, Taken, Finished, initial, scan-overlap, if-different}
+use Rattle.completion.specs.Turn.{if-different-overlap, scan-inputs, scan, take-pair, orient, normalise-rights, make-rule, settled, turn, turns, run}
 use Rattle.completion.proofs.Units.{left-of}
 use Rattle.completion.proofs.Reachable.{Reachable, from-start, by-turn, next-entry, turn-next, turn-less}
 
@@ -49,9 +51,7 @@ normalise-events rules t zero = []
 normalise-events rules t (suc left) =
     elim (step rules t) [
       | none ↦ []
-      | some u ↦
-          let rest : List Event = normalise-events rules u left in
-          rewrote rules t u ∷ (if ltb 120 (size u) then [] else rest)
+      | some u ↦ rewrote rules t u ∷ (if ltb 120 (size u) then [] else normalise-events rules u left)
     ]
 
 unfoldable pub pair-events : List Rule → Pair → Ledger

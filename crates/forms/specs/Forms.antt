@@ -71,4 +71,5 @@ pub record OldestIs (tab pairs : List ℕ) (live units : ℕ) (t : Taken) : Type
   pub left-over : t .units ≤ units
   pub mark : mark-of (slot (t .pair) 0) ≡ mark-of (slot pairs live)
   pub answer : (rs : List Rule) → Stored tab pairs 0 (sides-of rs) → live ≡ length rs →
-      (o : Origin) (e : Pair) → mark-of (slot pairs live) ≡ origin-bytes o → PairAt most-variables tab pairs live e → Walked tab (t .pair) (compared rs o e) units (walk-of t)
+      (o : Origin) (e : Pair) → mark-of (slot pairs live) ≡ origin-bytes o → PairAt most-variables tab pairs live e →
+      Walked tab (t .pair) (compared rs o e) units (walk-of t)

@@ -56,7 +56,8 @@ pub record PutsEquation (tab l : List ℕ) (at : ℕ) (slots : List ℕ) (k : �
   pub only : OnlySlot slots k slots′
   pub mark : mark-of (slot slots′ k) ≡ numbered-bytes 1 (k + 1)
   pub short : Short (slot slots k) → Short (slot slots′ k)
-  pub answer : (e : ℕ) (p : Pair) → due 0x03 at (drop at l) ≡ ok (field-at 0x03 l at e) → SidesAt tab l (at + 3) p → (r ≡ e) × PairAt most-variables tab slots′ k (renamed p)
+  pub answer : (e : ℕ) (p : Pair) → due 0x03 at (drop at l) ≡ ok (field-at 0x03 l at e) → SidesAt tab l (at + 3) p →
+      (r ≡ e) × PairAt most-variables tab slots′ k (renamed p)
 
 -- `read`: "the waiting list (at first the equations in order)"
 abbrev pub inputs-of : Problem → List Candidate

@@ -53,7 +53,8 @@ EndsWith tab t post o (done y left) = (o .step ≡ Normal) × (o .units ≡ left
 EndsWith tab t post o (stop e left) = StepStops e (o .step) × (o .units ≡ left)
 
 abbrev pub EndsAll : List ℕ → List ℕ → List ℕ → ℕ → Out → Paid Terms → Type 0
-EndsAll tab t post n o (done ys left) = (o .step ≡ Normal) × (o .units ≡ left) × (o .end ≡ sizes ys) × (take (o .len) t ≡ cells-all ys ++ post) × Wfs most-apart tab ys × (count ys ≡ n)
+EndsAll tab t post n o (done ys left) =
+    (o .step ≡ Normal) × (o .units ≡ left) × (o .end ≡ sizes ys) × (take (o .len) t ≡ cells-all ys ++ post) × Wfs most-apart tab ys × (count ys ≡ n)
 EndsAll tab t post n o (stop e left) = StepStops e (o .step) × (o .units ≡ left)
 
 pub record Bounds (t t′ : List ℕ) (len most units : ℕ) (o : Out) : Type 0 where
@@ -73,7 +74,8 @@ pub record Settled (tab rules : List ℕ) (number : ℕ) (t t′ : List ℕ) (le
 
 pub record SettledAll (tab rules : List ℕ) (number : ℕ) (t t′ : List ℕ) (n len most units : ℕ) (o : Out) : Type 0 where
   pub bounds : Bounds t t′ len most units o
-  pub answer : (rs : List Rule) → Stored tab rules 0 (sides-of rs) → number ≡ length rs → (xs : Terms) (post : List ℕ) → CellsHoldAll tab rs t len xs post → count xs ≡ n →
+  pub answer : (rs : List Rule) → Stored tab rules 0 (sides-of rs) → number ≡ length rs → (xs : Terms) (post : List ℕ) → CellsHoldAll tab rs t len xs post →
+      count xs ≡ n →
       (big : ℕ → Bool) → Limit big most post → EndsAll tab t′ post n o (normalise-all rs big xs units)
 
 -- `form_of`
@@ -112,4 +114,5 @@ pub record Normalised (tab rules : List ℕ) (number : ℕ) (t out out′ : List
 
 -- `reducible`: whether the definition has a step
 pub record Reducible (tab rules : List ℕ) (number : ℕ) (t : List ℕ) (r : Bool) : Type 0 where
-  pub answer : (rs : List Rule) → Stored tab rules 0 (sides-of rs) → number ≡ length rs → (x : Term) → Wf most-apart tab x → t ≡ term-bytes x → r ≡ is-some (step rs x)
+  pub answer : (rs : List Rule) → Stored tab rules 0 (sides-of rs) → number ≡ length rs → (x : Term) → Wf most-apart tab x → t ≡ term-bytes x →
+      r ≡ is-some (step rs x)

@@ -54,13 +54,15 @@ LowIfRule l (UpperEnds e) = Unit {0}
 
 pub record IsUpper (tab left right : List ℕ) (r : Above) : Type 0 where
   pub low : LowIfRule (left ++ right) r
-  pub answer : (P : Problem) → rank-of (P .symbols) ≡ rank tab → (e : Pair) → Sides most-apart tab left right e → (units : ℕ) → UpperIs e units r (oriented P e units)
+  pub answer : (P : Problem) → rank-of (P .symbols) ≡ rank tab → (e : Pair) → Sides most-apart tab left right e → (units : ℕ) →
+      UpperIs e units r (oriented P e units)
 
 -- `placed`: the pair, renamed, stands in the slot, which has the rule's number
 pub record Placed (left right : List ℕ) (number : ℕ) (one : List ℕ) : Type 0 where
   pub layout : Layout one 1
   pub marked : mark-of (slot one 0) ≡ origin-bytes (removed-rule number)
-  pub rule : (tab : List ℕ) (e : Pair) → Sides most-apart tab left right e → length (pair-variables e) ≤ most-variables → PairAt most-variables tab one 0 (renamed e)
+  pub rule : (tab : List ℕ) (e : Pair) → Sides most-apart tab left right e → length (pair-variables e) ≤ most-variables →
+      PairAt most-variables tab one 0 (renamed e)
 
 -- `rule_of`: the new rule's sides in its slot, or the end; no unit is paid
 abbrev pub OrientedIs : List ℕ → Oriented → Pair → ℕ → Paid Pair → Type 0
@@ -70,4 +72,5 @@ OrientedIs tab o e units (stop f left) = (o .verdict ≡ Ends (ending f)) × (le
 pub record RuleOf (tab pair : List ℕ) (number : ℕ) (o : Oriented) : Type 0 where
   pub layout : Layout (o .rule) 1
   pub marked : o .verdict ≡ GoesOn → mark-of (slot (o .rule) 0) ≡ origin-bytes (removed-rule number)
-  pub answer : (P : Problem) → rank-of (P .symbols) ≡ rank tab → (e : Pair) → PairAt most-apart tab pair 0 e → (units : ℕ) → OrientedIs tab o e units (oriented P e units)
+  pub answer : (P : Problem) → rank-of (P .symbols) ≡ rank tab → (e : Pair) → PairAt most-apart tab pair 0 e → (units : ℕ) →
+      OrientedIs tab o e units (oriented P e units)

@@ -25,5 +25,6 @@ pub record Seen (l : List ℕ) (m m₁ : ℕ) : Type 0 where
 
 -- the count of the different variables in two sides
 pub record Counted (left right : List ℕ) (r : ℕ) : Type 0 where
-  pub counts : (tab : List ℕ) (e : Pair) → Wf most-apart tab (e .left) → Wf most-apart tab (e .right) → left ≡ term-bytes (e .left) → right ≡ term-bytes (e .right) → r ≡ length (pair-variables e)
+  pub counts : (tab : List ℕ) (e : Pair) → Wf most-apart tab (e .left) → Wf most-apart tab (e .right) → left ≡ term-bytes (e .left) →
+      right ≡ term-bytes (e .right) → r ≡ length (pair-variables e)
   pub low : r < most-apart → (b : ℕ) → List·Memᴰ b (left ++ right) → b < variables-end

@@ -69,4 +69,5 @@ pub record Possible (tab rules : List ℕ) (inner outer p : ℕ) (r : Bool) : Ty
 -- `overlap`: exactly as the definition says
 pub record Overlapped (tab rules : List ℕ) (inner outer p : ℕ) (one one′ : List ℕ) (r : Met) : Type 0 where
   pub kept : KeptSlot one one′
-  pub answer : (i o : Pair) → PairAt most-variables tab rules inner i → PairAt most-variables tab rules outer o → AtSymbol (o .left) p → Says one′ r (overlap i o p)
+  pub answer : (i o : Pair) → PairAt most-variables tab rules inner i → PairAt most-variables tab rules outer o → AtSymbol (o .left) p →
+      Says one′ r (overlap i o p)

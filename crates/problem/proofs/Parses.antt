@@ -6,7 +6,8 @@ use Prim.Native.Nat.{ℕ, zero, suc, _+_, _-_, _<_, _≤_}
 use native.Mathlib.Omega.{arith}
 use lib.ListN.{length, take, drop, length-append, length-drop, length-take, drop-of-length-le}
 use borrow.Author.Tests.{lt-ltb, le-ltb}
-use Rattle.problem.specs.Problem.{Reading, ok, refused, _>>=_, refuse-if, due, Symbol, symbol-field, budget-field, Equation, equation-fields, Problem, parse}
+use Rattle.problem.specs.Problem.{Reading, ok, refused, _>>=_, refuse-if, due, Symbol, symbol-field, budget-field, Equation, equation-fields, Problem}
+use Rattle.problem.specs.Problem.{parse}
 use Rattle.problem.specs.Parser.{field-at, symbols-of, SymbolsAt, FieldAt, parse-rest, RestAt, IsParsed, parsed-of}
 use Rattle.problem.specs.declared.Input.{Input}
 use Rattle.problem.specs.declared.Input.the-variants.{Fine, Refused as Bad}

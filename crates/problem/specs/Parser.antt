@@ -5,7 +5,8 @@ use mathlib.Core.List.{List}
 use Prim.Native.Nat.{ℕ, _+_, _-_, _≤_}
 use lib.ListN.{length, take, drop}
 use Rattle.limits.specs.Limits.{most-equations, most-problem}
-use Rattle.problem.specs.Problem.{Reading, ok, refused, _>>=_, due, Symbol, symbol-field, budget-field, Equation, equation-field, equation-fields, Problem, parse}
+use Rattle.problem.specs.Problem.{Reading, ok, refused, _>>=_, due, Symbol, symbol-field, budget-field, Equation, equation-field, equation-fields}
+use Rattle.problem.specs.Problem.{Problem, parse}
 use Rattle.problem.specs.declared.Input.{Input}
 use Rattle.problem.specs.declared.Input.the-variants.{Fine, Refused as Bad}
 use Rattle.problem.specs.declared.Rest.{Rest}

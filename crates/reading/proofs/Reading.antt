@@ -12,7 +12,8 @@ use Rattle.terms.proofs.Shape.{zero≢one, both-true}
 use Rattle.terms.specs.Base.{if_then_else_}
 use Rattle.terms.specs.Term.{Term, var, node, Terms, nil, cons, size, sizes, term-bytes, terms-bytes, count}
 use Rattle.terms.proofs.Limits.{Made, MadeAll}
-use Rattle.reading.specs.Forms.{Reading, ok, refused, _>>=_, refuse-if, Symbol, arity-of, Byte, symbol, variable, neither, byte-of, ReadPart, read-term, read-terms}
+use Rattle.reading.specs.Forms.{Reading, ok, refused, _>>=_, refuse-if, Symbol, arity-of, Byte, symbol, variable, neither, byte-of, ReadPart}
+use Rattle.reading.specs.Forms.{read-term, read-terms}
 use Rattle.reading.specs.Over.{Over, OverAll}
 
 pub no-ok : {A : Type 0} {n at : ℕ} {a : A} → refused n at ≡ ok a → ⊥

@@ -24,7 +24,8 @@ use Rattle.redex.specs.declared.Step.the-variants.{Normal, Rewritten, Sp
 pub record Fitted (rules T : List ℕ) (k : ℕ) (B : List ℕ) (r : Bool) (B′ : List ℕ) : Type 0 where
   pub same : length B′ ≡ length B
   pub within : r ≡ true → Within T B′
-  pub answer : (tab : List ℕ) (p : Pair) → PairAt most-variables tab rules k p → (x : Term) → Stands tab T (size x) 0 x → MatchingIs tab T (size x) r B′ (matching (p .left) x [])
+  pub answer : (tab : List ℕ) (p : Pair) → PairAt most-variables tab rules k p → (x : Term) → Stands tab T (size x) 0 x →
+      MatchingIs tab T (size x) r B′ (matching (p .left) x [])
 
 -- `find`
 pub record Choice (tab rules T B : List ℕ) (k : ℕ) (x : Term) (o : Option Term) : Type 0 where
@@ -39,8 +40,10 @@ pub record FoundRule (rules T : List ℕ) (number k : ℕ) (B B′ : List ℕ) :
   pub same : length B′ ≡ length B
   pub bounded : k ≤ number
   pub within : k < number → Within T B′
-  pub lowest : k < number → (tab : List ℕ) (rs : List Rule) → Stored tab rules 0 (sides-of rs) → number ≡ length rs → (x : Term) → Stands tab T (size x) 0 x → Choice tab rules T B′ k x (root-step rs x)
-  pub missing : k ≡ number → (tab : List ℕ) (rs : List Rule) → Stored tab rules 0 (sides-of rs) → number ≡ length rs → (x : Term) → Stands tab T (size x) 0 x → root-step rs x ≡ none
+  pub lowest : k < number → (tab : List ℕ) (rs : List Rule) → Stored tab rules 0 (sides-of rs) → number ≡ length rs → (x : Term) →
+      Stands tab T (size x) 0 x → Choice tab rules T B′ k x (root-step rs x)
+  pub missing : k ≡ number → (tab : List ℕ) (rs : List Rule) → Stored tab rules 0 (sides-of rs) → number ≡ length rs → (x : Term) →
+      Stands tab T (size x) 0 x → root-step rs x ≡ none
 
 -- the term u, of which some subterms are known to be normal, and then `post` are the first `len` cells
 pub record CellsHold (tab : List ℕ) (rs : List Rule) (t : List ℕ) (len : ℕ) (u : Term) (post : List ℕ) : Type 0 where
@@ -69,5 +72,6 @@ pub record RewritesRoot (rules : List ℕ) (number : ℕ) (t t′ : List ℕ) (l
   pub left-over : o .units ≤ units
   pub paid : o .step ≡ Rewritten → o .units + 1 ≡ units
   pub place : (o .step ≡ Rewritten → ⊥) → (o .len ≡ len) × (o .end ≡ end)
-  pub answer : (tab : List ℕ) (rs : List Rule) → Stored tab rules 0 (sides-of rs) → number ≡ length rs → (x : Term) (post : List ℕ) → Wf most-apart tab x → take len t ≡ open-cells x ++ post → end ≡ size x → ArgumentsNormal rs x →
+  pub answer : (tab : List ℕ) (rs : List Rule) → Stored tab rules 0 (sides-of rs) → number ≡ length rs → (x : Term) (post : List ℕ) → Wf most-apart tab x →
+      take len t ≡ open-cells x ++ post → end ≡ size x → ArgumentsNormal rs x →
       Wrote tab rs t′ x post most units o (root-step rs x)

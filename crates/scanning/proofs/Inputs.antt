@@ -18,7 +18,8 @@ use Rattle.forms.specs.declared.Walk.{Walk}
 use Rattle.forms.specs.declared.Taken.{Taken}
 use Rattle.forms.specs.Forms.{compared, Walked, found, short, large, on, PairWalk}
 use Rattle.forms.proofs.Pairs.{pair-wider}
-use Rattle.scanning.specs.Walk.{visits, visit-inputs, Walks, RulesIn, of-rules, World, world-inputs, InSlots, no-candidate, of-input, of-inputs, rules-part, of-all, Finds, ScanIs}
+use Rattle.scanning.specs.Walk.{visits, visit-inputs, Walks, RulesIn, of-rules, World, world-inputs, InSlots, no-candidate, of-input, of-inputs}
+use Rattle.scanning.specs.Walk.{rules-part, of-all, Finds, ScanIs}
 use Rattle.scanning.proofs.Going.{Unrolls, Over, lent-mark}
 use Rattle.scanning.proofs.Placing.{stored-here}
 use Rattle.scanning.proofs.Places.{scan-visits}

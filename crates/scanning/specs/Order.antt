@@ -29,7 +29,8 @@ behind i o rs next =
     if ltb o i then with-earlier (o + 1) i rs next else of-rules (o + 1) rs next
 
 unfoldable pub to-come : Spot → List Rule → ScanPart
-to-come at rs next = if ltb (at .outer) (length rs) then at-positions (at .inner) (at .outer) (at .position) rs (behind (at .inner) (at .outer) rs next) else next
+to-come at rs next =
+    if ltb (at .outer) (length rs) then at-positions (at .inner) (at .outer) (at .position) rs (behind (at .inner) (at .outer) rs next) else next
 
 -- a number that rises along the places: by the later rule, then the earlier, then which of them is inner, then the position
 unfoldable pub place-rank : Spot → ℕ
@@ -40,5 +41,6 @@ pub record Follows (rules : List ℕ) (at r : Spot) : Type 0 where
   pub low : r .position < 256
   pub within : (count : ℕ) → at .inner < count → at .outer < count → r .outer < count → r .inner < count
   pub rises : place-rank at < place-rank r
-  pub leads : (rs : List Rule) → ((k : ℕ) → k < length rs → left-length (slot rules k) ≡ size (rule-at rs k .sides .left)) → at .inner < length rs → at .outer < length rs →
+  pub leads : (rs : List Rule) → ((k : ℕ) → k < length rs → left-length (slot rules k) ≡ size (rule-at rs k .sides .left)) → at .inner < length rs →
+      at .outer < length rs →
       (next : Paying Candidate) → to-come at rs next ≡ at-place at rs (to-come r rs next)

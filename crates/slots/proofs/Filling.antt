@@ -10,7 +10,8 @@ use Rattle.limits.specs.Limits.{most-nodes, origin-width}
 use Rattle.fields.specs.Puts.{patched}
 use Rattle.fields.proofs.Patching.{length-patched, patched-here, patched-before, patched-after}
 use Rattle.fields.proofs.Appending.{patched-one}
-use Rattle.slots.specs.Slots.{left-at, right-at, slot-width, slot, mark-of, left-length, right-length, left-of, right-of, Short, OnlySlot, PutSides, PutMark, PutRight}
+use Rattle.slots.specs.Slots.{left-at, right-at, slot-width, slot, mark-of, left-length, right-length, left-of, right-of, Short, OnlySlot, PutSides}
+use Rattle.slots.specs.Slots.{PutMark, PutRight}
 use Rattle.slots.proofs.Parts.{slot-length, slot-patched, only-patched, only-trans}
 
 -- one byte, as a part

@@ -10,7 +10,8 @@ use lib.Seq.{length-take-le}
 use Rattle.limits.specs.Limits.{most-nodes, origin-width}
 use Rattle.terms.specs.Term.{Term, Pair, term-bytes}
 use Rattle.terms.specs.Flat.{Wf}
-use Rattle.slots.specs.Slots.{slot-width, left-at, right-at, slot, left-of, right-of, left-length, right-length, Short, Layout, Sides, PairAt, OnlySlot, PutSides, PutMark, PutRight, KeptSlot}
+use Rattle.slots.specs.Slots.{slot-width, left-at, right-at, slot, left-of, right-of, left-length, right-length, Short, Layout, Sides, PairAt}
+use Rattle.slots.specs.Slots.{OnlySlot, PutSides, PutMark, PutRight, KeptSlot}
 use Rattle.slots.proofs.Parts.{slot-length, slot-byte}
 
 pub layout-less : {slots : List ℕ} {m n : ℕ} → m ≤ n → Layout slots n → Layout slots m

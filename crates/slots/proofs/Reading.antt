@@ -9,7 +9,8 @@ use lib.Seq.{take-all}
 use Rattle.limits.specs.Limits.{most-nodes, origin-width}
 use Rattle.terms.specs.Base.{number-bytes}
 use Rattle.fields.proofs.Patching.{part-is, filled}
-use Rattle.slots.specs.Slots.{left-at, right-at, slot-width, slot, mark-of, number-of, left-length, right-length, left-of, right-of, Layout, overlapping-bytes}
+use Rattle.slots.specs.Slots.{left-at, right-at, slot-width, slot, mark-of, number-of, left-length, right-length, left-of, right-of, Layout}
+use Rattle.slots.specs.Slots.{overlapping-bytes}
 use Rattle.slots.proofs.Parts.{slot-length, slot-part, slot-byte}
 
 module _ (slots : List ℕ) (k : ℕ) where

@@ -87,7 +87,8 @@ LookIs tab t waits s (stop e left) = (t .units ≡ left) × LookStops e t waits
 pub record Looks (tab pairs : List ℕ) (live : ℕ) (waits : Bool) (inputs : List ℕ) (count units : ℕ) (t : Taken) : Type 0 where
   pub layout : Layout (t .pair) 1
   pub left-over : t .units ≤ units
-  pub answer : (P : Problem) → Given tab inputs count P → (s : RunState) → PairsOf tab pairs live waits s → LookIs tab t waits s (take-pair P (s .rules) (s .waiting) units)
+  pub answer : (P : Problem) → Given tab inputs count P → (s : RunState) → PairsOf tab pairs live waits s →
+      LookIs tab t waits s (take-pair P (s .rules) (s .waiting) units)
 
 -- what every answer of a turn from st has; a stop hands back the state as at the turn's beginning
 pub record TurnSafe (st : State) (o : Turned) : Type 0 where
@@ -101,7 +102,8 @@ pub record TurnSafe (st : State) (o : Turned) : Type 0 where
 abbrev pub TurnedIs : List ℕ → RunState → Turned → Paid RunState → Type 0
 TurnedIs tab s o (done s′ left) = (o .verdict ≡ GoesOn) × (o .state .units ≡ left) × Represents tab (o .state) s′
 TurnedIs tab s o (stop f left) =
-    (o .verdict ≡ Ends (ending f)) × (o .state .units ≡ left) × Represents tab (o .state) s × ((g : Pair) → f ≡ neither-above g → PairAt most-apart tab (o .pair) 0 g)
+    (o .verdict ≡ Ends (ending f)) × (o .state .units ≡ left) × Represents tab (o .state) s ×
+    ((g : Pair) → f ≡ neither-above g → PairAt most-apart tab (o .pair) 0 g)
 
 -- `turn`: exactly as the definition says
 pub record Turns (tab inputs : List ℕ) (count : ℕ) (st : State) (o : Turned) : Type 0 where

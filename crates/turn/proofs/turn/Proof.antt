@@ -13,7 +13,8 @@ use Rattle.turn.specs.declared.Turned.{Turned}
 use Rattle.turn.specs.Turns.{Turns}
 use Rattle.turn.proofs.Due.{the-type}
 use Rattle.turn.proofs.Entries.{settle-room, make-room}
-use Rattle.turn.proofs.Parts.{settle-logs, settles, orient-room, collapse-room, compose-room, make-logs, Makes, makes-unplaced, makes-full, makes-rights-end, makes-goes}
+use Rattle.turn.proofs.Parts.{settle-logs, settles, orient-room, collapse-room, compose-room, make-logs, Makes, makes-unplaced, makes-full}
+use Rattle.turn.proofs.Parts.{makes-rights-end, makes-goes}
 use Rattle.turn.proofs.Whole.{turn-spent, look-room, began-fine, turn-ends, turn-settled, turn-made}
 use borrow.Author.Needs.{needs}
 use Rattle.turn.proofs.turn.Statement.{statement}
