@@ -59,9 +59,10 @@ fn with_room(entries: usize, due: Due) -> Due
 }
 
 // Steps 1 to 3: what follows from what was found.
-fn due_after(found: Found, waits: bool, entries: usize) -> Due
-    ensures { λ r. ⌜ r ≡ due-after found waits entries ⌝ }
+fn due_after(t: Taken, waits: bool, entries: usize) -> Due
+    ensures { λ r. ⌜ r ≡ due-after (t .found) waits entries ⌝ }
 {
+    let found = t.found;
     match found {
         Found::Ends(end) => Due::Stop(end),
         Found::Different => with_room(entries, Due::Make),
@@ -95,7 +96,7 @@ fn look(
 }
 
 // A turn, with the input equations. Its unit is paid first; a stop hands back the state as the turn began it. Each method is called here, where the
-// state is, since a function of its own would copy it once more.
+// state is, and each result has its own name: a function, or a result within an expression, copies the state once more.
 pub fn turn(st: State, inputs: &[u8], count: usize, table: &[u8]) -> Turned
     requires { ⌜ Fine st × Layout (now inputs) count × (count ≤ most-equations) ⌝ }
     ensures { λ r. ⌜ Turns (now (table .entry)) (now (inputs .entry)) count st r ⌝ }
@@ -103,35 +104,36 @@ pub fn turn(st: State, inputs: &[u8], count: usize, table: &[u8]) -> Turned
     if st.units == 0 {
         return ended(st, End::Spent, 0, [0u8; SLOT]);
     }
-    let begun = st.begin();
-    let live = begun.live;
-    let waits = live < begun.pairs.count;
-    let left = begun.units;
-    let t = look(&begun.pairs.bytes, live, waits, inputs, count, table, left);
+    let st = st.begin();
+    let live = st.live;
+    let waits = live < st.pairs.count;
+    let t = look(&st.pairs.bytes, live, waits, inputs, count, table, st.units);
     let pair = t.pair;
-    let found = t.found;
-    let due = due_after(found, waits, begun.log.count);
+    let due = due_after(t, waits, st.log.count);
     if let Due::Stop(end) = due {
-        return ended(begun, end, t.units, pair);
+        return ended(st, end, t.units, pair);
     }
     let origin = slots::mark(&pair, 0);
     if let Due::Settle = due {
-        return going(begun.take().log(origin, 0, t.units), pair);
+        return going(st.take().log(origin, 0, t.units), pair);
     }
-    let o = begun.take().orient(&pair, table);
+    let rest = st.take();
+    let o = rest.orient(&pair, table);
     let way = o.verdict;
     if let Verdict::Ends(end) = way {
-        return ended(begun, end, t.units, pair);
+        return ended(st, end, t.units, pair);
     }
-    let mut next = o.state.collapse(table);
+    let collapsed = o.state.collapse(table);
+    let mut next = collapsed;
     let live = next.live;
     if live > limits::RULES {
-        return ended(begun, End::RulesFull, t.units, pair);
+        return ended(st, End::RulesFull, t.units, pair);
     }
     let c = compose::compose(&mut next.pairs.bytes, live, table, t.units);
     let composed = c.verdict;
     if let Verdict::Ends(end) = composed {
-        return ended(begun, end, c.units, pair);
+        return ended(st, end, c.units, pair);
     }
-    going(next.log(origin, next.made as u16, c.units), pair)
+    let logged = next.log(origin, next.made as u16, c.units);
+    going(logged, pair)
 }
