@@ -8,6 +8,7 @@ pub mod calls;
 pub mod cases;
 pub mod fields;
 pub mod fixed;
+pub mod full_log;
 pub mod generate;
 pub mod matching;
 pub mod normalise;

@@ -18,8 +18,10 @@ pub enum Stop {
     Budget,
     /// A term over 120 nodes, or a taken pair over 16 variables.
     Size,
-    /// A 33rd live rule or a 513th log entry.
-    Room,
+    /// A 33rd live rule.
+    RulesFull,
+    /// A 513th log entry is due.
+    LogFull,
 }
 
 /// Units paid against the budget.

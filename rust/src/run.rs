@@ -66,7 +66,8 @@ impl End {
             End::Unorientable(..) => 20,
             End::Stopped(Stop::Budget) => 21,
             End::Stopped(Stop::Size) => 22,
-            End::Stopped(Stop::Room) => 23,
+            End::Stopped(Stop::RulesFull) => 23,
+            End::Stopped(Stop::LogFull) => 24,
         }
     }
 }
@@ -141,7 +142,7 @@ impl<'p> State<'p> {
         self.units.pay()?;
         let taken = self.take()?;
         if self.log.len() == MAX_LOG {
-            return Err(Stop::Room.into());
+            return Err(Stop::LogFull.into());
         }
         let made = if taken.left == taken.right {
             0
@@ -252,7 +253,7 @@ impl<'p> State<'p> {
         let (removed, mut live) = self.collapse(&new);
         live.push(new);
         if live.len() > MAX_RULES {
-            return Err(Stop::Room);
+            return Err(Stop::RulesFull);
         }
         let rules = self.compose(RuleSet::new(live))?;
         self.rules = rules;

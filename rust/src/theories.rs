@@ -137,17 +137,25 @@ pub fn products(outer: usize, inner: usize) -> Theory {
 /// P_k(s^n(x)) = a loses one s a rule, and each new rule removes the one
 /// before: a log of many entries with few live rules. One chain a length.
 pub fn descents(lengths: &[usize]) -> Theory {
-    let mut signature = "a/0/0 s/1/1 u/1/2".to_string();
-    for k in 0..lengths.len() {
-        signature += &format!(" P{k}/1/{}", k + 3);
-    }
-    let mut theory = Theory::new(&signature).equation("u(a) = a");
+    after_descents(lengths, "", &[])
+}
+
+/// Descents with further symbols, "b/0 k/3", ranked above the others as they
+/// are named, and equations. P_k(b) has no overlap with P_k(s^n(x)) = a and
+/// becomes a only when the chain's last rule, P_k(x) = a, is made.
+pub fn after_descents(lengths: &[usize], symbols: &str, equations: &[&str]) -> Theory {
+    let chains = (0..lengths.len()).map(|k| format!("P{k}/1"));
+    let names = ["a/0", "s/1", "u/1"].map(String::from).into_iter();
+    let further = symbols.split_whitespace().map(String::from);
+    let ranked = (0..).zip(names.chain(chains).chain(further));
+    let signature: Vec<String> = ranked.map(|(rank, s)| format!("{s}/{rank}")).collect();
+    let mut theory = Theory::new(&signature.join(" ")).equation("u(a) = a");
     for (k, n) in lengths.iter().enumerate() {
         theory = theory
             .equation(&format!("u(P{k}(s(x))) = P{k}(x)"))
             .equation(&format!("P{k}({}) = a", power("s", *n, "x")));
     }
-    theory
+    theory.equations(equations)
 }
 
 /// t(z0,t(z1,.. c)), so many variables.

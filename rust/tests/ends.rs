@@ -1,9 +1,10 @@
-//! The ends 20 to 23 and the edges of budget, sizes, rules and log.
+//! The ends 20 to 24 and the edges of budget, sizes, rules and log.
 
 mod common;
 
 use common::{bytes, completed, hex, refusal, rule_sides, run, Fields};
 use kb_engine::cases;
+use kb_engine::full_log;
 use kb_engine::notation::Theory;
 use kb_engine::theories::{self, GROUP, PAPERS};
 
@@ -158,17 +159,30 @@ fn end_0_with_32_rules() {
 }
 
 #[test]
-fn end_23_by_the_513th_entry() {
-    let theory = theories::descents(&[84, 84, 84]);
-    assert_eq!(run(&theory, BUDGET).log.len(), 511);
-    let theory = theory.equation("x = x");
+fn end_24_by_the_513th_entry() {
+    let end_and_entries = |theory| {
+        let fields = run(&theory, BUDGET);
+        (fields.end, fields.log.len())
+    };
+    assert_eq!(end_and_entries(full_log::settled(84, 0)), (0, 511));
+    assert_eq!(end_and_entries(full_log::settled(84, 1)), (0, 512));
+    assert_eq!(end_and_entries(full_log::settled(84, 2)), (24, 512));
+    assert_eq!(end_and_entries(full_log::neither_above(83, 5)), (20, 511));
+    assert_eq!(end_and_entries(full_log::neither_above(84, 0)), (24, 512));
+    assert_eq!(end_and_entries(full_log::many_variables(83, 2)), (22, 511));
+    assert_eq!(end_and_entries(full_log::many_variables(83, 3)), (24, 512));
+    assert_eq!(end_and_entries(full_log::endless_rules(79, 1)), (23, 511));
+    assert_eq!(end_and_entries(full_log::endless_rules(79, 2)), (24, 512));
+}
+
+/// The turn's unit and its rewriting come before the test of the log.
+#[test]
+fn ends_of_step_1_before_24() {
+    let theory = full_log::settled(84, 2);
     let fields = run(&theory, BUDGET);
-    assert_eq!((fields.end, fields.log.len()), (0, 512));
-    let theory = theory.equation("x = x");
-    let fields = run(&theory, BUDGET);
-    assert_eq!((fields.end, fields.log.len()), (23, 512));
-    // The turn's unit and its rewriting come before the test of the log.
     assert_eq!(run(&theory, fields.units - 1).end, 21);
+    let fields = run(&full_log::too_large(84, 0), BUDGET);
+    assert_eq!((fields.end, fields.log.len()), (22, 512));
 }
 
 /// A stored run whose name begins with a number ends with it.
@@ -182,13 +196,15 @@ fn stored_runs_end_as_their_names_say() {
         let end = completed(&case.problem).end;
         found.push(end);
         let number = case.name.split([':', ' ']).next();
-        if let Some(Ok(number @ (0 | 20..=23))) = number.map(str::parse::<u8>) {
+        if let Some(Ok(number @ (0 | 20..=24))) = number.map(str::parse::<u8>) {
             assert_eq!(end, number, "{}", case.name);
             named += 1;
         }
     }
     assert!(named > 15, "only {named}");
-    assert!([0, 20, 21, 22, 23].iter().all(|end| found.contains(end)));
+    assert!([0, 20, 21, 22, 23, 24]
+        .iter()
+        .all(|end| found.contains(end)));
 }
 
 #[test]

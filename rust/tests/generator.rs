@@ -37,7 +37,7 @@ fn problems_reach_every_answer() {
         }
     }
     let refusals = (2..=12).map(|n| format!("refused {n}"));
-    let ends = [0, 20, 21, 22, 23].map(|n| format!("end {n}"));
+    let ends = [0, 20, 21, 22, 23, 24].map(|n| format!("end {n}"));
     let unified = ["instance", "no instance", "large instance"].map(String::from);
     let compared = ["LeftAbove", "RightAbove", "Identical", "Neither"].map(String::from);
     let all = refusals.chain(ends).chain(unified).chain(compared);

@@ -130,13 +130,14 @@ complete-writes bytes buffer r e =
     let k = buffer-enough buffer u a in
     rw (← q) (record { are-bytes = result-bytes-fit bytes P b; few = l; room = omega arith })
 
--- 5. "0, complete" and the ends 20 to 23, and no other.
+-- 5. "0, complete" and the ends 20 to 24, and no other.
 pub data Listed : ℕ → Type 0 where
   is-complete : {k : ℕ} → k ≡ 0 → Listed k
   is-neither-above : {k : ℕ} → k ≡ 20 → Listed k
   is-spent : {k : ℕ} → k ≡ 21 → Listed k
   is-too-large : {k : ℕ} → k ≡ 22 → Listed k
-  is-full : {k : ℕ} → k ≡ 23 → Listed k
+  is-rules-full : {k : ℕ} → k ≡ 23 → Listed k
+  is-log-full : {k : ℕ} → k ≡ 24 → Listed k
 
 pub end-listed : (e : End) → Listed (end-number e)
 unfolding end-number
@@ -144,5 +145,5 @@ end-listed complete = is-complete refl
 end-listed (neither-above e) = is-neither-above refl
 end-listed spent = is-spent refl
 end-listed too-large = is-too-large refl
-end-listed rules-full = is-full refl
-end-listed log-full = is-full refl
+end-listed rules-full = is-rules-full refl
+end-listed log-full = is-log-full refl

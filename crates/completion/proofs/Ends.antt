@@ -138,7 +138,7 @@ pub record RulesFull (P : Problem) (s : State) : Type 0 where
   pub due : Due P s sides
   pub over : 32 < suc (length (older-rules s sides))
 
--- 23: "a 513th log entry", of the pair that was taken
+-- 24: "when a 513th log entry is due", of the pair that was taken
 pub record LogFull (P : Problem) (s : State) : Type 0 where
   pub taken : Taken
   pub takes : Takes P s taken

@@ -30,7 +30,7 @@ use Rattle.completion.proofs.ReadBack.{fields-are, Fits, no-rules, rule
 use Rattle.completion.proofs.Delivered.{delivered}
 use Rattle.completion.proofs.Published.{run-derived, complete-derived}
 
--- "0, complete"; the other ends are 20 to 23.
+-- "0, complete"; the other ends are 20 to 24.
 end-zero : (e : End) → (some (end-number e % 256) ≡ some 0) ↔ (e ≡ complete)
 unfolding end-number
 end-zero complete = (λ h. refl, λ h. refl)

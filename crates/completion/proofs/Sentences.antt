@@ -37,7 +37,7 @@ pub scan-takes-input : (rules : List Rule) (c : Candidate) (cs : List Candidate)
 unfolding scan scan-inputs _>>=_ and-then if-different if_then_else_ return
 scan-takes-input rules c cs forms units left h d = rw (h, d) refl
 
--- 2. "With 512 entries in the log, end 23."
+-- 2. "24 when a 513th log entry is due, at step 2 of the turn"
 pub turn-log-full : (P : Problem) (s : State) (units : ℕ) (t : Taken) (left : ℕ) → take-pair P (s .rules) (s .waiting) units ≡ done t left →
     512 ≤ length (s .log) → turn P s (suc units) ≡ stop log-full left
 unfolding turn _>>=_ and-then pay end-if end-with

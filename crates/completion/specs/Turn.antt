@@ -159,7 +159,7 @@ settled s t = record {
   log = s .log ++ (record { origin = t .pair .origin; made = 0 } ∷ []);
 }
 
--- "A turn takes the run's state and hands back the next one." Step 1: "Pay a unit." Step 2: "With 512 entries in the log, end 23."
+-- "A turn takes the run's state and hands back the next one." Step 1: "Pay a unit." Step 2: "24 when a 513th log entry is due".
 -- [8.5, 9.1, 9.8]
 unfoldable pub turn : Problem → State → Paying State
 turn P s = do

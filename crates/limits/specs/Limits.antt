@@ -67,7 +67,7 @@ most-rules = 32
 abbrev pub most-pairs : ℕ
 most-pairs = most-rules + 1
 
--- "With 512 entries in the log, end 23." [16.9]
+-- "24 when a 513th log entry is due" [16.9]
 abbrev pub most-entries : ℕ
 most-entries = 512
 

@@ -54,7 +54,7 @@ pub const RULES: usize = 32;
 // Live rules and waiting equations together: the newest rule joins before the older ones are counted. 33
 pub const PAIRS: usize = RULES + 1;
 
-// "With 512 entries in the log, end 23."
+// "24 when a 513th log entry is due"
 pub const ENTRIES: usize = 512;
 
 // "the budget, four bytes, high byte first, 0 to 1,000,000"

@@ -13,11 +13,11 @@ pub enum End {
     TooLarge,
     // A 33rd live rule.
     RulesFull,
-    // A 513th log entry.
+    // A 513th log entry due.
     LogFull,
 }
 
-// Document 01's number of an end.
+// The papers' number of an end.
 pub fn number(end: End) -> u8
     ensures { λ r. ⌜ r ≡ number-of end ⌝ }
 {
@@ -27,7 +27,7 @@ pub fn number(end: End) -> u8
         End::Spent => 21,
         End::TooLarge => 22,
         End::RulesFull => 23,
-        End::LogFull => 23,
+        End::LogFull => 24,
     }
 }
 

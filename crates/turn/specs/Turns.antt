@@ -44,7 +44,7 @@ ended-as st end units pair = record { state = with-units st units; verdict = End
 abbrev pub going-as : State → List ℕ → Turned
 going-as st pair = record { state = st; verdict = GoesOn; pair = pair }
 
--- `with_room`, `due_after`: steps 1 to 3, from what was found. "With 512 entries in the log, end 23."
+-- `with_room`, `due_after`: steps 1 to 3, from what was found. "24 when a 513th log entry is due, at step 2 of the turn."
 unfoldable pub with-room : ℕ → Due → Due
 with-room entries due = if leb most-entries entries then Stop LogFull else due
 

@@ -5,7 +5,7 @@ use super::{groups, hex, refusals, refused, Case, Cases};
 use crate::fields::split_fields;
 use crate::notation::Theory;
 use crate::theories::{self, power, PAPERS};
-use crate::{complete, fixed, CompleteAnswer, MAX_BUDGET, MIN_RESULT};
+use crate::{complete, fixed, full_log, CompleteAnswer, MAX_BUDGET, MIN_RESULT};
 
 /// complete with a result buffer of 16,383 bytes.
 const SHORT_BUFFER: u8 = 1;
@@ -24,6 +24,7 @@ pub fn cases() -> Cases {
     spent(&mut cases);
     too_large(&mut cases);
     full(&mut cases);
+    full_log(&mut cases);
     refusals(&mut cases);
     cases
 }
@@ -223,13 +224,22 @@ fn full(cases: &mut Cases) {
     run(cases, "0: 32 rules", theories::products(2, 10));
     run(cases, "23: a 33rd rule", theories::products(3, 8));
     run(cases, "23: rules without end", theories::endless_rules());
-    let log = theories::descents(&[84, 84, 84]).equation("x = x");
-    run(cases, "0: 512 entries", log.clone());
-    run(
-        cases,
-        "23 before settled: a 513th entry",
-        log.equation("x = x"),
-    );
+}
+
+/// 512 entries, and what else is due when a 513th is.
+fn full_log(cases: &mut Cases) {
+    run(cases, "0: 512 entries", full_log::settled(84, 1));
+    run(cases, "24 before settled", full_log::settled(84, 2));
+    let theory = full_log::settled(84, 2);
+    cases.bytes("21 before 24", theory.problem(1019));
+    run(cases, "24 before 20", full_log::neither_above(84, 0));
+    run(cases, "22 before 24: a step", full_log::too_large(84, 0));
+    let theory = full_log::many_variables(83, 3);
+    run(cases, "24 before 22: 17 variables", theory);
+    let theory = full_log::endless_rules(79, 1);
+    run(cases, "23: a 33rd rule, 511 entries", theory);
+    let theory = full_log::endless_rules(79, 2);
+    run(cases, "24 before 23: a 33rd rule, 512 entries", theory);
 }
 
 fn refusals(cases: &mut Cases) {

@@ -2,6 +2,7 @@
 
 use super::random::Random;
 use super::terms::{assemble, push_term, symbols};
+use crate::full_log;
 use crate::notation::Theory;
 use crate::theories::{self, descents, endless_rules, many_variables, power, products};
 
@@ -72,8 +73,8 @@ pub fn variables(random: &mut Random) -> Vec<u8> {
 pub fn room(random: &mut Random) -> Vec<u8> {
     match random.below(400) {
         0 => endless_rules().problem(random.between(5000, 8000) as u32),
-        1..=6 => long_log(random),
-        7..=20 => endless_rules().problem(random.budget()),
+        1..=12 => long_log(random),
+        13..=20 => endless_rules().problem(random.budget()),
         21..=80 => {
             let lengths = [random.between(0, 9), random.between(0, 9)];
             descents(&lengths).problem(random.budget())
@@ -82,13 +83,18 @@ pub fn room(random: &mut Random) -> Vec<u8> {
     }
 }
 
-/// Around 512 log entries.
+/// Around 512 log entries, and what else is due then.
 fn long_log(random: &mut Random) -> Vec<u8> {
-    let mut theory = descents(&[84, 84, random.between(82, 86)]);
-    for _ in 0..random.below(3) {
-        theory = theory.equation("x = x");
-    }
-    theory.problem(2000)
+    let (length, padding) = (random.between(82, 84), random.below(7));
+    let theory = match random.below(6) {
+        0 => descents(&[84, 84, random.between(82, 86)]).equation("x = x"),
+        1 => full_log::settled(length, padding),
+        2 => full_log::neither_above(length, padding),
+        3 => full_log::too_large(length, padding),
+        4 => full_log::many_variables(length, padding),
+        _ => full_log::endless_rules(length - 4, padding),
+    };
+    theory.problem(if random.once_in(4) { 1015 } else { 6000 })
 }
 
 /// Outer rules times inner rules, up to and over 32.

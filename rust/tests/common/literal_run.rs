@@ -86,7 +86,7 @@ impl Run {
         self.pay()?;
         let (left, right, mut entry) = self.take()?;
         if self.log.len() == 512 {
-            return Err(Break::End(23));
+            return Err(Break::End(24));
         }
         let mut made = 0;
         if left != right {
