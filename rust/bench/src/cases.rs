@@ -1,5 +1,6 @@
 //! The fixed problems of the benchmark.
 
+use kb_engine::full_log;
 use kb_engine::notation::Theory;
 use kb_engine::theories::{self, monoid, power, PAPERS};
 
@@ -74,10 +75,8 @@ fn limits() -> Vec<Case> {
         complete("1,000,000 units", theories::countdown(15, 1)),
         complete("32 rules, end 0", theories::products(2, 10)),
         complete("33rd rule, end 23", theories::endless_rules()),
-        complete(
-            "512 entries, end 0",
-            theories::descents(&[84, 84, 84]).equation("x = x"),
-        ),
+        complete("512 entries, end 0", full_log::settled(84, 1)),
+        complete("513th entry, end 24", full_log::settled(84, 2)),
         complete("no equation", Theory::new(theories::GROUP)),
     ]
 }

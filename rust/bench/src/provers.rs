@@ -1,5 +1,5 @@
-//! Whole-process times of settle on the ten rules and the axioms of groups, and
-//! of other provers on the axioms.
+//! Whole-process times of settle on the ten rules and the axioms of groups, of a
+//! process that does nothing, and of other provers on the axioms.
 
 use kb_engine::theories;
 use std::env;
@@ -106,7 +106,8 @@ pub fn print() -> std::io::Result<()> {
     let own = least_time(&settle, &[], &rules);
     print_line("settle, ten rules", own, own);
     print_line("settle, axioms", least_time(&settle, &[], &axioms), own);
-    let provers: [(&str, &[&str], &Path); 2] = [
+    let provers: [(&str, &[&str], &Path); 3] = [
+        ("true, nothing", &[], &rules),
         (
             "eprover, axioms",
             &["--silent", "--auto", "--cpu-limit=20"],
