@@ -1,43 +1,43 @@
-// Runs the public calls on the cases of standard input, document 01's worked instances and edges, and prints a line for each.
-// A case is a byte that says what is asked, the length of its name, the length of its problem in two bytes, the name and the problem;
-// rust/src/bin/call_cases.rs writes them.
+// Runs the public calls on the cases of standard input, document 01's worked instances and edges, and prints a line for each. `stored_cases` says what
+// a case is; rust/src/bin/call_cases.rs writes them.
+ghost use Prim.Native.Nat.{_≤_};
+ghost use lib.ListN.{length};
+use stored_cases::Case;
+
 mod print;
 
-fn line(asked: u8, name: &[u8], problem: &[u8]) {
-    print::print(name);
+// The line of a case, whose name and problem stand from these places on.
+fn line(asked: u8, text: &[u8], name: usize, problem: usize, end: usize)
+    requires { ⌜ (name ≤ problem) × (problem ≤ end) × (end ≤ length (now text)) ⌝ }
+{
+    stored_cases::print(&text[name..problem]);
+    let given = &text[problem..end];
     match asked {
-        0 => print::calls_on(problem),
-        1 => print::later_parts(problem),
-        _ => print::short_buffer(problem),
+        0 => print::calls_on(given),
+        1 => print::later_parts(given),
+        _ => print::short_buffer(given),
     }
-    print::print(b"\n");
+    stored_cases::print(b"\n");
 }
 
-// The end of the case that starts at this place, after printing its line; a case that is cut is left out.
-fn case(text: &[u8], at: usize) -> usize {
-    if at >= text.len() {
-        return at;
-    }
-    if text.len() - at < 4 {
-        return text.len();
-    }
-    let name = at + 4;
-    let problem = name + terms::wide(text[at + 1]);
-    let end = problem + 256 * terms::wide(text[at + 2]) + terms::wide(text[at + 3]);
-    if end <= text.len() {
-        line(text[at], &text[name..problem], &text[problem..end]);
-    }
-    end
-}
-
-fn cases(text: &[u8]) {
+// A case that is cut is left out.
+fn lines(text: &[u8]) {
     let mut at = 0;
     while at < text.len() {
-        let end = case(text, at);
-        if end <= at {
-            return;
+        match stored_cases::case_at(text, at) {
+            Case::Cut => {
+                return;
+            }
+            Case::At {
+                asked,
+                name,
+                problem,
+                end,
+            } => {
+                line(asked, text, name, problem, end);
+                at = end;
+            }
         }
-        at = end;
     }
 }
 
@@ -47,5 +47,5 @@ const TEXT: usize = 32768;
 fn main() {
     let mut text = [0u8; TEXT];
     let n = io::read_full(0, &mut text);
-    cases(&text[..n]);
+    lines(&text[..n]);
 }

@@ -1,13 +1,8 @@
 // What the calls answer, as text.
 use libc::STDOUT_FILENO;
-
-pub fn print(text: &[u8]) {
-    io::write_all(STDOUT_FILENO, text);
-}
-
-fn number(n: usize) {
-    io::print_decimal(STDOUT_FILENO, n as u64);
-}
+use stored_cases::print;
+use stored_cases::print_number;
+use stored_cases::print_refused;
 
 fn bytes(s: &[u8]) {
     let mut i = 0;
@@ -17,13 +12,6 @@ fn bytes(s: &[u8]) {
     }
 }
 
-fn refused(n: u8, place: usize) {
-    print(b"refused ");
-    number(n as usize);
-    print(b" at ");
-    number(place);
-}
-
 fn compared(problem: &[u8]) {
     print(b": compare ");
     match calls::compare(problem) {
@@ -31,7 +19,7 @@ fn compared(problem: &[u8]) {
         calls::Compared::RightAbove => print(b"2"),
         calls::Compared::Identical => print(b"3"),
         calls::Compared::Neither => print(b"4"),
-        calls::Compared::Refused { number, place } => refused(number, place),
+        calls::Compared::Refused { number, place } => print_refused(number, place),
     }
 }
 
@@ -46,7 +34,7 @@ fn unified(problem: &[u8]) {
         }
         calls::Unified::Nothing => print(b"none"),
         calls::Unified::TooLarge => print(b"refused 22"),
-        calls::Unified::Refused { number, place } => refused(number, place),
+        calls::Unified::Refused { number, place } => print_refused(number, place),
     }
 }
 
@@ -54,13 +42,13 @@ pub fn short_buffer(problem: &[u8]) {
     let mut result = [0u8; limits::BUFFER - 1];
     print(b": unify ");
     if let calls::Unified::Refused { number, place } = calls::unify(problem, &mut result) {
-        refused(number, place);
+        print_refused(number, place);
     }
 }
 
 fn part(problem: &[u8], position: usize) {
     print(b", subterm ");
-    number(position);
+    print_number(position);
     print(b" ");
     bytes(calls::subterm(problem, position));
 }

@@ -1,41 +1,42 @@
 // Runs complete on the cases of standard input: the papers' theories, the worked instances, the edges, every end by each cause, every refusal.
-// A case is a byte that says which buffer is lent, the length of its name, the length of its problem in two bytes, the name and the problem;
-// rust/src/bin/complete_cases.rs writes them, and the independent engine writes the output that is due.
+// `stored_cases` says what a case is, and what is asked says which buffer is lent; rust/src/bin/complete_cases.rs writes them, and the independent
+// engine writes the output that is due.
+ghost use Prim.Native.Nat.{_≤_};
+ghost use lib.ListN.{length};
+use stored_cases::Case;
+
 mod print;
 
-fn answer(asked: u8, name: &[u8], problem: &[u8]) {
-    print::print(name);
+// The lines of a case, whose name and problem stand from these places on.
+fn answer(asked: u8, text: &[u8], name: usize, problem: usize, end: usize)
+    requires { ⌜ (name ≤ problem) × (problem ≤ end) × (end ≤ length (now text)) ⌝ }
+{
+    stored_cases::print(&text[name..problem]);
+    let given = &text[problem..end];
     match asked {
-        0 => print::completed(problem),
-        _ => print::short_buffer(problem),
+        0 => print::completed(given),
+        _ => print::short_buffer(given),
     }
 }
 
-// The end of the case that starts at this place, after printing its lines; a case that is cut is left out.
-fn case(text: &[u8], at: usize) -> usize {
-    if at >= text.len() {
-        return at;
-    }
-    if text.len() - at < 4 {
-        return text.len();
-    }
-    let name = at + 4;
-    let problem = name + print::wide(text[at + 1]);
-    let end = problem + 256 * print::wide(text[at + 2]) + print::wide(text[at + 3]);
-    if end <= text.len() {
-        answer(text[at], &text[name..problem], &text[problem..end]);
-    }
-    end
-}
-
-fn cases(text: &[u8]) {
+// A case that is cut is left out.
+fn answers(text: &[u8]) {
     let mut at = 0;
     while at < text.len() {
-        let end = case(text, at);
-        if end <= at {
-            return;
+        match stored_cases::case_at(text, at) {
+            Case::Cut => {
+                return;
+            }
+            Case::At {
+                asked,
+                name,
+                problem,
+                end,
+            } => {
+                answer(asked, text, name, problem, end);
+                at = end;
+            }
         }
-        at = end;
     }
 }
 
@@ -45,5 +46,5 @@ const TEXT: usize = 65536;
 fn main() {
     let mut text = [0u8; TEXT];
     let n = io::read_full(0, &mut text);
-    cases(&text[..n]);
+    answers(&text[..n]);
 }

@@ -69,9 +69,6 @@ module _ (X : Rules) where
   renamed-there : (d e : Pair) → Variants d e → Conv (Step X) (d .left) (d .right) → Conv (Step X) (e .left) (e .right)
   renamed-there d e v c = subst₂ (Conv (Step X)) (sym (v .left-there)) (sym (v .right-there)) (conv-subst (v .there) c)
 
-  renamed-back : (d e : Pair) → Variants d e → Conv (Step X) (e .left) (e .right) → Conv (Step X) (d .left) (d .right)
-  renamed-back d e v c = subst₂ (Conv (Step X)) (sym (v .left-back)) (sym (v .right-back)) (conv-subst (v .back) c)
-
 module _ (E R : List Pair) where
   -- what is there is converted
   held : (l r : Term) → Both (E ⨾ R) l r → Conv (Step (Both (E ⨾ R))) l r
@@ -111,18 +108,26 @@ same-forwards (rename-rule {E} {R} {d} {e} v) =
 same-forwards unchanged = sound-itself _
 same-forwards (also p q) = λ l r i. conv-conv (same-forwards p) (same-forwards q l r i)
 
+variants-back : {d e : Pair} → Variants d e → Variants e d
+variants-back v = record {
+  there = v .back;
+  left-there = v .left-back;
+  right-there = v .right-back;
+  back = v .there;
+  left-back = v .left-there;
+  right-back = v .right-there;
+}
+
+same-back : {S T : System} → Same S T → Same T S
+same-back (reorder p q) = reorder (reordered-back p) (reordered-back q)
+same-back turn-round = turn-round
+same-back (rename-equation v) = rename-equation (variants-back v)
+same-back (rename-rule v) = rename-rule (variants-back v)
+same-back unchanged = unchanged
+same-back (also p q) = also (same-back q) (same-back p)
+
 pub same-backwards : {S T : System} → Same S T → Sound (Both T) (Both S)
-same-backwards (reorder {E} {E′} {R} {R′} p q) =
-    both-sound _ E R (λ l r i. equations-held E′ R′ l r (reordered-in p i)) (λ l r i. rules-held E′ R′ l r (reordered-in q i))
-same-backwards (turn-round {E} {R} {s} {t}) =
-    both-sound _ (pair s t ∷ E) R (cons-sound _ (pair s t) E (turn (equation-there (pair t s) E R)) (other-equations (pair t s) E R))
-    (rules-held (pair t s ∷ E) R)
-same-backwards (rename-equation {E} {R} {d} {e} v) =
-    both-sound _ (d ∷ E) R (cons-sound _ d E (renamed-back _ d e v (equation-there e E R)) (other-equations e E R)) (rules-held (e ∷ E) R)
-same-backwards (rename-rule {E} {R} {d} {e} v) =
-    both-sound _ E (d ∷ R) (equations-held E (e ∷ R)) (cons-sound _ d R (renamed-back _ d e v (rule-there e E R)) (other-rules e E R))
-same-backwards unchanged = sound-itself _
-same-backwards (also p q) = λ l r i. conv-conv (same-backwards q) (same-backwards p l r i)
+same-backwards p = same-forwards (same-back p)
 
 module _ (rank : ℕ → ℕ) where
   -- Each rule's left side is above its right.

@@ -5,12 +5,12 @@ use mathlib.Core.List.{List}
 use Prim.Native.Nat.{ℕ, zero, suc, _+_, _*_, _<_, _≤_}
 use native.Mathlib.Omega.{arith}
 use native.Mathlib.Decide.{ℕ-discrete}
-use lib.ListN.{length, getD, drop, replicate, length-take, length-drop, length-replicate}
+use lib.ListN.{length, getD, drop, replicate, length-drop, length-replicate}
 use lib.Seq.{length-take-le}
-use Rattle.limits.specs.Limits.{most-nodes, origin-width}
+use Rattle.limits.specs.Limits.{origin-width}
 use Rattle.terms.specs.Term.{Term, Pair, term-bytes}
 use Rattle.terms.specs.Flat.{Wf}
-use Rattle.slots.specs.Slots.{slot-width, left-at, right-at, slot, left-of, right-of, left-length, right-length, Short, Layout, Sides, PairAt}
+use Rattle.slots.specs.Slots.{slot-width, left-at, slot, left-of, right-of, left-length, right-length, Short, Layout, Sides, PairAt}
 use Rattle.slots.specs.Slots.{OnlySlot, PutSides, PutMark, PutRight, KeptSlot}
 use Rattle.slots.proofs.Parts.{slot-length, slot-byte}
 
@@ -56,14 +56,6 @@ zeros-layout n count h = record {
 
 pub layout-zeros : Layout (replicate slot-width 0) 1
 layout-zeros = zeros-layout slot-width 1 (omega arith)
-
-pub left-short : {s : List ℕ} → Short s → length (left-of s) ≤ most-nodes
-unfolding left-of
-left-short {s} h = let m = h .left in omega (arith, length-take (left-length s) (drop left-at s))
-
-pub right-short : {s : List ℕ} → Short s → length (right-of s) ≤ most-nodes
-unfolding right-of
-right-short {s} h = let m = h .right in omega (arith, length-take (right-length s) (drop right-at s))
 
 -- the left side of a slot is as long as the slot says
 pub left-long : (slots : List ℕ) (k : ℕ) → Layout slots (k + 1) → length (left-of (slot slots k)) ≡ left-length (slot slots k)

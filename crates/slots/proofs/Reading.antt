@@ -4,7 +4,7 @@ use mathlib.Core.Path.{_≡_, refl, sym, ap, ap₂, _∙_}
 use mathlib.Core.List.{List, [], _∷_, _++_}
 use Prim.Native.Nat.{ℕ, _+_, _*_, _-_, _%_, _<_, _≤_}
 use native.Mathlib.Omega.{arith}
-use lib.ListN.{length, getD, drop, take}
+use lib.ListN.{length, getD, drop, take, length-take}
 use lib.Seq.{take-all}
 use Rattle.limits.specs.Limits.{most-nodes, origin-width}
 use Rattle.terms.specs.Base.{number-bytes}
@@ -22,29 +22,40 @@ module _ (slots : List ℕ) (k : ℕ) where
   unfolding right-length
   right-length-at = slot-byte slots k (origin-width + 1) (omega arith)
 
-  -- a side of n bytes
+  -- the n bytes from a place of the slot on, as they are lent
+  abbrev part : ℕ → ℕ → List ℕ
+  part place n = take (slot-width * k + place + n - (slot-width * k + place)) (drop (slot-width * k + place) slots)
+
+  -- a side of n bytes: a law over its place and that of its length
+  module _ (place length-at : ℕ) (n : ℕ) (room : place + most-nodes ≤ slot-width) (inside : length-at < slot-width)
+      (short : getD (slot slots k) length-at 0 ≤ most-nodes) (e : n ≡ getD slots (slot-width * k + length-at) 0) where
+    is-length : n ≡ getD (slot slots k) length-at 0
+    is-length = e ∙ sym (slot-byte slots k length-at inside)
+
+    side-read : (part place n ≡ take (getD (slot slots k) length-at 0) (drop place (slot slots k))) × (length (part place n) ≤ most-nodes)
+    side-read = (
+      part-is slots (slot-width * k + place) n
+          ∙ sym (slot-part slots k place n (omega (arith, is-length)))
+          ∙ ap (λ z. take z (drop place (slot slots k))) is-length,
+      omega (arith, is-length, length-take (slot-width * k + place + n - (slot-width * k + place)) (drop (slot-width * k + place) slots)),
+    )
+
   module _ (n : ℕ) (y : Layout slots (k + 1)) where
     pub left-few : n ≡ getD slots (slot-width * k + origin-width) 0 → n ≤ most-nodes
     left-few e = let s = y .short k (omega arith) in let m = s .left in omega (arith, left-length-at)
 
-    pub left-at-place : n ≡ getD slots (slot-width * k + origin-width) 0 →
-        take (slot-width * k + left-at + n - (slot-width * k + left-at)) (drop (slot-width * k + left-at) slots) ≡ left-of (slot slots k)
-    unfolding left-of
-    left-at-place e =
-        part-is slots (slot-width * k + left-at) n
-        ∙ sym (slot-part slots k left-at n (omega (arith, left-few e)))
-        ∙ ap (λ z. take z (drop left-at (slot slots k))) (e ∙ sym left-length-at)
+    pub left-read : n ≡ getD slots (slot-width * k + origin-width) 0 →
+        (part left-at n ≡ left-of (slot slots k)) × (length (part left-at n) ≤ most-nodes)
+    unfolding left-of left-length
+    left-read e = side-read left-at origin-width n (omega arith) (omega arith) (y .short k (omega arith) .left) e
 
     pub right-few : n ≡ getD slots (slot-width * k + (origin-width + 1)) 0 → n ≤ most-nodes
     right-few e = let s = y .short k (omega arith) in let m = s .right in omega (arith, right-length-at)
 
-    pub right-at-place : n ≡ getD slots (slot-width * k + (origin-width + 1)) 0 →
-        take (slot-width * k + right-at + n - (slot-width * k + right-at)) (drop (slot-width * k + right-at) slots) ≡ right-of (slot slots k)
-    unfolding right-of
-    right-at-place e =
-        part-is slots (slot-width * k + right-at) n
-        ∙ sym (slot-part slots k right-at n (omega (arith, right-few e)))
-        ∙ ap (λ z. take z (drop right-at (slot slots k))) (e ∙ sym right-length-at)
+    pub right-read : n ≡ getD slots (slot-width * k + (origin-width + 1)) 0 →
+        (part right-at n ≡ right-of (slot slots k)) × (length (part right-at n) ≤ most-nodes)
+    unfolding right-of right-length
+    right-read e = side-read right-at (origin-width + 1) n (omega arith) (omega arith) (y .short k (omega arith) .right) e
 
 -- `copy`: the slot fills the array
 abbrev lent : List ℕ → ℕ → List ℕ

@@ -1,10 +1,7 @@
 -- `left`: the part of the list is that of the slot, which is short. Assumes nothing.
 -- Read first: `left` in src/lib.rt, proofs/Reading.
 use native.Mathlib.Omega.{arith}
-use mathlib.Core.Path.{ap}
-use lib.ListN.{length}
-use Rattle.slots.proofs.Reading.{left-few, left-at-place}
-use Rattle.slots.proofs.Layouts.{left-short}
+use Rattle.slots.proofs.Reading.{left-few, left-read}
 use borrow.Author.Needs.{needs}
 use Rattle.slots.proofs.left.Statement.{statement}
 use Rattle.slots.proofs.left.Tie as tie
@@ -21,9 +18,7 @@ returns : tie.Need-returns
 returns c =
     let at-wide : tie.After-wide = search depth 0 in
     let entry : tie.Start = search depth 0 in
-    let y = entry .pre in
-    let e = left-at-place (entry .args .slots .now) (entry .args .k) _ y (at-wide .wide .ensures .0) in
-    (e, omega (arith, ap length e, left-short (y .short (entry .args .k) (omega arith))))
+    left-read _ _ _ (entry .pre) (at-wide .wide .ensures .0)
 
 pub left-spec : {M : Type 1} → statement M
 left-spec =

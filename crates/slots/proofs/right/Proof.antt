@@ -1,10 +1,7 @@
 -- `right`: the part of the list is that of the slot, which is short. Assumes nothing.
 -- Read first: `right` in src/lib.rt, proofs/Reading.
 use native.Mathlib.Omega.{arith}
-use mathlib.Core.Path.{ap}
-use lib.ListN.{length}
-use Rattle.slots.proofs.Reading.{right-few, right-at-place}
-use Rattle.slots.proofs.Layouts.{right-short}
+use Rattle.slots.proofs.Reading.{right-few, right-read}
 use borrow.Author.Needs.{needs}
 use Rattle.slots.proofs.right.Statement.{statement}
 use Rattle.slots.proofs.right.Tie as tie
@@ -21,9 +18,7 @@ returns : tie.Need-returns
 returns c =
     let at-wide : tie.After-wide = search depth 0 in
     let entry : tie.Start = search depth 0 in
-    let y = entry .pre in
-    let e = right-at-place (entry .args .slots .now) (entry .args .k) _ y (at-wide .wide .ensures .0) in
-    (e, omega (arith, ap length e, right-short (y .short (entry .args .k) (omega arith))))
+    right-read _ _ _ (entry .pre) (at-wide .wide .ensures .0)
 
 pub right-spec : {M : Type 1} → statement M
 right-spec =
