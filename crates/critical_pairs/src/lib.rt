@@ -21,7 +21,8 @@ fn put_pair(
     requires { ⌜ Ready (now nodes) (now table) (now ends) (now class) × VariablesLow (now nodes) ⌝ }
     requires { ⌜ BothSmall (arena (now nodes) (now table) (now ends)) (at (now class)) a b ⌝ }
     requires { ⌜ Layout (now pair) 1 ⌝ }
-    ensures { λ r. ⌜ PutPair (arena (now (nodes .entry)) (now (table .entry)) (now (ends .entry))) (at (now (class .entry))) a b (now (pair .entry)) (now (pair .exit)) ⌝ }
+    ensures { λ r. ⌜ PutPair (arena (now (nodes .entry)) (now (table .entry)) (now (ends .entry))) (at (now (class .entry))) a b (now (pair .entry))
+        (now (pair .exit)) ⌝ }
 {
     let mut out = [0u8; limits::PAIR];
     let e = mgu::write(nodes, table, ends, class, a, 1, &mut out, 0);
@@ -42,10 +43,12 @@ pub fn place(
     b: usize,
     pair: &mut [u8],
 ) -> bool
-    requires { ⌜ Sized (now nodes) (now table) (now ends) (now class) (now sizes) × SizesKnown (arena (now nodes) (now table) (now ends)) (at (now sizes)) true × VariablesLow (now nodes) ⌝ }
+    requires { ⌜ Sized (now nodes) (now table) (now ends) (now class) (now sizes)
+        × SizesKnown (arena (now nodes) (now table) (now ends)) (at (now sizes)) true × VariablesLow (now nodes) ⌝ }
     requires { ⌜ (0 < length (now nodes)) × (a < length (now nodes)) × (b < length (now nodes)) ⌝ }
     requires { ⌜ Layout (now pair) 1 ⌝ }
-    ensures { λ r. ⌜ PairPlaced (arena (now (nodes .entry)) (now (table .entry)) (now (ends .entry))) (at (now (class .entry))) a b (now (pair .entry)) (now (pair .exit)) r ⌝ }
+    ensures { λ r. ⌜ PairPlaced (arena (now (nodes .entry)) (now (table .entry)) (now (ends .entry))) (at (now (class .entry))) a b
+        (now (pair .entry)) (now (pair .exit)) r ⌝ }
 {
     if terms::wide(sizes[0]) > NODES {
         return false;

@@ -42,7 +42,8 @@ pub fn put_head(out: &mut [u8], at: usize, tag: u8, len: usize) -> usize
 // A field with these contents.
 pub fn put_field(out: &mut [u8], at: usize, tag: u8, contents: &[u8]) -> usize
     requires { ⌜ (at + field-head + length (now contents) ≤ length (now out)) × (length (now contents) < two-byte-values) ⌝ }
-    ensures { λ r. ⌜ Puts (now (out .entry)) at (field-head + length (now (contents .entry))) (field-bytes (tagged tag (now (contents .entry)))) (now (out .exit)) r ⌝ }
+    ensures { λ r. ⌜ Puts (now (out .entry)) at (field-head + length (now (contents .entry))) (field-bytes (tagged tag (now (contents .entry))))
+        (now (out .exit)) r ⌝ }
 {
     let a = put_head(out, at, tag, contents.len());
     paste(out, a, contents);

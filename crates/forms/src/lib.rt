@@ -46,7 +46,8 @@ fn join_right(
 ) -> Walk
     requires { ⌜ Layout (now rules) count × Layout (now pair) 1 ⌝ }
     requires { ⌜ (length (now first) ≤ most-nodes) × (length (now t) ≤ most-nodes) ⌝ }
-    ensures { λ r. ⌜ RightWalk (now (table .entry)) (now (rules .entry)) count (now (first .entry)) (now (t .entry)) (now (pair .entry)) (now (pair .exit)) units r ⌝ }
+    ensures { λ r. ⌜ RightWalk (now (table .entry)) (now (rules .entry)) count (now (first .entry)) (now (t .entry)) (now (pair .entry))
+        (now (pair .exit)) units r ⌝ }
 {
     let mut right = [0u8; NODES];
     let r = normaliser::normalise(t, table, rules, count, units, &mut right);

@@ -19,7 +19,8 @@ fn write_instance(
     requires { ⌜ Ready (now nodes) (now table) (now ends) (now class) ⌝ }
     requires { ⌜ Spelt (now nodes) (now table) (now ends) (now class) ⌝ }
     requires { ⌜ field-head + most-nodes ≤ length (now result) ⌝ }
-    ensures { λ r. ⌜ WritesSpelt (now (nodes .entry)) (now (table .entry)) (now (ends .entry)) (now (class .entry)) r (now (result .entry)) (now (result .exit)) ⌝ }
+    ensures { λ r. ⌜ WritesSpelt (now (nodes .entry)) (now (table .entry)) (now (ends .entry)) (now (class .entry)) r (now (result .entry))
+        (now (result .exit)) ⌝ }
 {
     let mut out = [0u8; limits::NODES];
     let n = mgu::write(nodes, table, ends, class, 0, 1, &mut out, 0);

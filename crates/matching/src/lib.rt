@@ -216,7 +216,8 @@ fn contract(
 ) -> usize
     requires { ⌜ (most ≤ length (now out)) × (most ≤ two-byte-values) × (end ≤ length (now t)) ⌝ }
     requires { ⌜ (length (now t) ≤ most-nodes) × (most-variables ≤ length (now binds)) × Within (now t) (now binds) ⌝ }
-    ensures { λ r. ⌜ Put (now (out .entry)) (now (out .exit)) 0 most r (pieces (now (t .entry)) (now (binds .entry)) (now (right .entry)) ++ drop end (now (t .entry))) ⌝ }
+    ensures { λ r. ⌜ Put (now (out .entry)) (now (out .exit)) 0 most r
+        (pieces (now (t .entry)) (now (binds .entry)) (now (right .entry)) ++ drop end (now (t .entry))) ⌝ }
 {
     let mut i = 0;
     let mut w = 0;

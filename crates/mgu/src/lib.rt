@@ -18,7 +18,8 @@ pub fn unify(
     class: &mut [u16],
     sizes: &mut [u8],
 ) -> bool
-    requires { ⌜ (length (now nodes) ≤ arena-width) × (length (now nodes) ≤ length (now ends)) × (length (now nodes) ≤ length (now class)) × (length (now nodes) ≤ length (now sizes)) ⌝ }
+    requires { ⌜ (length (now nodes) ≤ arena-width) × (length (now nodes) ≤ length (now ends)) × (length (now nodes) ≤ length (now class))
+        × (length (now nodes) ≤ length (now sizes)) ⌝ }
     requires { ⌜ LaidOut (now nodes) (now table) × (a < length (now nodes)) × (b < length (now nodes)) ⌝ }
     ensures { λ r. ⌜ Decided (now (nodes .entry)) (now (table .entry)) a b r ⌝ }
     ensures { λ r. ⌜ SolvedIf (now (nodes .entry)) (now (table .entry)) a b (now (ends .exit)) (now (class .exit)) (now (sizes .exit)) r ⌝ }
@@ -81,7 +82,8 @@ pub fn write(
 ) -> usize
     requires { ⌜ Ready (now nodes) (now table) (now ends) (now class) ⌝ }
     requires { ⌜ RoomFor (arena (now nodes) (now table) (now ends)) (at (now class)) p k to (now out) ⌝ }
-    ensures { λ r. ⌜ WritesTerms (arena (now (nodes .entry)) (now (table .entry)) (now (ends .entry))) (at (now (class .entry))) p k to (now (out .entry)) r (now (out .exit)) ⌝ }
+    ensures { λ r. ⌜ WritesTerms (arena (now (nodes .entry)) (now (table .entry)) (now (ends .entry))) (at (now (class .entry))) p k to
+        (now (out .entry)) r (now (out .exit)) ⌝ }
 {
     if k == 0 {
         return to;

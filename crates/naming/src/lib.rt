@@ -27,7 +27,8 @@ fn place_of(names: &[u8], n: usize, b: u8) -> usize
 // Adds b to the first n names, if it is a variable that is not there, and answers how many there are.
 fn add_name(names: &mut [u8], n: usize, b: u8) -> usize
     requires { ⌜ n < length (now names) ⌝ }
-    ensures { λ r. ⌜ (length (now (names .exit)) ≡ length (now (names .entry))) × (take r (now (names .exit)) ≡ added b (take n (now (names .entry)))) × (r ≤ n + 1) ⌝ }
+    ensures { λ r. ⌜ (length (now (names .exit)) ≡ length (now (names .entry)))
+        × (take r (now (names .exit)) ≡ added b (take n (now (names .entry)))) × (r ≤ n + 1) ⌝ }
 {
     if b < VARIABLE {
         return n;
@@ -43,7 +44,8 @@ fn add_name(names: &mut [u8], n: usize, b: u8) -> usize
 // The variables in order of first occurrence.
 fn names_of(bytes: &[u8], names: &mut [u8]) -> usize
     requires { ⌜ length (now bytes) ≤ length (now names) ⌝ }
-    ensures { λ r. ⌜ (length (now (names .exit)) ≡ length (now (names .entry))) × (take r (now (names .exit)) ≡ collect [] (now (bytes .entry))) × (r ≤ length (now (names .exit))) ⌝ }
+    ensures { λ r. ⌜ (length (now (names .exit)) ≡ length (now (names .entry)))
+        × (take r (now (names .exit)) ≡ collect [] (now (bytes .entry))) × (r ≤ length (now (names .exit))) ⌝ }
 {
     let mut n = 0;
     let mut i = 0;

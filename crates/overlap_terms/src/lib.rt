@@ -50,7 +50,8 @@ pub fn lay_four(
 ) -> usize
     requires { ⌜ (length (now l1) ≤ most-nodes) × (length (now r1) ≤ most-nodes) × (length (now l2) ≤ most-nodes) × (length (now r2) ≤ most-nodes) ⌝ }
     requires { ⌜ (position < length (now l2)) × (arena-width ≤ length (now nodes)) ⌝ }
-    ensures { λ r. ⌜ LaysFour (now (table .entry)) (now (l1 .entry)) (now (r1 .entry)) (now (l2 .entry)) (now (r2 .entry)) position (now (nodes .entry)) (now (nodes .exit)) r ⌝ }
+    ensures { λ r. ⌜ LaysFour (now (table .entry)) (now (l1 .entry)) (now (r1 .entry)) (now (l2 .entry)) (now (r2 .entry)) position
+        (now (nodes .entry)) (now (nodes .exit)) r ⌝ }
 {
     let e = terms::term_end(l2, table, position);
     let a = lay(nodes, 0, l2, 0);

@@ -80,7 +80,8 @@ fn meet(
 ) -> Met
     requires { ⌜ (length (now l1) ≤ most-nodes) × (length (now r1) ≤ most-nodes) × (length (now l2) ≤ most-nodes) × (length (now r2) ≤ most-nodes) ⌝ }
     requires { ⌜ (position < length (now l2)) × (0 < length (now r2)) × Layout (now pair) 1 ⌝ }
-    ensures { λ r. ⌜ Meets (now (table .entry)) (now (l1 .entry)) (now (r1 .entry)) (now (l2 .entry)) (now (r2 .entry)) position (now (pair .entry)) (now (pair .exit)) r ⌝ }
+    ensures { λ r. ⌜ Meets (now (table .entry)) (now (l1 .entry)) (now (r1 .entry)) (now (l2 .entry)) (now (r2 .entry)) position (now (pair .entry))
+        (now (pair .exit)) r ⌝ }
 {
     let mut nodes = [0u8; limits::ARENA];
     let end = overlap_terms::lay_four(l1, r1, l2, r2, table, position, &mut nodes);

@@ -76,7 +76,8 @@ fn put_log(out: &mut [u8], at: usize, log: &[u8], count: usize) -> usize
 fn put_forms(out: &mut [u8], at: usize, left: &[u8], right: &[u8]) -> usize
     requires { ⌜ (at + forms-width ≤ length (now out)) × (length (now left) ≤ most-nodes) × (length (now right) ≤ most-nodes) ⌝ }
     requires { ⌜ length (collect [] (now left ++ now right)) ≤ 127 ⌝ }
-    ensures { λ r. ⌜ Puts (now (out .entry)) at (field-head + (length (now (left .entry)) + length (now (right .entry)))) (field-bytes (tagged 0x14 (renamed-bytes (now (left .entry) ++ now (right .entry))))) (now (out .exit)) r ⌝ }
+    ensures { λ r. ⌜ Puts (now (out .entry)) at (field-head + (length (now (left .entry)) + length (now (right .entry))))
+        (field-bytes (tagged 0x14 (renamed-bytes (now (left .entry) ++ now (right .entry))))) (now (out .exit)) r ⌝ }
 {
     let mut pair = [0u8; limits::PAIR];
     let n = left.len();

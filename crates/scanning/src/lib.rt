@@ -19,7 +19,8 @@ use spots::Spot;
 fn scan_at(rules: &[u8], count: usize, table: &[u8], at: Spot, units: u32, pair: &mut [u8]) -> Walk
     requires { ⌜ Layout (now rules) count × Layout (now pair) 1 ⌝ }
     requires { ⌜ (at .inner < count) × (at .outer < count) × (at .position < left-length (slot (now rules) (at .outer))) ⌝ }
-    ensures { λ r. ⌜ Walks (OverlapsAt (now (table .entry)) (now (rules .entry)) count at) (at-place at) (now (table .entry)) (now (pair .entry)) (now (pair .exit)) units r ⌝ }
+    ensures { λ r. ⌜ Walks (OverlapsAt (now (table .entry)) (now (rules .entry)) count at) (at-place at) (now (table .entry)) (now (pair .entry))
+        (now (pair .exit)) units r ⌝ }
 {
     let inner = at.inner;
     let outer = at.outer;
@@ -39,7 +40,8 @@ fn scan_at(rules: &[u8], count: usize, table: &[u8], at: Spot, units: u32, pair:
 // All overlaps, place by place.
 fn scan_rules(rules: &[u8], count: usize, table: &[u8], units: u32, pair: &mut [u8]) -> Walk
     requires { ⌜ Layout (now rules) count × (count ≤ most-pairs) × Layout (now pair) 1 ⌝ }
-    ensures { λ r. ⌜ Walks (RulesIn (now (table .entry)) (now (rules .entry)) count) (of-rules 0) (now (table .entry)) (now (pair .entry)) (now (pair .exit)) units r ⌝ }
+    ensures { λ r. ⌜ Walks (RulesIn (now (table .entry)) (now (rules .entry)) count) (of-rules 0) (now (table .entry)) (now (pair .entry))
+        (now (pair .exit)) units r ⌝ }
 {
     let mut at = spots::spot_at(0, 0, spots::BELOW_ROOT);
     let mut u = units;
@@ -68,7 +70,8 @@ fn scan_inputs(
     pair: &mut [u8],
 ) -> Walk
     requires { ⌜ Layout (now rules) count × Layout (now inputs) number × (number ≤ most-equations) × Layout (now pair) 1 ⌝ }
-    ensures { λ r. ⌜ Walks (InSlots (now (table .entry)) (now (rules .entry)) count (now (inputs .entry)) number) (of-inputs 0) (now (table .entry)) (now (pair .entry)) (now (pair .exit)) units r ⌝ }
+    ensures { λ r. ⌜ Walks (InSlots (now (table .entry)) (now (rules .entry)) count (now (inputs .entry)) number) (of-inputs 0) (now (table .entry))
+        (now (pair .entry)) (now (pair .exit)) units r ⌝ }
 {
     let mut u = units;
     for k in 0..number {
@@ -95,7 +98,8 @@ fn scan_all(
     pair: &mut [u8],
 ) -> Walk
     requires { ⌜ Layout (now rules) count × (count ≤ most-pairs) × Layout (now inputs) number × (number ≤ most-equations) × Layout (now pair) 1 ⌝ }
-    ensures { λ r. ⌜ Walks (InSlots (now (table .entry)) (now (rules .entry)) count (now (inputs .entry)) number) of-all (now (table .entry)) (now (pair .entry)) (now (pair .exit)) units r ⌝ }
+    ensures { λ r. ⌜ Walks (InSlots (now (table .entry)) (now (rules .entry)) count (now (inputs .entry)) number) of-all (now (table .entry))
+        (now (pair .entry)) (now (pair .exit)) units r ⌝ }
 {
     let w = scan_rules(rules, count, table, units, pair);
     let found = w.found;

@@ -83,7 +83,8 @@ fn put_decimal(out: &mut [u8], at: usize, n: usize) -> usize
 // A field's line: tag, length, contents.
 fn put_line(out: &mut [u8], at: usize, tag: u8, contents: &[u8]) -> usize
     requires { ⌜ (at + (10 + 2 * length (now contents)) ≤ length (now out)) × (length (now contents) < two-byte-values) ⌝ }
-    ensures { λ r. ⌜ PutsSome (10 + 2 * length (now (contents .entry))) (now (out .entry)) at 1 (line (tagged tag (now (contents .entry)))) (now (out .exit)) r ⌝ }
+    ensures { λ r. ⌜ PutsSome (10 + 2 * length (now (contents .entry))) (now (out .entry)) at 1 (line (tagged tag (now (contents .entry))))
+        (now (out .exit)) r ⌝ }
 {
     let a = put_hex(out, at, tag);
     let b = put_byte(out, a, b' ');

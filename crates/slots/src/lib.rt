@@ -6,7 +6,8 @@ ghost use mathlib.Core.Path.{_≡_};
 ghost use Prim.Native.Nat.{_+_, _*_, _<_, _≤_};
 ghost use lib.ListN.{length, getD};
 ghost use Rattle.limits.specs.Limits.{most-nodes, origin-width};
-ghost use Rattle.slots.specs.Slots.{left-at, slot-width, slot, mark-of, number-of, left-length, left-of, right-of, Layout, PutSides, PutMark, PutRight, Removed, RoomMade, Inserted, MovedLast};
+ghost use Rattle.slots.specs.Slots.{left-at, slot-width, slot, mark-of, number-of, left-length, left-of, right-of, Layout, PutSides, PutMark};
+ghost use Rattle.slots.specs.Slots.{PutRight, Removed, RoomMade, Inserted, MovedLast};
 use limits::NODES;
 
 const LEFT_LENGTH: usize = limits::ORIGIN;
