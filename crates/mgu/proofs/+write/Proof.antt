@@ -65,36 +65,24 @@ write-mul-wide t c =
     let entry : Write-Start t = search depth 0 in
     omega (
       arith,
-      room-node (entry .args .nodes .now) (entry .args .table .now) (entry .args .ends .now) (entry .args .class .now)
-          (entry .args .p) (entry .args .k) (entry .args .to) (entry .args .out .now) (entry .pre .1 .0) (entry .pre .1 .1)
-          (c .if1 .left),
+      room-node _ _ _ _ _ _ _ (entry .args .out .now) (entry .pre .1 .0) (entry .pre .1 .1) (c .if1 .left),
       entry .pre .1 .0 .small,
     )
 
 write-shared-slice-read-wide : (t : ℕ) → write-lts.Need-shared-slice-read-wide (cs t) (write-at t) write.Post
 write-shared-slice-read-wide t c =
     let entry : Write-Start t = search depth 0 in
-    room-class (entry .args .nodes .now) (entry .args .table .now) (entry .args .ends .now) (entry .args .class .now)
-    (entry .args .p) (entry .args .k) (entry .args .to) (entry .args .out .now) (entry .pre .1 .0) (entry .pre .1 .1)
-    (c .before .if1 .left)
+    room-class _ _ _ _ _ _ _ (entry .args .out .now) (entry .pre .1 .0) (entry .pre .1 .1) (c .before .if1 .left)
 
 write-shared-slice-read-f : (t : ℕ) → write-lts.Need-shared-slice-read-f (cs t) (write-at t) write.Post
 write-shared-slice-read-f t c =
     let at-wide : Write-After-wide t = search depth 0 in
     let in-else1 : Write-Else1 t = search depth 0 in
     let entry : Write-Start t = search depth 0 in
-    let nodes = entry .args .nodes .now in
-    let table = entry .args .table .now in
-    let ends = entry .args .ends .now in
-    let class = entry .args .class .now in
-    let out = entry .args .out .now in
-    let p = entry .args .p in
-    let k = entry .args .k in
-    let to = entry .args .to in
     omega (
       arith,
-      room-node nodes table ends class p k to out (entry .pre .1 .0) (entry .pre .1 .1) (in-else1 .if1 .left),
-      room-root nodes table ends class p k to out (entry .pre .1 .0) (entry .pre .1 .1) (in-else1 .if1 .left)
+      room-node _ _ _ _ _ _ _ (entry .args .out .now) (entry .pre .1 .0) (entry .pre .1 .1) (in-else1 .if1 .left),
+      room-root _ _ _ _ _ _ _ (entry .args .out .now) (entry .pre .1 .0) (entry .pre .1 .1) (in-else1 .if1 .left)
           (at-wide .wide .result) (at-wide .wide .ensures .0),
     )
 
@@ -102,28 +90,19 @@ write-slice-write-out : (t : ℕ) → write-lts.Need-slice-write-out (cs t) (wri
 write-slice-write-out t c =
     let in-else1 : Write-Else1 t = search depth 0 in
     let entry : Write-Start t = search depth 0 in
-    room-byte (entry .args .nodes .now) (entry .args .table .now) (entry .args .ends .now) (entry .args .class .now)
-    (entry .args .p) (entry .args .k) (entry .args .to) (entry .args .out .now) (entry .pre .1 .0) (entry .pre .1 .1)
-    (in-else1 .if1 .left)
+    room-byte _ _ _ _ _ _ _ (entry .args .out .now) (entry .pre .1 .0) (entry .pre .1 .1) (in-else1 .if1 .left)
 
 write-write-requires : (t : ℕ) → write-lts.Need-write-requires (cs t) (write-at t) write.Post
 write-write-requires t c κs =
     let at-wide : Write-After-wide t = search depth 0 in
     let in-else1 : Write-Else1 t = search depth 0 in
     let entry = write-entry-of-else1 t in-else1 in
-    let nodes = entry .args .nodes .now in
-    let table = entry .args .table .now in
-    let ends = entry .args .ends .now in
-    let class = entry .args .class .now in
-    let out = entry .args .out .now in
-    let p = entry .args .p in
-    let k = entry .args .k in
-    let to = entry .args .to in
-    let lt = room-byte nodes table ends class p k to out (entry .pre .1 .0) (entry .pre .1 .1) (in-else1 .if1 .left) in (
+    let lt = room-byte _ _ _ _ (entry .args .p) (entry .args .k) (entry .args .to) (entry .args .out .now)
+    (entry .pre .1 .0) (entry .pre .1 .1) (in-else1 .if1 .left) in (
       simp length-set (omega (arith, entry .pre .0)),
       (
         entry .pre .1 .0,
-        room-first nodes table ends class p k to out (entry .pre .1 .0) (entry .pre .1 .1) (in-else1 .if1 .left) _ _
+        room-first _ _ _ _ _ _ _ (entry .args .out .now) (entry .pre .1 .0) (entry .pre .1 .1) (in-else1 .if1 .left) _ _
             (at-wide .wide .ensures .0) (c .before .owed-by .ensures .0),
       ),
     )
@@ -134,9 +113,7 @@ write-mul-wide-2 t c =
     let entry : Write-Start t = search depth 0 in
     omega (
       arith,
-      room-node (entry .args .nodes .now) (entry .args .table .now) (entry .args .ends .now) (entry .args .class .now)
-          (entry .args .p) (entry .args .k) (entry .args .to) (entry .args .out .now) (entry .pre .1 .0) (entry .pre .1 .1)
-          (in-else1 .if1 .left),
+      room-node _ _ _ _ _ _ _ (entry .args .out .now) (entry .pre .1 .0) (entry .pre .1 .1) (in-else1 .if1 .left),
       entry .pre .1 .0 .small,
     )
 
@@ -144,9 +121,7 @@ write-shared-slice-read-wide-2 : (t : ℕ) → write-lts.Need-shared-slice-read-
 write-shared-slice-read-wide-2 t c =
     let in-else1 : Write-Else1 t = search depth 0 in
     let entry : Write-Start t = search depth 0 in
-    room-ends (entry .args .nodes .now) (entry .args .table .now) (entry .args .ends .now) (entry .args .class .now)
-    (entry .args .p) (entry .args .k) (entry .args .to) (entry .args .out .now) (entry .pre .1 .0) (entry .pre .1 .1)
-    (in-else1 .if1 .left)
+    room-ends _ _ _ _ _ _ _ (entry .args .out .now) (entry .pre .1 .0) (entry .pre .1 .1) (in-else1 .if1 .left)
 
 write-write-requires-2 : (t : ℕ) → write-lts.Need-write-requires-2 (cs t) (write-at t) write.Post
 write-write-requires-2 t c κs =
@@ -155,25 +130,20 @@ write-write-requires-2 t c κs =
     let at-wide : Write-After-wide t = search depth 0 in
     let in-else1 : Write-Else1 t = search depth 0 in
     let entry = write-entry-of-else1 t in-else1 in
-    let nodes = entry .args .nodes .now in
-    let table = entry .args .table .now in
-    let ends = entry .args .ends .now in
-    let class = entry .args .class .now in
-    let out = entry .args .out .now in
-    let p = entry .args .p in
-    let k = entry .args .k in
-    let to = entry .args .to in
-    let lt = next-above nodes table ends class p k to out (entry .pre .1 .0) (entry .pre .1 .1) (in-else1 .if1 .left) _ _
+    let lt = next-above _ _ _ _ (entry .args .p) (entry .args .k) (entry .args .to) (entry .args .out .now)
+    (entry .pre .1 .0) (entry .pre .1 .1) (in-else1 .if1 .left) _ _
     (at-wide .wide .ensures .0) (at-owed-by .owed-by .ensures .0) (at-write .write .result)
     (at-write .write .last .1 .1 .1 .1 .1 .1 .0) (at-write .write .ensures) in
-    let e = next-long nodes table ends class p k to out (entry .pre .1 .0) (entry .pre .1 .1) (in-else1 .if1 .left) _ _
+    let e = next-long _ _ _ _ (entry .args .p) (entry .args .k) (entry .args .to) (entry .args .out .now)
+    (entry .pre .1 .0) (entry .pre .1 .1) (in-else1 .if1 .left) _ _
     (at-wide .wide .ensures .0) (at-owed-by .owed-by .ensures .0) (at-write .write .result)
     (at-write .write .last .1 .1 .1 .1 .1 .1 .0) (at-write .write .ensures) in
-    let b = room-byte nodes table ends class p k to out (entry .pre .1 .0) (entry .pre .1 .1) (in-else1 .if1 .left) in (
+    let b = room-byte _ _ _ _ (entry .args .p) (entry .args .k) (entry .args .to) (entry .args .out .now)
+    (entry .pre .1 .0) (entry .pre .1 .1) (in-else1 .if1 .left) in (
       omega (arith, entry .pre .0),
       (
         entry .pre .1 .0,
-        room-second nodes table ends class p k to out (entry .pre .1 .0) (entry .pre .1 .1) (in-else1 .if1 .left) _ _
+        room-second _ _ _ _ _ _ _ (entry .args .out .now) (entry .pre .1 .0) (entry .pre .1 .1) (in-else1 .if1 .left) _ _
             (at-wide .wide .ensures .0) (at-owed-by .owed-by .ensures .0) (at-write .write .result)
             (at-write .write .last .1 .1 .1 .1 .1 .1 .0) (at-write .write .ensures) _ (c .before .wide2 .ensures .0),
       ),
@@ -188,9 +158,8 @@ write-same-length t c =
     let at-wide : Write-After-wide t = search depth 0 in
     let in-else1 : Write-Else1 t = search depth 0 in
     let entry = write-entry-of-else1 t in-else1 in
-    writes-all (entry .args .nodes .now) (entry .args .table .now) (entry .args .ends .now) (entry .args .class .now)
-    (entry .args .p) (entry .args .k) (entry .args .to) (entry .args .out .now) (entry .pre .1 .0) (entry .pre .1 .1)
-    (in-else1 .if1 .left) _ _ (at-wide .wide .ensures .0) (at-owed-by .owed-by .ensures .0) (at-write .write .result)
+    writes-all _ _ _ _ _ _ _ (entry .args .out .now) (entry .pre .1 .0) (entry .pre .1 .1) (in-else1 .if1 .left) _ _ (at-wide .wide .ensures .0)
+    (at-owed-by .owed-by .ensures .0) (at-write .write .result)
     (at-write .write .last .1 .1 .1 .1 .1 .1 .0) (at-write .write .ensures) _ (at-wide2 .wide2 .ensures .0)
     (at-write2 .write2 .result) (at-write2 .write2 .last .1 .1 .1 .1 .1 .1 .0) (at-write2 .write2 .ensures) .long
 
@@ -203,9 +172,8 @@ write-returns-2 t c =
     let at-wide : Write-After-wide t = search depth 0 in
     let in-else1 : Write-Else1 t = search depth 0 in
     let entry = write-entry-of-else1 t in-else1 in
-    writes-all (entry .args .nodes .now) (entry .args .table .now) (entry .args .ends .now) (entry .args .class .now)
-    (entry .args .p) (entry .args .k) (entry .args .to) (entry .args .out .now) (entry .pre .1 .0) (entry .pre .1 .1)
-    (in-else1 .if1 .left) _ _ (at-wide .wide .ensures .0) (at-owed-by .owed-by .ensures .0) (at-write .write .result)
+    writes-all _ _ _ _ _ _ _ (entry .args .out .now) (entry .pre .1 .0) (entry .pre .1 .1) (in-else1 .if1 .left) _ _ (at-wide .wide .ensures .0)
+    (at-owed-by .owed-by .ensures .0) (at-write .write .result)
     (at-write .write .last .1 .1 .1 .1 .1 .1 .0) (at-write .write .ensures) _ (at-wide2 .wide2 .ensures .0)
     (at-write2 .write2 .result) (at-write2 .write2 .last .1 .1 .1 .1 .1 .1 .0) (at-write2 .write2 .ensures)
 
