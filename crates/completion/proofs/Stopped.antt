@@ -4,7 +4,7 @@ use mathlib.Core.Path.{_≡_, refl}
 use Prim.Native.Nat.{ℕ, zero, suc, _+_, _≤_, _<_}
 use native.Mathlib.Omega.{arith}
 use Rattle.terms.specs.Term.{Pair}
-use Rattle.rewriting.specs.Rewrite.{complete, neither-above, spent, too-large, rules-full, log-full, Paid, done, stop, and-then, _>>=_, pay}
+use Rattle.rewriting.specs.Rewrite.{End, end-number, complete, neither-above, spent, too-large, rules-full, log-full, Paid, done, stop, and-then, _>>=_, pay}
 use Rattle.problem.specs.Problem.{Problem}
 use Rattle.completion.specs.Turn.{State, Finished, initial, turn, turns, run}
 use Rattle.completion.proofs.Units.{left-of, rest-of-turn}
@@ -73,6 +73,22 @@ run-rules-full P e = let h = run-because P in rw e at h
 pub run-log-full : (P : Problem) → run P .end ≡ log-full → LogFull P (run P .state)
 unfolding Because
 run-log-full P e = let h = run-because P in rw e at h
+
+-- "23 is now given for the 33rd live rule only. 24 when a 513th log entry is due": what the number of an end says of the state that is left.
+full-number : (e : End) → (end-number e ≡ 23 → e ≡ rules-full) × (end-number e ≡ 24 → e ≡ log-full)
+unfolding end-number
+full-number complete = (λ h. absurd (omega arith), λ h. absurd (omega arith))
+full-number (neither-above p) = (λ h. absurd (omega arith), λ h. absurd (omega arith))
+full-number spent = (λ h. absurd (omega arith), λ h. absurd (omega arith))
+full-number too-large = (λ h. absurd (omega arith), λ h. absurd (omega arith))
+full-number rules-full = (λ h. refl, λ h. absurd (omega arith))
+full-number log-full = (λ h. absurd (omega arith), λ h. refl)
+
+pub run-23 : (P : Problem) → end-number (run P .end) ≡ 23 → RulesFull P (run P .state)
+run-23 P h = run-rules-full P (full-number (run P .end) .0 h)
+
+pub run-24 : (P : Problem) → end-number (run P .end) ≡ 24 → LogFull P (run P .state)
+run-24 P h = run-log-full P (full-number (run P .end) .1 h)
 
 -- So many turns as there are units, and one more, are enough: the bound of `turns` is never what ends a run.
 pub turns-enough : (n m : ℕ) (P : Problem) (s : State) (left : ℕ) → left < n → left < m → turns n P s left ≡ turns m P s left
