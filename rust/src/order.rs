@@ -1,14 +1,13 @@
 //! The lexicographic path order.
 //!
-//! The three clauses are decided by the two root symbols. Ranks are total,
-//! so the order is transitive and has the subterm property, and clause 1 is
-//! needed only where the other root is higher or the lexicographic part
-//! fails. Every call then splits one of the two terms into disjoint parts:
-//! no pair of nodes is looked at twice.
+//! The three clauses are decided by the two root symbols. The order is
+//! transitive and has the subterm property, whichever symbols share a rank:
+//! so clause 1 is needed only where another symbol is not lower, or where
+//! the lexicographic part fails. Every call then splits one of the two terms
+//! into disjoint parts: no pair of nodes is looked at twice.
 
 use crate::problem::Signature;
 use crate::term::Term;
-use std::cmp::Ordering;
 
 /// How two terms stand in the path order; the discriminants are the answers.
 #[derive(Clone, Copy, Debug, PartialEq, Eq)]
@@ -41,10 +40,12 @@ pub fn above(s: &Term, t: &Term, signature: &Signature) -> bool {
         Term::Variable(v) => return s.contains(*v),
         Term::Application { symbol, .. } => *symbol,
     };
-    match signature.rank(f).cmp(&signature.rank(g)) {
-        Ordering::Greater => above_all(s, t.arguments(), signature),
-        Ordering::Less => some_reaches(s.arguments(), t, signature),
-        Ordering::Equal => above_same_root(s, t, signature),
+    if f == g {
+        above_same_root(s, t, signature)
+    } else if signature.rank(f) > signature.rank(g) {
+        above_all(s, t.arguments(), signature)
+    } else {
+        some_reaches(s.arguments(), t, signature)
     }
 }
 

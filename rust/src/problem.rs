@@ -169,9 +169,6 @@ fn read_symbols(bytes: &[u8]) -> Result<(Signature, usize), Refusal> {
         if rank > MAX_RANK {
             return refuse(6, place + 1);
         }
-        if signature.rank.contains(&rank) {
-            return refuse(7, place + 1);
-        }
         signature.arity.push(arity);
         signature.rank.push(rank);
     }

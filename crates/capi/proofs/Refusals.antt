@@ -74,20 +74,19 @@ due-parts tag at (b ∷ bytes) f q =
     from-bind _ _ f q λ _ _ q.
     let r : g ≡ f = ok-injective q in rw (← r) (field-parts at (b ∷ bytes) g p)
 
-symbols-within : {e : ℕ} (ranks : List ℕ) (at : ℕ) (bytes : List ℕ) → at + length bytes ≤ e → RefusesWithin e (read-symbols ranks at bytes)
+symbols-within : {e : ℕ} (at : ℕ) (bytes : List ℕ) → at + length bytes ≤ e → RefusesWithin e (read-symbols at bytes)
 unfolding read-symbols
-symbols-within ranks at [] h = was-read
-symbols-within ranks at (a ∷ []) h = was-read
-symbols-within ranks at (a ∷ r ∷ bytes) h =
+symbols-within at [] h = was-read
+symbols-within at (a ∷ []) h = was-read
+symbols-within at (a ∷ r ∷ bytes) h =
     bind-within _ _ (test-within _ 6 at (omega arith) (omega arith)) λ _ _.
     bind-within _ _ (test-within _ 6 (at + 1) (omega arith) (omega arith)) λ _ _.
-    bind-within _ _ (test-within _ 7 (at + 1) (omega arith) (omega arith)) λ _ _.
-    bind-within _ _ (symbols-within (r ∷ ranks) (at + 2) bytes (omega arith)) λ _ _. was-read
+    bind-within _ _ (symbols-within (at + 2) bytes (omega arith)) λ _ _. was-read
 
 symbol-field-within : {e : ℕ} (f : ReadField) → f .first + 3 + length (f .contents) ≤ e → RefusesWithin e (symbol-field f)
 unfolding symbol-field
 symbol-field-within f h =
-    bind-within _ _ (test-within _ 5 (f .first) (omega arith) (omega arith)) λ _ _. symbols-within [] (f .first + 3) (f .contents) h
+    bind-within _ _ (test-within _ 5 (f .first) (omega arith) (omega arith)) λ _ _. symbols-within (f .first + 3) (f .contents) h
 
 budget-within : {e : ℕ} (f : ReadField) → f .first ≤ e → RefusesWithin e (budget-field f)
 unfolding budget-field

@@ -24,17 +24,16 @@ last-of : (a b : Bool) → (a || b) ≡ false → b ≡ false
 last-of true b h = absurd (let z : _≡_ {A = ℕ} 0 1 = cc in omega arith)
 last-of false b h = h
 
-symbols-read : (ranks : List ℕ) (at : ℕ) (bytes : List ℕ) (Σ : List Symbol) → read-symbols ranks at bytes ≡ ok Σ → 2 * length Σ ≤ length bytes
+symbols-read : (at : ℕ) (bytes : List ℕ) (Σ : List Symbol) → read-symbols at bytes ≡ ok Σ → 2 * length Σ ≤ length bytes
 unfolding read-symbols
-symbols-read ranks at [] Σ e = let q : [] ≡ Σ = ok-injective e in rw (← q) (omega arith)
-symbols-read ranks at (a ∷ []) Σ e = let q : [] ≡ Σ = ok-injective e in rw (← q) (omega arith)
-symbols-read ranks at (a ∷ r ∷ bytes) Σ e =
-    from-bind _ _ Σ e λ _ _ e.
+symbols-read at [] Σ e = let q : [] ≡ Σ = ok-injective e in rw (← q) (omega arith)
+symbols-read at (a ∷ []) Σ e = let q : [] ≡ Σ = ok-injective e in rw (← q) (omega arith)
+symbols-read at (a ∷ r ∷ bytes) Σ e =
     from-bind _ _ Σ e λ _ _ e.
     from-bind _ _ Σ e λ _ _ e.
     from-bind _ _ Σ e λ Σ′ h e.
     let q : record { arity = a; rank = r } ∷ Σ′ ≡ Σ = ok-injective e in
-    let k = symbols-read (r ∷ ranks) (at + 2) bytes Σ′ h in
+    let k = symbols-read (at + 2) bytes Σ′ h in
     rw (← q) (omega arith)
 
 symbols-few : (f : ReadField) (Σ : List Symbol) → symbol-field f ≡ ok Σ → length Σ ≤ 16
@@ -43,7 +42,7 @@ symbols-few f Σ e =
     from-bind _ _ Σ e λ u t h.
     let n : ℕ = length (f .contents) in
     let few : n ≤ 32 = ltb-false 32 n (last-of (eqb n 0 || eqb (n % 2) 1) (ltb 32 n) (passed _ 5 (f .first) u t)) in
-    let k = symbols-read [] (f .first + 3) (f .contents) Σ h in
+    let k = symbols-read (f .first + 3) (f .contents) Σ h in
     omega arith
 
 budget-few : (f : ReadField) (b : ℕ) → budget-field f ≡ ok b → b ≤ 1_000_000

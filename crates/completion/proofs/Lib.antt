@@ -32,6 +32,7 @@ pub mod ReadBack
 pub mod Promised
 pub mod Computes
 pub mod Instances
+pub mod EqualRanks
 pub mod Scanning
 pub mod Turning
 pub mod Comparing

@@ -2,10 +2,11 @@
 -- them: completion/proofs/Clauses.
 -- Read first: specs/Order, specs/Walk (`all-above`), proofs/Decide.
 use mathlib.Core.Path.{_≡_, refl, ap, ap₂, _∙_}
-use mathlib.Core.Bool.{Bool, false, _&&_, _||_, and-true}
+use mathlib.Core.Bool.{Bool, false, _&&_, _||_, and-true, or-false}
 use Prim.Native.Nat.{ℕ}
 use native.Mathlib.Omega.{arith}
 use lib.Dec.{eqb, ltb}
+use borrow.Author.Tests.{le-ltb, ne-eqb}
 use Rattle.terms.specs.Base.{if_then_else_}
 use Rattle.terms.specs.Term.{Terms, var, node, nil, cons, same, count}
 use Rattle.order.specs.Order.{by-clauses, by-clauses-all, above, some-reaches, first-above}
@@ -29,6 +30,12 @@ module _ (rank : ℕ → ℕ) where
   clauses f g ss ts =
       ap (λ every. some-reaches rank ss (node g ts) || ltb (rank g) (rank f) && every || eqb f g && every && first-above rank ss ts)
       (every-is f ss ts)
+
+  -- "For two different symbols of equal rank, clause 2 of the path order now holds for neither." Clause 3 asks for one symbol: clause 1 is left.
+  pub clause-equal-rank : (f g : ℕ) (ss ts : Terms) → (f ≡ g → ⊥) → rank f ≡ rank g →
+      above rank (node f ss) (node g ts) ≡ some-reaches rank ss (node g ts)
+  clause-equal-rank f g ss ts other equal =
+      clauses f g ss ts ∙ rw (le-ltb (rank g) (rank f) (omega (arith, equal)), ne-eqb f g other) (or-false _ ∙ or-false _)
 
   pub clause-variable : (f y : ℕ) (ss : Terms) → above rank (node f ss) (var y) ≡ some-reaches rank ss (var y)
   unfolding above by-clauses

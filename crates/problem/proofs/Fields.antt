@@ -64,7 +64,7 @@ module _ (l : List ℕ) (e : ℕ) (d : (due 0x01 0 l ≡ ok (field-at 0x01 l 0 e
   pub table-long : length tab ≡ e - 3
   table-long = length-take (e - 3) (drop 3 l) ∙ omega (arith, length-drop 3 l, d .2)
 
-  field-is : symbol-field (field-at 0x01 l 0 e) ≡ (refuse-if (wrong-length (length tab)) 5 0 >>= λ _. read-symbols [] 3 tab)
+  field-is : symbol-field (field-at 0x01 l 0 e) ≡ (refuse-if (wrong-length (length tab)) 5 0 >>= λ _. read-symbols 3 tab)
   unfolding symbol-field field-at
   field-is =
       let q : 3 + (e - 3) ≡ e = omega (arith, d .1) in

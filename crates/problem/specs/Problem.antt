@@ -25,7 +25,7 @@ unfoldable pub symbol-field : ReadField → Reading (List Symbol)
 symbol-field f = do
   let n = length (f .contents)
   _ ← refuse-if (eqb n 0 || eqb (n % 2) 1 || ltb (2 * most-symbols) n) wrong-symbol-field (f .first)
-  read-symbols [] (f .first + 3) (f .contents)
+  read-symbols (f .first + 3) (f .contents)
 
 -- "the budget, four bytes, high byte first, 0 to 1,000,000"; 8: "budget field not 4 bytes, or above 1,000,000" [3.6, 4.8]
 unfoldable pub budget-field : ReadField → Reading ℕ

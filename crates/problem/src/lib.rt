@@ -27,9 +27,6 @@ pub const WRONG_SYMBOL_FIELD: u8 = 5;
 // Arity above 4 or rank above 15.
 pub const WRONG_ARITY_OR_RANK: u8 = 6;
 
-// Rank equal to an earlier symbol's.
-pub const SAME_RANK: u8 = 7;
-
 // Budget field not 4 bytes, or above 1,000,000.
 pub const WRONG_BUDGET: u8 = 8;
 
@@ -96,10 +93,6 @@ pub fn symbols(problem: &[u8]) -> Read
             },
             reading::Symbols::WrongByte(place) => Read::Refused {
                 number: WRONG_ARITY_OR_RANK,
-                place: 3 + place,
-            },
-            reading::Symbols::SameRank(place) => Read::Refused {
-                number: SAME_RANK,
                 place: 3 + place,
             },
         },

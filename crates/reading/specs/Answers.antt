@@ -2,21 +2,21 @@
 use mathlib.Core.Path.{_≡_}
 use mathlib.Core.Bool.{Bool, true, false, _||_}
 use mathlib.Core.List.{List, [], _∷_, _++_}
-use Prim.Native.Nat.{ℕ, zero, suc, _+_, _*_, _%_, _≤_, _<_}
+use Prim.Native.Nat.{ℕ, suc, _+_, _*_, _%_, _≤_, _<_}
 use lib.Dec.{eqb, ltb}
-use lib.ListN.{length, take, drop, getD}
+use lib.ListN.{length, take, drop}
 use Rattle.limits.specs.Limits.{most-symbols, two-byte-values}
-use Rattle.terms.specs.Base.{if_then_else_, member}
+use Rattle.terms.specs.Base.{if_then_else_}
 use Rattle.terms.specs.Term.{Term, size, term-bytes, Pair, renamed}
 use Rattle.terms.specs.Flat.{Wf}
 use Rattle.terms.specs.declared.Ends.{Ends}
 use Rattle.terms.specs.declared.Ends.the-variants.{At as Ends-at, Bad}
-use Rattle.reading.specs.Stops.{cut-field, wrong-arity-or-rank, same-rank, wrong-term, large-side}
+use Rattle.reading.specs.Stops.{cut-field, wrong-arity-or-rank, wrong-term, large-side}
 use Rattle.reading.specs.Forms.{Reading, ok, refused, _>>=_, refuse-if, ReadField, read-field, Symbol, read-symbols, read-term, read-side}
 use Rattle.reading.specs.declared.Field.{Field}
 use Rattle.reading.specs.declared.Field.the-variants.{Cut, At as Field-at}
 use Rattle.reading.specs.declared.Symbols.{Symbols}
-use Rattle.reading.specs.declared.Symbols.the-variants.{Fine, WrongLength, WrongByte, SameRank}
+use Rattle.reading.specs.declared.Symbols.the-variants.{Fine, WrongLength, WrongByte}
 use Rattle.reading.specs.declared.Side.{Side}
 use Rattle.reading.specs.declared.Side.the-variants.{At as Side-at, Wrong, Large}
 use Rattle.reading.specs.declared.Pair.{Pair as Filling}
@@ -48,27 +48,20 @@ pub record Table (tab : List ℕ) : Type 0 where
   pub even : length (symbols-of tab) + length (symbols-of tab) ≡ length tab
   pub small : length tab ≤ 2 * most-symbols
 
--- the ranks of its first k symbols, the last first
-unfoldable pub ranks : List ℕ → ℕ → List ℕ
-ranks tab zero = []
-ranks tab (suc k) = getD tab (k + k + 1) 0 ∷ ranks tab k
-
 -- `read-symbols` without the symbols
-unfoldable pub check-symbols : List ℕ → ℕ → List ℕ → Reading (Unit {0})
-check-symbols seen at [] = ok tt
-check-symbols seen at (arity ∷ []) = ok tt
-check-symbols seen at (arity ∷ rank ∷ l) = do
+unfoldable pub check-symbols : ℕ → List ℕ → Reading (Unit {0})
+check-symbols at [] = ok tt
+check-symbols at (arity ∷ []) = ok tt
+check-symbols at (arity ∷ rank ∷ l) = do
   _ ← refuse-if (ltb 4 arity) wrong-arity-or-rank at
   _ ← refuse-if (ltb 15 rank) wrong-arity-or-rank (at + 1)
-  _ ← refuse-if (member rank seen) same-rank (at + 1)
-  check-symbols (rank ∷ seen) (at + 2) l
+  check-symbols (at + 2) l
 
 -- symbols whose bytes begin at any place: a place in the answer counts from there
 abbrev pub IsRanked : List ℕ → Symbols → Type 0
-IsRanked tab Fine = (at : ℕ) → check-symbols [] at tab ≡ ok tt
+IsRanked tab Fine = (at : ℕ) → check-symbols at tab ≡ ok tt
 IsRanked tab WrongLength = ⊥
-IsRanked tab (WrongByte p) = (p < length tab) × ((at : ℕ) → check-symbols [] at tab ≡ refused wrong-arity-or-rank (at + p))
-IsRanked tab (SameRank p) = (p < length tab) × ((at : ℕ) → check-symbols [] at tab ≡ refused same-rank (at + p))
+IsRanked tab (WrongByte p) = (p < length tab) × ((at : ℕ) → check-symbols at tab ≡ refused wrong-arity-or-rank (at + p))
 
 -- "symbol field's length 0, odd or over 32"
 abbrev pub wrong-length : ℕ → Bool
@@ -78,13 +71,12 @@ pub record SymbolsAre (tab : List ℕ) (r : (at : ℕ) → Reading (List Symbol)
   pub right : wrong-length (length tab) ≡ false
   pub table : Table tab
   pub some : 2 ≤ length tab
-  pub read : (at : ℕ) → read-symbols [] at tab ≡ r at
+  pub read : (at : ℕ) → read-symbols at tab ≡ r at
 
 abbrev pub IsSymbols : List ℕ → Symbols → Type 0
 IsSymbols tab Fine = SymbolsAre tab (λ at. ok (symbols-of tab))
 IsSymbols tab WrongLength = wrong-length (length tab) ≡ true
 IsSymbols tab (WrongByte p) = (p < length tab) × SymbolsAre tab (λ at. refused wrong-arity-or-rank (at + p))
-IsSymbols tab (SameRank p) = (p < length tab) × SymbolsAre tab (λ at. refused same-rank (at + p))
 
 -- the bytes of l from `at` to `end`
 abbrev pub between : List ℕ → ℕ → ℕ → List ℕ

@@ -6,9 +6,9 @@ use Prim.Native.Nat.{ℕ, zero, suc, _+_, _-_}
 use lib.Dec.{ltb, leb}
 use lib.ListN.{length, take, drop, getD}
 use Rattle.limits.specs.Limits.{most-nodes}
-use Rattle.terms.specs.Base.{if_then_else_, number-from, member}
+use Rattle.terms.specs.Base.{if_then_else_, number-from}
 use Rattle.terms.specs.Term.{Term, var, node, Terms, nil, cons, size}
-use Rattle.reading.specs.Stops.{cut-field, wrong-arity-or-rank, same-rank, wrong-term, large-side}
+use Rattle.reading.specs.Stops.{cut-field, wrong-arity-or-rank, wrong-term, large-side}
 
 -- What was read, or the refusal's number and place [4.13].
 pub data Reading (A : Type 0) : Type 0 where
@@ -54,16 +54,14 @@ arity-of Σ f = getD Σ f (record { arity = 0; rank = 0 }) .arity
 unfoldable pub rank-of : List Symbol → ℕ → ℕ
 rank-of Σ f = getD Σ f (record { arity = 0; rank = 0 }) .rank
 
--- 6: "arity above 4 or rank above 15", at "that byte"; 7: "rank equal to an earlier symbol's", at "that byte". No length is odd here: 5 refuses it.
--- [3.5, 4.6, 4.7, 4.17]
-unfoldable pub read-symbols : List ℕ → ℕ → List ℕ → Reading (List Symbol)
-read-symbols ranks at [] = ok []
-read-symbols ranks at (arity ∷ []) = ok []
-read-symbols ranks at (arity ∷ rank ∷ bytes) = do
+-- 6: "arity above 4 or rank above 15", at "that byte". No length is odd here: 5 refuses it. "Let two symbols hold one rank." [3.5, 4.6, 4.7, 4.17]
+unfoldable pub read-symbols : ℕ → List ℕ → Reading (List Symbol)
+read-symbols at [] = ok []
+read-symbols at (arity ∷ []) = ok []
+read-symbols at (arity ∷ rank ∷ bytes) = do
   _ ← refuse-if (ltb 4 arity) wrong-arity-or-rank at
   _ ← refuse-if (ltb 15 rank) wrong-arity-or-rank (at + 1)
-  _ ← refuse-if (member rank ranks) same-rank (at + 1)
-  Σ ← read-symbols (rank ∷ ranks) (at + 2) bytes
+  Σ ← read-symbols (at + 2) bytes
   ok (record { arity = arity; rank = rank } ∷ Σ)
 
 -- What a byte of a term is.

@@ -26,10 +26,6 @@ wrong-symbol-field = 5
 abbrev pub wrong-arity-or-rank : ℕ
 wrong-arity-or-rank = 6
 
--- "rank equal to an earlier symbol's" [4.7]
-abbrev pub same-rank : ℕ
-same-rank = 7
-
 -- "budget field not 4 bytes, or above 1,000,000" [4.8]
 abbrev pub wrong-budget : ℕ
 wrong-budget = 8

@@ -4,8 +4,8 @@ ghost use mathlib.Core.Path.{_≡_};
 ghost use Prim.Native.Nat.{_+_, _^_, _<_, _≤_, _*_};
 ghost use lib.ListN.{length, take, drop};
 ghost use Rattle.limits.specs.Limits.{most-symbols, two-byte-values};
-ghost use Rattle.terms.specs.Base.{number-from, member};
-ghost use Rattle.reading.specs.Answers.{IsField, ranks, IsRanked, IsSymbols, Table, IsTerm, IsSide, IsPair, next-after, IsRenamed};
+ghost use Rattle.terms.specs.Base.{number-from};
+ghost use Rattle.reading.specs.Answers.{IsField, IsRanked, IsSymbols, Table, IsTerm, IsSide, IsPair, next-after, IsRenamed};
 
 // The number of so many bytes, high byte first, at a place.
 pub fn number(t: &[u8], at: usize, width: usize) -> usize
@@ -50,29 +50,12 @@ pub fn field_at(t: &[u8], at: usize) -> Field
 }
 
 pub enum Symbols {
-    // Two bytes a symbol, 1 to 16 symbols, arities 0 to 4, distinct ranks 0 to 15.
+    // Two bytes a symbol, 1 to 16 symbols, arities 0 to 4, ranks 0 to 15.
     Fine,
     // No byte, an odd number of bytes, or over 32.
     WrongLength,
     // The place of the first wrong byte: an arity above 4 or a rank above 15.
     WrongByte(usize),
-    // The place of the first wrong byte: a rank equal to an earlier symbol's.
-    SameRank(usize),
-}
-
-// Whether one of the first k symbols has this rank.
-fn rank_seen(table: &[u8], k: usize, rank: u8) -> bool
-    requires { ⌜ k + k ≤ length (now table) ⌝ }
-    ensures { λ r. ⌜ r ≡ member rank (ranks (now (table .entry)) k) ⌝ }
-{
-    let mut j = k;
-    while j > 0 {
-        j -= 1;
-        if rank == table[j + j + 1] {
-            return true;
-        }
-    }
-    false
 }
 
 // The symbols of a table of the right length, one behind the other.
@@ -85,12 +68,8 @@ fn ranked(table: &[u8]) -> Symbols
         if table[k + k] > 4 {
             return Symbols::WrongByte(k + k);
         }
-        let rank = table[k + k + 1];
-        if rank > 15 {
+        if table[k + k + 1] > 15 {
             return Symbols::WrongByte(k + k + 1);
-        }
-        if rank_seen(table, k, rank) {
-            return Symbols::SameRank(k + k + 1);
         }
         k += 1;
     }

@@ -23,15 +23,10 @@ part-check-symbols-end c =
     let at-due : tie.After-due = search depth 0 in
     let d = rw (c .before .e .given .1) at (at-due .due .ensures) in d .2
 
-add-t15 : tie.Need-add-t15
-add-t15 c =
+add-t14 : tie.Need-add-t14
+add-t14 c =
     let at-check-symbols : tie.After-check-symbols = search depth 0 in
     let S = rw (c .before .place .given .1) at (at-check-symbols .check-symbols .ensures) in omega (arith, S .0, S .1 .table .small)
-
-add-t16 : tie.Need-add-t16
-add-t16 c =
-    let at-check-symbols : tie.After-check-symbols = search depth 0 in
-    let S = rw (c .before .place2 .given .1) at (at-check-symbols .check-symbols .ensures) in omega (arith, S .0, S .1 .table .small)
 
 returns : tie.Need-returns
 returns c =
@@ -61,18 +56,9 @@ returns-4 c =
     let S = rw (at-place .place .given .1) at (at-check-symbols .check-symbols .ensures) in
     symbols-refused _ _ (rw (at-e .e .given .1) at (at-due .due .ensures)) _ _ (S .1)
 
-returns-5 : tie.Need-returns-5
-returns-5 c =
-    let at-place2 : tie.After-place2 = search depth 0 in
-    let at-check-symbols : tie.After-check-symbols = search depth 0 in
-    let at-e : tie.After-e = search depth 0 in
-    let at-due : tie.After-due = search depth 0 in
-    let S = rw (at-place2 .place2 .given .1) at (at-check-symbols .check-symbols .ensures) in
-    symbols-refused _ _ (rw (at-e .e .given .1) at (at-due .due .ensures)) _ _ (S .1)
-
 pub symbols-spec : {M : Type 1} → statement M
 symbols-spec =
     tie.close (tie.spec
     (λ c κs. search needs) (λ c. search needs) (λ c. search needs) sub-check-symbols part-check-symbols-start
-    part-check-symbols-end (λ c κs. search needs) (λ c. search needs) (λ c. search needs) (λ c. search needs) add-t15
-    (λ c. search needs) add-t16 returns returns-2 returns-3 returns-4 returns-5)
+    part-check-symbols-end (λ c κs. search needs) (λ c. search needs) (λ c. search needs) (λ c. search needs) add-t14
+    returns returns-2 returns-3 returns-4)
