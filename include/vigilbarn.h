@@ -23,19 +23,19 @@ static inline unsigned vb_number(uint64_t answer) { return (unsigned)((answer >>
 static inline uint32_t vb_value(uint64_t answer) { return (uint32_t)answer; }
 
 /* Completion of the problem's equations: the result's fields (docs/FORMAT.md).
- * kind 0: refused; number 1 to 11, value the place. The result is left as it was.
+ * kind 0: refused; number 1 to 11 but not 7, value the place. The result is left as it was.
  * kind 1: written; value the count of result bytes, the others are left as they were.
  * A result buffer under 16,384 bytes is refused with number 1 at place 0. Where field 10 of the result holds 0, the rules in its fields 12 settle
  * the equations: rewriting by them ends, last terms are unique, and two terms have the same one exactly when the equations lead from one to the other. */
 uint64_t vb_complete(const uint8_t *problem, size_t problem_bytes, uint8_t *result, size_t result_bytes);
 
 /* Which side of the problem's one equation is above the other in the path order.
- * kind 0: refused; number 2 to 12, value the place.
+ * kind 0: refused; number 2 to 12 but not 7, value the place.
  * kind 1: value 1 (left above), 2 (right above), 3 (identical) or 4 (neither). */
 uint64_t vb_compare(const uint8_t *problem, size_t problem_bytes);
 
 /* The most general common instance of the two sides of the problem's one equation, renamed, as one field of tag 15 (hexadecimal).
- * kind 0: refused; number 1 to 12, value the place. The result is left as it was.
+ * kind 0: refused; number 1 to 12 but not 7, value the place. The result is left as it was.
  * kind 1: written; value the count of result bytes, the others are left as they were.
  * kind 2: there is none. The result is left as it was.
  * kind 3: it is over 120 nodes; number 22. The result is left as it was.

@@ -72,6 +72,7 @@ pub fn cases() -> Vec<Case> {
     list.extend(sides());
     list.extend(terms_of_runs());
     list.extend(instances());
+    list.extend(equal_ranks());
     list.extend(counts());
     list.extend(budgets());
     list.push(refused("empty problem", Vec::new(), 4, 0));
@@ -185,6 +186,26 @@ fn instances() -> Vec<Case> {
     vec![
         single("an instance of 120 nodes", &theory(1), ended(), written, 4),
         single("an instance of 121 nodes", &theory(2), ended(), large, 5),
+    ]
+}
+
+/// Symbols of one rank.
+fn equal_ranks() -> Vec<Case> {
+    let (arithmetic, one) = (theories::unranked_arithmetic(), theories::one_rank);
+    let (equal, higher) = (theories::difference(1), theories::difference(2));
+    let rules = theories::arithmetic_rules().sides(&[1, 2, 3, 4, 5, 6, 9, 10]);
+    let delivered = Ended::complete(55, &rules);
+    let (stuck, made) = (|| Ended::new(20, 1, 0), || Ended::new(0, 3, 1));
+    let neither = (Order::Neither, UnifyAnswer::None);
+    let above = (Order::LeftAbove, UnifyAnswer::None);
+    let (first, third) = (one("f(g(x)) = g(x)"), one("f(f(x)) = g(x)"));
+    vec![
+        run("one rank for + and -", &arithmetic, delivered, 27),
+        single("- and + of one rank", &equal, stuck(), neither, 3),
+        single("- of a higher rank", &higher, made(), above, 3),
+        single("no clause", &one("f(x) = g(x)"), stuck(), neither, 2),
+        single("clause 1", &first, made(), above, 3),
+        single("clause 3 over two symbols", &third, stuck(), neither, 3),
     ]
 }
 

@@ -55,6 +55,14 @@ impl Theory {
         self
     }
 
+    /// The same symbols with these ranks.
+    pub fn with_ranks(mut self, ranks: &[u8]) -> Theory {
+        for (symbol, rank) in self.symbols.iter_mut().zip(ranks) {
+            symbol.2 = *rank;
+        }
+        self
+    }
+
     /// Both sides of these equations, numbered from 1, in byte form.
     pub fn sides(&self, equations: &[usize]) -> Vec<Vec<u8>> {
         let chosen = equations.iter().map(|i| self.equations[i - 1].clone());

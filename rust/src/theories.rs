@@ -73,6 +73,21 @@ pub fn arithmetic_axioms() -> Theory {
     ])
 }
 
+/// The same, with one rank for + and -, and one for s and p.
+pub fn unranked_arithmetic() -> Theory {
+    arithmetic_axioms().with_ranks(&[0, 1, 1, 2, 2])
+}
+
+/// x-y = x+n(y), where - has this rank and + rank 1.
+pub fn difference(rank: u8) -> Theory {
+    Theory::new(&format!("n/1/0 +/2/1 -/2/{rank}")).equation("-(x,y) = +(x,n(y))")
+}
+
+/// Equations over f and g of one rank, with a constant below.
+pub fn one_rank(equation: &str) -> Theory {
+    Theory::new("c/0/0 f/1/1 g/1/1").equation(equation)
+}
+
 /// The ten rules of 003.
 pub fn arithmetic_rules() -> Theory {
     arithmetic_axioms().equations(&[

@@ -1,5 +1,6 @@
 //! The generator: a function of its numbers, and its reach.
 
+use kb_engine::generate::ranks::{ranks, Ranks};
 use kb_engine::generate::{self, damage};
 use kb_engine::{compare, complete, subterm, unify};
 use kb_engine::{CompareAnswer, CompleteAnswer, UnifyAnswer, MIN_RESULT};
@@ -36,15 +37,25 @@ fn problems_reach_every_answer() {
             seen.insert(format!("{order:?}"));
         }
     }
-    let refusals = (2..=12).map(|n| format!("refused {n}"));
+    let refusals = [2, 3, 4, 5, 6, 8, 9, 10, 11, 12].map(|n| format!("refused {n}"));
     let ends = [0, 20, 21, 22, 23, 24].map(|n| format!("end {n}"));
     let unified = ["instance", "no instance", "large instance"].map(String::from);
     let compared = ["LeftAbove", "RightAbove", "Identical", "Neither"].map(String::from);
-    let all = refusals.chain(ends).chain(unified).chain(compared);
+    let all = refusals.into_iter().chain(ends);
+    let all = all.chain(unified).chain(compared);
     assert!(
         all.clone().eq(all.clone().filter(|a| seen.contains(a))),
         "{seen:?}"
     );
+    assert!(!seen.contains("refused 7"));
+}
+
+#[test]
+fn symbols_share_ranks_in_a_third() {
+    let of = |kind| (0..COUNT).filter(move |i| ranks(&generate::problem(1, *i)) == Some(kind));
+    let (some, all) = (of(Ranks::SomeEqual).count(), of(Ranks::AllEqual).count());
+    assert!(3 * (some + all) as u64 >= COUNT, "{some} and {all}");
+    assert!(20 * all as u64 >= COUNT, "{all}");
 }
 
 #[test]

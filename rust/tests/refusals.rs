@@ -132,10 +132,12 @@ fn number_6_arity_and_rank() {
 }
 
 #[test]
-fn number_7_equal_ranks() {
-    assert_refused(&symbols_only(&[0, 3, 1, 3]), 7, 6);
-    assert_refused(&symbols_only(&[0, 3, 1, 3, 9, 9]), 7, 6);
-    assert_refused(&symbols_only(&[0, 3, 1, 2, 2, 3]), 7, 8);
+fn number_7_no_longer_occurs() {
+    assert_refused(&symbols_only(&[0, 3, 1, 3]), 4, 7);
+    assert_refused(&symbols_only(&[0, 3, 1, 3, 9, 9]), 6, 7);
+    assert_refused(&symbols_only(&[0, 3, 1, 2, 2, 3]), 4, 9);
+    let theory = Theory::new("f/1/3 g/1/3").equation("f(g(x)) = g(x)");
+    assert_eq!(refusal(&theory.problem(9)), None);
 }
 
 #[test]

@@ -1,15 +1,18 @@
--- A refusal of complete, compare or unify has a number of at most 12 and a place of at most 8,192, whatever the bytes. Assumes nothing.
+-- A refusal of complete, compare or unify has a number of at most 12 that is not 7, and a place of at most 8,192, whatever the bytes. Assumes
+-- nothing.
 -- Read first: problem/specs/Problem (Reading, parse), completion/specs/Calls, problem/proofs/Reading.
-use mathlib.Core.Path.{_≡_, refl, ap, _∙_}
-use mathlib.Core.Bool.{Bool, true, false}
+use mathlib.Core.Path.{_≡_, refl, ap, subst, _∙_}
+use mathlib.Core.Bool.{Bool, true, false, not, _&&_}
 use mathlib.Core.List.{List, [], _∷_}
 use Prim.Native.Nat.{ℕ, zero, suc, _+_, _≤_}
 use native.Mathlib.Omega.{arith}
+use lib.Dec.{eqb, leb}
 use lib.ListN.{length, length-append, length-take, length-drop, take, drop}
-use borrow.Author.Tests.{ltb-false}
+use borrow.Author.Tests.{ltb-false, leb-true}
 use Rattle.terms.specs.Base.{number-from, Every, of-none, of-cons}
 use Rattle.terms.specs.Term.{Term, term-bytes}
 use Rattle.terms.proofs.Bytes.{length-bytes}
+use Rattle.terms.proofs.Shape.{both-true}
 use Rattle.terms.proofs.Every.{every-head, every-tail}
 use Rattle.problem.specs.Problem.{Reading, ok, refused, _>>=_, refuse-if, ReadField, read-field, due, Symbol, arity-of, read-symbols, symbol-field}
 use Rattle.problem.specs.Problem.{budget-field, Byte, symbol, variable, neither, byte-of, ReadPart, read-term, read-terms, read-side, Equation}
@@ -18,10 +21,17 @@ use Rattle.completion.specs.Calls.{enough, complete-call, Single, parse-single,
 use Rattle.completion.proofs.Accepts.{only-fits}
 use Rattle.problem.proofs.Reading.{ReadsTo, reads, from-bind, no-ok, ok-injective, passed}
 
--- If a reading is refused, the number is at most 12 and the place at most e.
+-- 1 to 12, and not 7: "Refusal 7 no longer occurs." [4.1 to 4.12]
+abbrev pub is-refusal : ℕ → Bool
+is-refusal n = leb 1 n && leb n 12 && not (eqb n 7)
+
+-- If a reading is refused, the number is one of these and the place at most e.
 pub data RefusesWithin {A : Type 0} (e : ℕ) : Reading A → Type 0 where
   was-read : {a : A} → RefusesWithin e (ok a)
-  was-refused : (n at : ℕ) → n ≤ 12 → at ≤ e → RefusesWithin e (refused n at)
+  was-refused : (n at : ℕ) → is-refusal n ≡ true → at ≤ e → RefusesWithin e (refused n at)
+
+pub refusal-few : (n : ℕ) → is-refusal n ≡ true → n ≤ 12
+refusal-few n h = leb-true n 12 (both-true (leb 1 n) (leb n 12) (both-true (leb 1 n && leb n 12) (not (eqb n 7)) h .0) .1)
 
 bind-within : {A B : Type 0} {e : ℕ} (m : Reading A) (next : A → Reading B) → RefusesWithin e m →
     ((a : A) → m ≡ ok a → RefusesWithin e (next a)) → RefusesWithin e (m >>= next)
@@ -29,7 +39,7 @@ unfolding _>>=_
 bind-within (ok a) next h k = k a refl
 bind-within (refused n at) next (was-refused _ _ p q) k = was-refused n at p q
 
-test-within : {e : ℕ} (b : Bool) (n at : ℕ) → n ≤ 12 → at ≤ e → RefusesWithin e (refuse-if b n at)
+test-within : {e : ℕ} (b : Bool) (n at : ℕ) → is-refusal n ≡ true → at ≤ e → RefusesWithin e (refuse-if b n at)
 unfolding refuse-if
 test-within true n at p q = was-refused n at p q
 test-within false n at p q = was-read
@@ -42,10 +52,10 @@ record FieldWithin (at : ℕ) (bytes : List ℕ) (f : ReadField) : Type 0 where
 
 field-within : {e : ℕ} (at : ℕ) (bytes : List ℕ) → at ≤ e → RefusesWithin e (read-field at bytes)
 unfolding read-field
-field-within at [] h = was-refused 3 at (omega arith) h
-field-within at (t ∷ []) h = was-refused 3 at (omega arith) h
-field-within at (t ∷ a ∷ []) h = was-refused 3 at (omega arith) h
-field-within at (t ∷ a ∷ b ∷ bytes) h = bind-within _ _ (test-within _ 3 at (omega arith) h) λ _ _. was-read
+field-within at [] h = was-refused 3 at refl h
+field-within at (t ∷ []) h = was-refused 3 at refl h
+field-within at (t ∷ a ∷ []) h = was-refused 3 at refl h
+field-within at (t ∷ a ∷ b ∷ bytes) h = bind-within _ _ (test-within _ 3 at refl h) λ _ _. was-read
 
 field-parts : (at : ℕ) (bytes : List ℕ) (f : ReadField) → read-field at bytes ≡ ok f → FieldWithin at bytes f
 unfolding read-field
@@ -61,10 +71,10 @@ field-parts at (t ∷ a ∷ b ∷ bytes) f q =
 
 due-within : {e : ℕ} (tag at : ℕ) (bytes : List ℕ) → at ≤ e → RefusesWithin e (due tag at bytes)
 unfolding due
-due-within tag at [] h = was-refused 4 at (omega arith) h
+due-within tag at [] h = was-refused 4 at refl h
 due-within tag at (b ∷ bytes) h =
     bind-within _ _ (field-within at (b ∷ bytes) h) λ f _.
-    bind-within _ _ (test-within _ 4 at (omega arith) h) λ _ _. was-read
+    bind-within _ _ (test-within _ 4 at refl h) λ _ _. was-read
 
 due-parts : (tag at : ℕ) (bytes : List ℕ) (f : ReadField) → due tag at bytes ≡ ok f → FieldWithin at bytes f
 unfolding due
@@ -79,20 +89,20 @@ unfolding read-symbols
 symbols-within at [] h = was-read
 symbols-within at (a ∷ []) h = was-read
 symbols-within at (a ∷ r ∷ bytes) h =
-    bind-within _ _ (test-within _ 6 at (omega arith) (omega arith)) λ _ _.
-    bind-within _ _ (test-within _ 6 (at + 1) (omega arith) (omega arith)) λ _ _.
+    bind-within _ _ (test-within _ 6 at refl (omega arith)) λ _ _.
+    bind-within _ _ (test-within _ 6 (at + 1) refl (omega arith)) λ _ _.
     bind-within _ _ (symbols-within (at + 2) bytes (omega arith)) λ _ _. was-read
 
 symbol-field-within : {e : ℕ} (f : ReadField) → f .first + 3 + length (f .contents) ≤ e → RefusesWithin e (symbol-field f)
 unfolding symbol-field
 symbol-field-within f h =
-    bind-within _ _ (test-within _ 5 (f .first) (omega arith) (omega arith)) λ _ _. symbols-within (f .first + 3) (f .contents) h
+    bind-within _ _ (test-within _ 5 (f .first) refl (omega arith)) λ _ _. symbols-within (f .first + 3) (f .contents) h
 
 budget-within : {e : ℕ} (f : ReadField) → f .first ≤ e → RefusesWithin e (budget-field f)
 unfolding budget-field
 budget-within f h =
-    bind-within _ _ (test-within _ 8 (f .first) (omega arith) h) λ _ _.
-    bind-within _ _ (test-within _ 8 (f .first) (omega arith) h) λ _ _. was-read
+    bind-within _ _ (test-within _ 8 (f .first) refl h) λ _ _.
+    bind-within _ _ (test-within _ 8 (f .first) refl h) λ _ _. was-read
 
 module _ (Σ : List Symbol) (e : ℕ) where
   -- a term's end, and what stands behind it
@@ -116,8 +126,8 @@ module _ (Σ : List Symbol) (e : ℕ) where
 
   term-within : (depth at : ℕ) (bytes : List ℕ) → at + length bytes ≤ e → RefusesWithin e (read-term Σ depth at bytes)
   unfolding read-term
-  term-within zero at bytes k = was-refused 10 at (omega arith) (omega arith)
-  term-within (suc depth) at [] k = was-refused 10 at (omega arith) (omega arith)
+  term-within zero at bytes k = was-refused 10 at refl (omega arith)
+  term-within (suc depth) at [] k = was-refused 10 at refl (omega arith)
   term-within (suc depth) at (b ∷ bytes) k = go (byte-of Σ b) refl (λ at bytes k. term-within depth at bytes k)
     where
       go : (c : Byte) → byte-of Σ b ≡ c → ((at : ℕ) (bytes : List ℕ) → at + length bytes ≤ e → RefusesWithin e (read-term Σ depth at bytes)) →
@@ -127,13 +137,13 @@ module _ (Σ : List Symbol) (e : ℕ) where
           (bind-within _ _ (terms-within _ ih (λ at bytes p h. term-behind depth at bytes p h) (arity-of Σ f) (at + 1) bytes (omega arith)) λ _ _.
           was-read)
       go (variable x) q ih = rw (q, read-term) was-read
-      go neither q ih = rw (q, read-term) (was-refused 10 at (omega arith) (omega arith))
+      go neither q ih = rw (q, read-term) (was-refused 10 at refl (omega arith))
 
   side-within : (at : ℕ) (bytes : List ℕ) → at + length bytes ≤ e → RefusesWithin e (read-side Σ at bytes)
   unfolding read-side
   side-within at bytes k =
       bind-within _ _ (term-within (suc (length bytes)) at bytes k) λ t _.
-      bind-within _ _ (test-within _ 11 at (omega arith) (omega arith)) λ _ _. was-read
+      bind-within _ _ (test-within _ 11 at refl (omega arith)) λ _ _. was-read
 
   side-behind : (at : ℕ) (bytes : List ℕ) (p : ReadPart Term) → read-side Σ at bytes ≡ ok p → Behind at bytes p
   unfolding read-side
@@ -149,13 +159,13 @@ module _ (Σ : List Symbol) (e : ℕ) where
       let a = side-behind (f .first + 3) (f .contents) l p in
       bind-within _ _ (side-within (l .end) (l .rest) (omega arith)) λ r q.
       let b = side-behind (l .end) (l .rest) r q in
-      bind-within _ _ (test-within _ 10 (r .end) (omega arith) (omega arith)) λ _ _. was-read
+      bind-within _ _ (test-within _ 10 (r .end) refl (omega arith)) λ _ _. was-read
 
   equations-within : (more at : ℕ) (bytes : List ℕ) → at + length bytes ≤ e → RefusesWithin e (equation-fields Σ more at bytes)
   unfolding equation-fields
   equations-within zero at [] k = was-read
   equations-within zero at (b ∷ bytes) k =
-      bind-within _ _ (due-within 0x03 at (b ∷ bytes) (omega arith)) λ _ _. was-refused 9 at (omega arith) (omega arith)
+      bind-within _ _ (due-within 0x03 at (b ∷ bytes) (omega arith)) λ _ _. was-refused 9 at refl (omega arith)
   equations-within (suc more) at [] k = was-read
   equations-within (suc more) at (b ∷ bytes) k =
       bind-within _ _ (due-within 0x03 at (b ∷ bytes) (omega arith)) λ f p.
@@ -184,7 +194,7 @@ module _ (Σ : List Symbol) (e : ℕ) where
 pub parse-within : (bytes : List ℕ) → RefusesWithin 8192 (parse bytes)
 unfolding parse
 parse-within bytes =
-    bind-within _ _ (test-within _ 2 8192 (omega arith) (omega arith)) λ u p.
+    bind-within _ _ (test-within _ 2 8192 refl (omega arith)) λ u p.
     let few : length bytes ≤ 8192 = ltb-false 8192 (length bytes) (passed _ 2 8192 u p) in
     bind-within _ _ (due-within 0x01 0 bytes (omega arith)) λ s p.
     let a : FieldWithin 0 bytes s = due-parts 0x01 0 bytes s p in
@@ -211,9 +221,9 @@ parse-firsts bytes P q =
 
 only-within : {e : ℕ} (end : ℕ) (es : List Equation) → end ≤ e → Every (λ (q : Equation). q .first ≤ e) es → RefusesWithin e (only-equation end es)
 unfolding only-equation
-only-within end [] h k = was-refused 12 end (omega arith) h
+only-within end [] h k = was-refused 12 end refl h
 only-within end (d ∷ []) h k = was-read
-only-within end (d ∷ d′ ∷ es) h k = was-refused 12 (d′ .first) (omega arith) (every-head (every-tail k))
+only-within end (d ∷ d′ ∷ es) h k = was-refused 12 (d′ .first) refl (every-head (every-tail k))
 
 single-within : (bytes : List ℕ) → RefusesWithin 8192 (parse-single bytes)
 unfolding parse-single
@@ -232,7 +242,7 @@ single-first bytes S q =
 
 enough-within : (buffer : ℕ) → RefusesWithin 8192 (enough buffer)
 unfolding enough
-enough-within buffer = test-within _ 1 0 (omega arith) (omega arith)
+enough-within buffer = test-within _ 1 0 refl (omega arith)
 
 pub complete-within : (bytes : List ℕ) (buffer : ℕ) → RefusesWithin 8192 (complete-call bytes buffer)
 unfolding complete-call
@@ -245,3 +255,15 @@ compare-within bytes = bind-within _ _ (single-within bytes) λ _ _. was-read
 pub unify-within : (bytes : List ℕ) (buffer : ℕ) → RefusesWithin 8192 (unify-call bytes buffer)
 unfolding unify-call
 unify-within bytes buffer = bind-within _ _ (enough-within buffer) λ _ _. bind-within _ _ (single-within bytes) λ _ _. was-read
+
+-- "Refusal 7 no longer occurs."
+not-7 : {A : Type 0} {e at : ℕ} → RefusesWithin {A = A} e (refused 7 at) → ⊥
+not-7 (was-refused _ _ h _) = let z : _≡_ {A = ℕ} 0 1 = cc in omega arith
+
+pub never-7 : (bytes : List ℕ) (buffer at : ℕ) →
+    (complete-call bytes buffer ≡ refused 7 at → ⊥) × (compare-call bytes ≡ refused 7 at → ⊥) × (unify-call bytes buffer ≡ refused 7 at → ⊥)
+never-7 bytes buffer at = (
+  λ q. not-7 (subst (RefusesWithin 8192) q (complete-within bytes buffer)),
+  λ q. not-7 (subst (RefusesWithin 8192) q (compare-within bytes)),
+  λ q. not-7 (subst (RefusesWithin 8192) q (unify-within bytes buffer)),
+)

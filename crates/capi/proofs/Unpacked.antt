@@ -27,7 +27,7 @@ use Rattle.complete.specs.Answer.{counted}
 use Rattle.calls.specs.Answers.{Returned, bytes-written, none-common, number-only, number-and-place, unify-returns}
 use Rattle.calls.proofs.Comparing.{comparison-range}
 use Rattle.capi.specs.Codes.{code, answer-code, unify-code, part-code, kind-in, number-in, value-in, start-in}
-use Rattle.capi.proofs.Refusals.{RefusesWithin, was-refused, single-first, complete-within, compare-within, unify-within}
+use Rattle.capi.proofs.Refusals.{RefusesWithin, was-refused, refusal-few, single-first, complete-within, compare-within, unify-within}
 
 -- The answer r has this kind, this number and this value.
 pub record Unpacks (r kind number value : ℕ) : Type 0 where
@@ -60,7 +60,7 @@ complete-unpacks problem buffer = go (complete-call problem buffer) refl (comple
   where
     go : (c : Reading (List ℕ)) → complete-call problem buffer ≡ c → RefusesWithin 8192 c → UnpacksAnswer (answer-code (counted c)) (counted c)
     go (ok bytes) q h = code-unpacks 1 0 (length bytes) (omega arith) (omega (arith, complete-writes problem buffer bytes q .few))
-    go (refused n at) q (was-refused _ _ a b) = code-unpacks 0 n at (omega arith) (omega arith)
+    go (refused n at) q (was-refused _ _ a b) = code-unpacks 0 n at (omega (arith, refusal-few n a)) (omega arith)
 
 compare-few : (problem : List ℕ) (v : ℕ) → compare-call problem ≡ ok v → v ≤ 4
 unfolding compare-call
@@ -75,7 +75,7 @@ compare-unpacks problem = go (compare-call problem) refl (compare-within problem
   where
     go : (c : Reading ℕ) → compare-call problem ≡ c → RefusesWithin 8192 c → UnpacksAnswer (answer-code c) c
     go (ok v) q h = code-unpacks 1 0 v (omega arith) (omega (arith, compare-few problem v q))
-    go (refused n at) q (was-refused _ _ a b) = code-unpacks 0 n at (omega arith) (omega arith)
+    go (refused n at) q (was-refused _ _ a b) = code-unpacks 0 n at (omega (arith, refusal-few n a)) (omega arith)
 
 -- unify
 abbrev pub UnpacksReturned : ℕ → Returned → Type 0
@@ -117,7 +117,7 @@ unify-unpacks problem buffer = go (unify-call problem buffer) refl (unify-within
     go (ok (instance bytes)) q h = code-unpacks 1 0 (length bytes) (omega arith) (omega (arith, unify-few problem buffer bytes q))
     go (ok no-instance) q h = code-unpacks 2 0 0 (omega arith) (omega arith)
     go (ok instance-too-large) q h = code-unpacks 3 22 0 (omega arith) (omega arith)
-    go (refused n at) q (was-refused _ _ a b) = code-unpacks 0 n at (omega arith) (omega arith)
+    go (refused n at) q (was-refused _ _ a b) = code-unpacks 0 n at (omega (arith, refusal-few n a)) (omega arith)
 
 -- subterm
 subterm-few : (t : Term) (p : ℕ) (u : Term) → subterm-at t p ≡ some u → size u ≤ size t

@@ -35,7 +35,7 @@ t minus u = node 4 (cons t (cons u nil))
 abbrev both : Term → Term → List ℕ
 both t u = problem unranked 9 ((t ≈ u) ∷ [])
 
--- "For two different symbols of equal rank, clause 2 of the path order now holds for neither." [5.3]
+-- "For two different symbols of equal rank, clause 2 of the path order now holds for neither." [5.5]
 pub compared :
     (compare-call (both (s x) (p x)) ≡ ok 4)
     × (compare-call (both (p x) (s x)) ≡ ok 4)

@@ -31,7 +31,7 @@ module _ (rank : ℕ → ℕ) where
       ap (λ every. some-reaches rank ss (node g ts) || ltb (rank g) (rank f) && every || eqb f g && every && first-above rank ss ts)
       (every-is f ss ts)
 
-  -- "For two different symbols of equal rank, clause 2 of the path order now holds for neither." Clause 3 asks for one symbol: clause 1 is left.
+  -- "For two different symbols of equal rank, clause 2 of the path order now holds for neither." Clause 3 asks for one symbol: clause 1 is left. [5.5]
   pub clause-equal-rank : (f g : ℕ) (ss ts : Terms) → (f ≡ g → ⊥) → rank f ≡ rank g →
       above rank (node f ss) (node g ts) ≡ some-reaches rank ss (node g ts)
   clause-equal-rank f g ss ts other equal =

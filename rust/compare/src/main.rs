@@ -10,6 +10,7 @@ use kb_compare::engines::decode;
 use kb_compare::fixed::faults;
 use kb_compare::{Engine, ProvedEngine, RustEngine};
 use kb_engine::fixed::{self, Case};
+use kb_engine::generate::ranks::{ranks, Ranks};
 use kb_engine::generate::{self, damage};
 use std::collections::BTreeMap;
 use std::process::ExitCode;
@@ -111,7 +112,7 @@ impl Comparison {
         self.problems += 1;
         *self.by_family.entry(family).or_default() += 1;
         match checker.problem(problem, setting) {
-            Ok(answers) => self.note(&answers),
+            Ok(answers) => self.note(problem, &answers),
             Err(difference) => {
                 println!("DIFFERENT in {}", difference.call);
                 println!("  {family}, number {number}: {}", hex(problem));
@@ -136,7 +137,7 @@ impl Comparison {
         }
     }
 
-    fn note(&mut self, answers: &Answers) {
+    fn note(&mut self, problem: &[u8], answers: &Answers) {
         let complete = match (answers.end, decode(answers.complete)) {
             (Some(end), _) => format!("complete: end {end:2}"),
             (None, (_, number, _)) => format!("complete: refused {number:2}"),
@@ -151,7 +152,13 @@ impl Comparison {
             (0, number, _) => format!("compare: refused {number:2}"),
             (_, _, answer) => format!("compare: {answer}"),
         };
-        for key in [complete, unify, compare] {
+        let ranks = match ranks(problem) {
+            Some(Ranks::AllEqual) => "ranks: all equal",
+            Some(Ranks::SomeEqual) => "ranks: some equal",
+            Some(Ranks::Distinct) => "ranks: distinct",
+            None => "ranks: no table",
+        };
+        for key in [complete, unify, compare, ranks.to_string()] {
             *self.seen.entry(key).or_default() += 1;
         }
     }

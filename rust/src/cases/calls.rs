@@ -15,6 +15,7 @@ const SHORT_BUFFER: u8 = 2;
 pub fn cases() -> Cases {
     let mut cases = Cases(Vec::new());
     instances(&mut cases);
+    super::equal_ranks(&mut cases);
     refusals::terms(&mut cases);
     positions(&mut cases);
     refusals::headers(&mut cases);

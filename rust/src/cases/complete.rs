@@ -16,6 +16,7 @@ pub fn cases() -> Cases {
     let mut cases = Cases(Vec::new());
     papers(&mut cases);
     instances(&mut cases);
+    equal_ranks(&mut cases);
     turns(&mut cases);
     sizes(&mut cases);
     counts(&mut cases);
@@ -59,6 +60,16 @@ fn instances(cases: &mut Cases) {
     cases.bytes("instance 11", groups().problem(9));
     cases.equation("instance 12", "*(x,y) = *(y,x)");
     cases.equation("instance 13", "x = x");
+}
+
+/// Two symbols of one rank: a theory that completes, one that ends 20 and
+/// would not with another rank, and each clause alone.
+fn equal_ranks(cases: &mut Cases) {
+    let arithmetic = theories::unranked_arithmetic();
+    run(cases, "one rank for + and -", arithmetic);
+    run(cases, "20: one rank", theories::difference(1));
+    run(cases, "0: two ranks", theories::difference(2));
+    super::equal_ranks(cases);
 }
 
 /// Right sides are normalised by the live rules as they then read: b to c

@@ -11,7 +11,7 @@ mod refusals;
 use crate::fields::push_field;
 use crate::notation::Theory;
 use crate::problem::Refusal;
-use crate::theories::GROUP;
+use crate::theories::{one_rank, GROUP};
 use std::io::{self, Write};
 
 /// What is asked of a problem, under a name.
@@ -95,6 +95,14 @@ impl Cases {
             false => self.input(),
         };
         io::stdout().lock().write_all(&bytes)
+    }
+}
+
+/// f and g have one rank: of the three clauses only the first can hold.
+fn equal_ranks(cases: &mut Cases) {
+    let equations = ["f(x) = g(x)", "f(g(x)) = g(x)", "f(f(x)) = g(x)"];
+    for equation in equations {
+        cases.bytes(equation, one_rank(equation).problem(9));
     }
 }
 

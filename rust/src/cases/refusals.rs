@@ -33,7 +33,7 @@ pub fn tables(cases: &mut Cases) {
     cases.symbols("rank 16", &[4, 16]);
     cases.symbols("second arity 5", &[4, 0, 5, 0]);
     cases.symbols("rank twice", &[0, 1, 0, 1]);
-    cases.symbols("third rank twice", &[0, 1, 0, 2, 0, 2]);
+    cases.symbols("16 symbols of one rank", &[4, 15].repeat(16));
 }
 
 fn budget(cases: &mut Cases, name: &str, budget: u32) {
@@ -76,7 +76,7 @@ pub fn order(cases: &mut Cases) {
     cases.symbols("length before the symbols", &[9; 34]);
     cases.symbols("arity before the rank", &[4, 15, 5, 16]);
     cases.symbols("rank before the next arity", &[4, 15, 4, 16, 5, 0]);
-    cases.symbols("same rank before the next arity", &[4, 15, 4, 15, 5, 0]);
+    cases.symbols("rank twice, then arity 5", &[4, 15, 4, 15, 5, 0]);
     let sixteen = fixed::trivial(16).problem(9);
     let fields: [(&str, &[u8]); 3] = [
         ("a seventeenth equation, unread", &[3, 0, 0]),

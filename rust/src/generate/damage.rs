@@ -80,11 +80,13 @@ fn push_random_field(out: &mut Vec<u8>, random: &mut Random, tag: u8) {
 fn bases() -> [Vec<u8>; 4] {
     let unary = Theory::new("c/0/0 f/1/1");
     let group = Theory::new("e/0/0 i/1/2 */2/1");
+    let shared = group.clone().with_ranks(&[0, 1, 1]);
+    let equal = unary.clone().with_ranks(&[1, 1]);
     [
-        unary.clone().equation("f(f(x)) = x").problem(100),
-        group.clone().equation("*(i(x),x) = e").problem(7),
+        unary.equation("f(f(x)) = x").problem(100),
+        shared.equation("*(i(x),x) = e").problem(7),
         group.equations(&["*(x,e) = x", "i(i(x)) = x"]).problem(9),
-        unary.equation("f(c) = c").problem(1_000_000),
+        equal.equation("f(c) = c").problem(1_000_000),
     ]
 }
 

@@ -111,11 +111,9 @@ fn long_problems(random: &mut Random) -> Vec<u8> {
 
 fn symbol_tables(random: &mut Random) -> Vec<u8> {
     let count = *random.pick(&[0, 1, 2, 15, 16, 17]);
-    let ranks = random.permutation(17);
     let mut table = Vec::new();
-    for rank in ranks.into_iter().take(count) {
-        let rank = if rank == 16 { 3 } else { rank };
-        table.extend([random.below(5) as u8, rank as u8]);
+    for _ in 0..count {
+        table.extend([random.below(5) as u8, random.below(16) as u8]);
     }
     if random.once_in(6) && !table.is_empty() {
         let place = random.below(table.len());

@@ -1,14 +1,16 @@
 //! Problems by seed and index, for comparing engines.
 //!
 //! `problem` is a function of its two numbers alone. The index modulo the
-//! number of families chooses the family, the rest varies it. Most budgets
-//! are small, so that many problems can be run. `damage::exhaustive` lists
-//! all truncations and single-byte changes of some problems.
+//! number of families chooses the family, the rest varies it. In a third of
+//! the problems symbols share a rank. Most budgets are small, so that many
+//! problems can be run. `damage::exhaustive` lists all truncations and
+//! single-byte changes of some problems.
 
 pub mod damage;
 pub mod edges;
 pub mod limits;
 pub mod random;
+pub mod ranks;
 pub mod terms;
 pub mod theory;
 pub mod words;
@@ -52,11 +54,19 @@ pub fn family(index: u64) -> &'static str {
     FAMILIES[(index % FAMILY_COUNT) as usize].0
 }
 
+/// Sets the choice of shared ranks apart from the problem's own numbers.
+const RANKS: u64 = 0x5241_4e4b;
+
 /// The problem of a seed and an index.
 pub fn problem(seed: u64, index: u64) -> Vec<u8> {
     let (number, variant) = (index % FAMILY_COUNT, index / FAMILY_COUNT);
-    if number == SWEEP {
-        return theory::sweep(seed, variant / SWEPT_BUDGETS, variant % SWEPT_BUDGETS);
-    }
-    FAMILIES[number as usize].1(&mut Random::new(seed, index))
+    let swept = variant / SWEPT_BUDGETS;
+    let (mut problem, of_ranks) = if number == SWEEP {
+        (theory::sweep(seed, swept, variant % SWEPT_BUDGETS), swept)
+    } else {
+        let family = FAMILIES[number as usize].1;
+        (family(&mut Random::new(seed, index)), index)
+    };
+    ranks::share(&mut problem, &mut Random::new(seed ^ RANKS, of_ranks));
+    problem
 }
