@@ -5,9 +5,13 @@ use Prim.Native.Nat.{ℕ, _+_, _*_, _-_}
 abbrev pub most-symbols : ℕ
 most-symbols = 16
 
--- "arity 0 to 4"
+-- "arity 0 to 4" [16.10]
 abbrev pub most-arity : ℕ
 most-arity = 4
+
+-- "rank 0 to 15" [16.10]
+abbrev pub most-rank : ℕ
+most-rank = 15
 
 -- "Variable n (0 to 15) is byte 80 + n." "The taken pair has at most 16 different variables." [16.2]
 abbrev pub most-variables : ℕ

@@ -12,6 +12,9 @@ pub const SYMBOLS_END: u8 = SYMBOLS as u8;
 // "arity 0 to 4"
 pub const ARITY: u8 = 4;
 
+// "rank 0 to 15"
+pub const RANK: u8 = 15;
+
 // "Variable n (0 to 15) is byte 80 + n." "The taken pair has at most 16 different variables."
 pub const VARIABLES: usize = 16;
 

@@ -5,7 +5,7 @@ use mathlib.Core.List.{List, [], _∷_, _++_}
 use Prim.Native.Nat.{ℕ, suc, _+_, _*_, _%_, _≤_, _<_}
 use lib.Dec.{eqb, ltb}
 use lib.ListN.{length, take, drop}
-use Rattle.limits.specs.Limits.{most-symbols, two-byte-values}
+use Rattle.limits.specs.Limits.{most-symbols, most-arity, most-rank, two-byte-values}
 use Rattle.terms.specs.Base.{if_then_else_}
 use Rattle.terms.specs.Term.{Term, size, term-bytes, Pair, renamed}
 use Rattle.terms.specs.Flat.{Wf}
@@ -53,8 +53,8 @@ unfoldable pub check-symbols : ℕ → List ℕ → Reading (Unit {0})
 check-symbols at [] = ok tt
 check-symbols at (arity ∷ []) = ok tt
 check-symbols at (arity ∷ rank ∷ l) = do
-  _ ← refuse-if (ltb 4 arity) wrong-arity-or-rank at
-  _ ← refuse-if (ltb 15 rank) wrong-arity-or-rank (at + 1)
+  _ ← refuse-if (ltb most-arity arity) wrong-arity-or-rank at
+  _ ← refuse-if (ltb most-rank rank) wrong-arity-or-rank (at + 1)
   check-symbols (at + 2) l
 
 -- symbols whose bytes begin at any place: a place in the answer counts from there

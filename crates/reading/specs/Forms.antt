@@ -5,7 +5,7 @@ use mathlib.Core.List.{List, [], _∷_}
 use Prim.Native.Nat.{ℕ, zero, suc, _+_, _-_}
 use lib.Dec.{ltb, leb}
 use lib.ListN.{length, take, drop, getD}
-use Rattle.limits.specs.Limits.{most-nodes}
+use Rattle.limits.specs.Limits.{most-arity, most-rank, most-nodes}
 use Rattle.terms.specs.Base.{if_then_else_, number-from}
 use Rattle.terms.specs.Term.{Term, var, node, Terms, nil, cons, size}
 use Rattle.reading.specs.Stops.{cut-field, wrong-arity-or-rank, wrong-term, large-side}
@@ -59,8 +59,8 @@ unfoldable pub read-symbols : ℕ → List ℕ → Reading (List Symbol)
 read-symbols at [] = ok []
 read-symbols at (arity ∷ []) = ok []
 read-symbols at (arity ∷ rank ∷ bytes) = do
-  _ ← refuse-if (ltb 4 arity) wrong-arity-or-rank at
-  _ ← refuse-if (ltb 15 rank) wrong-arity-or-rank (at + 1)
+  _ ← refuse-if (ltb most-arity arity) wrong-arity-or-rank at
+  _ ← refuse-if (ltb most-rank rank) wrong-arity-or-rank (at + 1)
   Σ ← read-symbols (at + 2) bytes
   ok (record { arity = arity; rank = rank } ∷ Σ)
 

@@ -65,10 +65,10 @@ fn ranked(table: &[u8]) -> Symbols
 {
     let mut k: usize = 0;
     while k + k + 1 < table.len() {
-        if table[k + k] > 4 {
+        if table[k + k] > limits::ARITY {
             return Symbols::WrongByte(k + k);
         }
-        if table[k + k + 1] > 15 {
+        if table[k + k + 1] > limits::RANK {
             return Symbols::WrongByte(k + k + 1);
         }
         k += 1;
