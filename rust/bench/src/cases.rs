@@ -96,6 +96,11 @@ fn terms() -> Vec<Case> {
             Call::Compare,
             chains(&is, &power("j", 119, "x")),
         ),
+        case(
+            "compare two chains of one rank",
+            Call::Compare,
+            chains(&mixed("i", "j"), &mixed("j", "i")).with_ranks(&[1, 1]),
+        ),
         case("compare full binary trees", Call::Compare, trees.clone()),
         case("unify full binary trees", Call::Unify, trees),
         case("unify doubling, 4 variables", Call::Unify, doubling(4, &[])),
@@ -121,6 +126,13 @@ fn terms() -> Vec<Case> {
         ),
         case("read 16 equations of 240", Call::Compare, sixteen_long()),
     ]
+}
+
+/// 119 symbols in turn, the first one at both ends.
+fn mixed(first: &str, second: &str) -> String {
+    let inside = format!("{first}(x)");
+    let open = format!("{first}({second}(").repeat(59);
+    format!("{open}{inside}{}", "))".repeat(59))
 }
 
 /// One equation over unary i above j.
