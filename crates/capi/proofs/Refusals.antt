@@ -152,14 +152,18 @@ module _ (Σ : List Symbol) (e : ℕ) where
       from-bind _ _ p q λ _ _ q.
       let s : t ≡ p = ok-injective q in rw (← s) (term-behind (suc (length bytes)) at bytes t r)
 
-  equation-within : (f : ReadField) → f .first + 3 + length (f .contents) ≤ e → RefusesWithin e (equation-field Σ f)
-  unfolding equation-field
-  equation-within f k =
-      bind-within _ _ (side-within (f .first + 3) (f .contents) k) λ l p.
-      let a = side-behind (f .first + 3) (f .contents) l p in
+  pair-within : (at : ℕ) (bytes : List ℕ) → at + length bytes ≤ e → RefusesWithin e (read-pair Σ at bytes)
+  unfolding read-pair
+  pair-within at bytes k =
+      bind-within _ _ (side-within at bytes k) λ l p.
+      let a = side-behind at bytes l p in
       bind-within _ _ (side-within (l .end) (l .rest) (omega arith)) λ r q.
       let b = side-behind (l .end) (l .rest) r q in
       bind-within _ _ (test-within _ 10 (r .end) refl (omega arith)) λ _ _. was-read
+
+  equation-within : (f : ReadField) → f .first + 3 + length (f .contents) ≤ e → RefusesWithin e (equation-field Σ f)
+  unfolding equation-field
+  equation-within f k = bind-within _ _ (pair-within (f .first + 3) (f .contents) k) λ _ _. was-read
 
   equations-within : (more at : ℕ) (bytes : List ℕ) → at + length bytes ≤ e → RefusesWithin e (equation-fields Σ more at bytes)
   unfolding equation-fields
@@ -187,7 +191,7 @@ module _ (Σ : List Symbol) (e : ℕ) where
       let w : FieldWithin at (b ∷ bytes) f = due-parts 0x03 at (b ∷ bytes) f p in
       let r : d ∷ ds ≡ es = ok-injective q in
       let n : f .first ≡ d .first =
-      from-bind _ _ d h λ _ _ h. from-bind _ _ d h λ _ _ h. from-bind _ _ d h λ _ _ h. ap (λ (q : Equation). q .first) (ok-injective h) in
+      from-bind _ _ d h λ _ _ h. ap (λ (q : Equation). q .first) (ok-injective h) in
       let low : d .first ≤ e = omega (arith, w .first) in
       rw (← r) (of-cons low (firsts-within more (f .end) (f .rest) ds (omega (arith, w .rest)) c))
 

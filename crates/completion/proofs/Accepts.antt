@@ -10,9 +10,9 @@ use lib.Dec.{eqb, ltb}
 use lib.ListN.{length}
 use borrow.Author.Tests.{ltb-false}
 use Rattle.terms.specs.Base.{number-from, Every, of-none, of-cons}
-use Rattle.terms.specs.Term.{Term, size}
+use Rattle.terms.specs.Term.{Term, size, Pair}
 use Rattle.terms.proofs.Every.{every-head}
-use Rattle.problem.specs.Problem.{ok, ReadField, Symbol, read-symbols, symbol-field, budget-field, ReadPart, read-side, Equation, equation-field}
+use Rattle.problem.specs.Problem.{ok, ReadField, Symbol, read-symbols, symbol-field, budget-field, ReadPart, read-side, read-pair, Equation, equation-field}
 use Rattle.problem.specs.Problem.{equation-fields, Problem, parse, only-equation}
 use Rattle.completion.specs.Calls.{Single, parse-single}
 use Rattle.problem.specs.Over.{Over}
@@ -67,16 +67,23 @@ module _ (Σ : List Symbol) where
       let r : ReadsTo Σ at bytes t = reads Σ (suc (length bytes)) at bytes t a in
       rw (← q) (record { small = ltb-false 120 (size (t .part)) (passed _ 11 at u b); made = r .made }, r .over)
 
-  equation-fits : (f : ReadField) (e : Equation) → equation-field Σ f ≡ ok e → HeldPair n 16 (e .sides) × OverPair Σ (e .sides)
-  unfolding equation-field
-  equation-fits f e h =
+  pub pair-fits : (at : ℕ) (bytes : List ℕ) (e : Pair) → read-pair Σ at bytes ≡ ok e → HeldPair n 16 e × OverPair Σ e
+  unfolding read-pair
+  pair-fits at bytes e h =
       from-bind _ _ e h λ l a h.
       from-bind _ _ e h λ r b h.
       from-bind _ _ e h λ _ _ h.
-      let q : record { first = f .first; sides = record { left = l .part; right = r .part } } ≡ e = ok-injective h in
-      let x = side-fits (f .first + 3) (f .contents) l a in
+      let q : record { left = l .part; right = r .part } ≡ e = ok-injective h in
+      let x = side-fits at bytes l a in
       let y = side-fits (l .end) (l .rest) r b in
       rw (← q) (record { left = x .0; right = y .0 }, (x .1, y .1))
+
+  equation-fits : (f : ReadField) (e : Equation) → equation-field Σ f ≡ ok e → HeldPair n 16 (e .sides) × OverPair Σ (e .sides)
+  unfolding equation-field
+  equation-fits f e h =
+      from-bind _ _ e h λ d a h.
+      let q : record { first = f .first; sides = d } ≡ e = ok-injective h in
+      rw (← q) (pair-fits (f .first + 3) (f .contents) d a)
 
   record EquationsFit (more : ℕ) (es : List Equation) : Type 0 where
     few : length es ≤ more

@@ -75,6 +75,10 @@ most-pairs = most-rules + 1
 abbrev pub most-entries : ℕ
 most-entries = 512
 
+-- "rule numbers 1 to 512": a rule is made with an entry [16.11]
+abbrev pub most-number : ℕ
+most-number = most-entries
+
 -- "the budget, four bytes, high byte first, 0 to 1,000,000" [16.5]
 abbrev pub most-budget : ℕ
 most-budget = 1_000_000
@@ -86,6 +90,10 @@ most-problem = 8192
 -- "result buffer under 16,384 bytes" [16.7]
 abbrev pub least-buffer : ℕ
 least-buffer = 16_384
+
+-- "the record is over 16,384 bytes" [16.12]
+abbrev pub most-record : ℕ
+most-record = least-buffer
 
 -- A field's tag in one byte and the length of its contents in two.
 abbrev pub field-head : ℕ

@@ -60,6 +60,9 @@ pub const PAIRS: usize = RULES + 1;
 // "24 when a 513th log entry is due"
 pub const ENTRIES: usize = 512;
 
+// "rule numbers 1 to 512": a rule is made with an entry.
+pub const NUMBERS: usize = ENTRIES;
+
 // "the budget, four bytes, high byte first, 0 to 1,000,000"
 pub const BUDGET: usize = 1_000_000;
 
@@ -68,6 +71,9 @@ pub const PROBLEM: usize = 8192;
 
 // "result buffer under 16,384 bytes"
 pub const BUFFER: usize = 16384;
+
+// "the record is over 16,384 bytes"
+pub const RECORD: usize = BUFFER;
 
 // A field's tag in one byte and the length of its contents in two.
 pub const FIELD_HEAD: usize = 3;

@@ -1,38 +1,21 @@
 -- An equation field is a pair that fills its contents: a lemma for each return of `equation`. Assumes nothing.
--- Read first: specs/Parser, reading/specs/Answers (read-pair, PairAt).
+-- Read first: specs/Parser, reading/specs/Forms (read-pair), reading/specs/Answers (PairAt).
 use mathlib.Core.Path.{_≡_, refl, _∙_}
 use mathlib.Core.List.{List, [], _∷_}
 use Prim.Native.Nat.{ℕ, zero, suc, _+_, _-_, _<_, _≤_}
 use native.Mathlib.Omega.{arith}
 use lib.ListN.{length, drop, length-drop}
 use Rattle.terms.specs.Term.{Pair}
-use Rattle.reading.specs.Answers.{between, read-pair, PairAt}
+use Rattle.reading.specs.Forms.{read-pair}
+use Rattle.reading.specs.Answers.{between, PairAt}
 use Rattle.reading.proofs.Reading.{bind-ok, bind-refused}
 use Rattle.problem.specs.Problem.{Reading, ok, refused, _>>=_, ReadField, due, Symbol, equation-field, equation-fields}
 use Rattle.problem.specs.Parser.{field-at, symbols-of, FieldAt}
 
--- what is done with the pair may be done behind it
-behind-one : {C D E : Type 0} (f : D → E) (c : Reading C) (d : D) → (c >>= λ _. ok (f d)) ≡ ((c >>= λ _. ok d) >>= λ x. ok (f x))
-unfolding _>>=_
-behind-one f (ok u) d = refl
-behind-one f (refused n p) d = refl
-
-behind-two : {B C D E : Type 0} (f : D → E) (b : Reading B) (c : B → Reading C) (d : B → D) →
-    (b >>= λ y. c y >>= λ _. ok (f (d y))) ≡ ((b >>= λ y. c y >>= λ _. ok (d y)) >>= λ x. ok (f x))
-unfolding _>>=_
-behind-two f (ok y) c d = behind-one f (c y) (d y)
-behind-two f (refused n p) c d = refl
-
-behind-three : {A B C D E : Type 0} (f : D → E) (a : Reading A) (b : A → Reading B) (c : B → Reading C) (d : A → B → D) →
-    (a >>= λ x. b x >>= λ y. c y >>= λ _. ok (f (d x y))) ≡ ((a >>= λ x. b x >>= λ y. c y >>= λ _. ok (d x y)) >>= λ x. ok (f x))
-unfolding _>>=_
-behind-three f (ok x) b c d = behind-two f (b x) c (d x)
-behind-three f (refused n p) b c d = refl
-
 pub equation-is : (Σ : List Symbol) (l : List ℕ) (at e : ℕ) →
     equation-field Σ (field-at 0x03 l at e) ≡ (read-pair Σ (at + 3) (between l (at + 3) e) >>= λ p. ok (record { first = at; sides = p }))
-unfolding equation-field read-pair field-at
-equation-is Σ l at e = behind-three _ _ _ _ _
+unfolding equation-field field-at
+equation-is Σ l at e = refl
 
 -- `equation` returns: m is what is left at `at`
 module _ (Σ : List Symbol) (at : ℕ) where

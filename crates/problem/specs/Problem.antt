@@ -1,5 +1,5 @@
 -- Document 01, "The problem's fields" and "Stops and what they leave", 2 to 12: a problem's bytes read front to back. Assumes nothing.
--- Read first: reading/specs/Forms (a field, symbols, a term, a side).
+-- Read first: reading/specs/Forms (a field, symbols, a term, a side, a pair).
 use mathlib.Core.Bool.{not, _||_}
 use mathlib.Core.List.{List, [], _∷_}
 use Prim.Native.Nat.{ℕ, zero, suc, _+_, _%_, _*_}
@@ -8,9 +8,9 @@ use lib.ListN.{length}
 use Rattle.limits.specs.Limits.{most-symbols, most-budget, most-problem, most-equations}
 use Rattle.terms.specs.Base.{number-from}
 use Rattle.terms.specs.Term.{Pair}
-use Rattle.reading.specs.Stops.{long-problem, wrong-tag, wrong-symbol-field, wrong-budget, many-equations, wrong-term, not-one-equation}
+use Rattle.reading.specs.Stops.{long-problem, wrong-tag, wrong-symbol-field, wrong-budget, many-equations, not-one-equation}
 pub use Rattle.reading.specs.Forms.{Reading, ok, refused, ReadField, Symbol, Byte, symbol, variable, neither, ReadPart}
-unfoldable pub use Rattle.reading.specs.Forms.{_>>=_, refuse-if, read-field, arity-of, rank-of, read-symbols, byte-of, read-terms, read-term, read-side}
+unfoldable pub use Rattle.reading.specs.Forms.{_>>=_, refuse-if, read-field, arity-of, rank-of, read-symbols, byte-of, read-terms, read-term, read-side, read-pair}
 
 -- 4: "tag not the one due, or the problem ends where tag 01 or 02 is due", at the "field's first byte or the end" [4.4, 4.16]
 unfoldable pub due : ℕ → ℕ → List ℕ → Reading ReadField
@@ -40,13 +40,11 @@ pub record Equation : Type 0 where
   pub first : ℕ
   pub sides : Pair
 
--- "an equation, left term then right term"; 10: "byte after the right term", at "that byte" [3.7, 4.10, 4.18]
+-- "an equation, left term then right term" [3.7, 4.18]
 unfoldable pub equation-field : List Symbol → ReadField → Reading Equation
 equation-field Σ f = do
-  l ← read-side Σ (f .first + 3) (f .contents)
-  r ← read-side Σ (l .end) (l .rest)
-  _ ← refuse-if (ltb 0 (length (r .rest))) wrong-term (r .end)
-  ok (record { first = f .first; sides = record { left = l .part; right = r .part } })
+  e ← read-pair Σ (f .first + 3) (f .contents)
+  ok (record { first = f .first; sides = e })
 
 -- "tag 03, 0 to 16 times"; 9: "seventeenth equation field", at the "field's first byte". The first number says how many may still come.
 -- [3.2, 3.8, 4.9, 4.16, 4.19]

@@ -20,8 +20,8 @@ use Rattle.terms.specs.declared.Ends.the-variants.{At, Bad}
 use Rattle.terms.proofs.Bytes.{length-bytes}
 use Rattle.terms.proofs.Scans.{owes-symbol, owes-other, scan-none}
 use Rattle.reading.specs.Forms.{Reading, ok, refused, _>>=_, refuse-if, Symbol, arity-of, rank-of, Byte, symbol, variable, neither, byte-of, ReadPart}
-use Rattle.reading.specs.Forms.{read-term, read-terms, read-side}
-use Rattle.reading.specs.Answers.{symbols-of, Table, between, TermAt, IsTerm, SideAt, read-pair, PairAt}
+use Rattle.reading.specs.Forms.{read-term, read-terms, read-side, read-pair}
+use Rattle.reading.specs.Answers.{symbols-of, Table, between, TermAt, IsTerm, SideAt, PairAt}
 use Rattle.reading.proofs.Reading.{reads, bind-ok, bind-refused}
 
 -- the symbols of a table, by number

@@ -1,6 +1,6 @@
 -- What is read from bytes stands there: a term that is well-formed over the table, with its bytes at the front; a side of at most 120 nodes; a pair
 -- that fills the bytes. Assumes nothing.
--- Read first: specs/Answers (read-pair), proofs/Reading, terms/specs/Flat (Wf).
+-- Read first: specs/Forms (read-pair), proofs/Reading, terms/specs/Flat (Wf).
 use mathlib.Core.Path.{_≡_, ap, _∙_, subst}
 use mathlib.Core.List.{List, _++_, append-nil}
 use Prim.Native.Nat.{ℕ, _<_, _≤_}
@@ -11,9 +11,9 @@ use Rattle.terms.specs.Term.{Term, var, node, Terms, nil, cons, size, term-byte
 use Rattle.terms.specs.Flat.{Wf, Wfs}
 use Rattle.terms.proofs.Lists.{nothing}
 use Rattle.terms.proofs.Limits.{Made, MadeAll}
-use Rattle.reading.specs.Forms.{ok, ReadPart, read-term, read-side}
+use Rattle.reading.specs.Forms.{ok, ReadPart, read-term, read-side, read-pair}
 use Rattle.reading.specs.Over.{Over, OverAll}
-use Rattle.reading.specs.Answers.{symbols-of, Table, read-pair}
+use Rattle.reading.specs.Answers.{symbols-of, Table}
 use Rattle.reading.proofs.Reading.{from-bind, passed, reads, ok-injective}
 use Rattle.reading.proofs.Scanned.{arity-is}
 

@@ -12,7 +12,7 @@ use Rattle.terms.specs.Flat.{Wf}
 use Rattle.terms.specs.declared.Ends.{Ends}
 use Rattle.terms.specs.declared.Ends.the-variants.{At as Ends-at, Bad}
 use Rattle.reading.specs.Stops.{cut-field, wrong-arity-or-rank, wrong-term, large-side}
-use Rattle.reading.specs.Forms.{Reading, ok, refused, _>>=_, refuse-if, ReadField, read-field, Symbol, read-symbols, read-term, read-side}
+use Rattle.reading.specs.Forms.{Reading, ok, refused, _>>=_, refuse-if, ReadField, read-field, Symbol, read-symbols, read-term, read-side, read-pair}
 use Rattle.reading.specs.declared.Field.{Field}
 use Rattle.reading.specs.declared.Field.the-variants.{Cut, At as Field-at}
 use Rattle.reading.specs.declared.Symbols.{Symbols}
@@ -101,14 +101,6 @@ abbrev pub IsSide : List ℕ → List ℕ → ℕ → ℕ → Side → Type 0
 IsSide tab l at end (Side-at e) = (x : Term) × SideAt tab l at end e x
 IsSide tab l at end (Wrong p) = read-side (symbols-of tab) at (between l at end) ≡ refused wrong-term p
 IsSide tab l at end Large = read-side (symbols-of tab) at (between l at end) ≡ refused large-side at
-
--- left side, right side, and nothing behind them
-unfoldable pub read-pair : List Symbol → ℕ → List ℕ → Reading Pair
-read-pair Σ at bytes = do
-  l ← read-side Σ at bytes
-  r ← read-side Σ (l .end) (l .rest)
-  _ ← refuse-if (ltb 0 (length (r .rest))) wrong-term (r .end)
-  ok (record { left = l .part; right = r .part })
 
 -- the left side ends at m, where the right one begins
 pub record PairAt (tab l : List ℕ) (at end m : ℕ) (p : Pair) : Type 0 where

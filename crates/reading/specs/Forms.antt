@@ -1,4 +1,4 @@
--- Document 01, "Terms" and "The problem's fields": what is read from bytes, wherever it stands: a field, symbols, a term, a side. A refusal has its
+-- Document 01, "Terms" and "The problem's fields": what is read from bytes, wherever it stands: a field, symbols, a term, a side, a pair. A refusal has its
 -- number of "Stops and what they leave" and its place. Assumes nothing.
 use mathlib.Core.Bool.{Bool, true, false, _&&_}
 use mathlib.Core.List.{List, [], _∷_}
@@ -7,7 +7,7 @@ use lib.Dec.{ltb, leb}
 use lib.ListN.{length, take, drop, getD}
 use Rattle.limits.specs.Limits.{most-arity, most-rank, most-nodes}
 use Rattle.terms.specs.Base.{if_then_else_, number-from}
-use Rattle.terms.specs.Term.{Term, var, node, Terms, nil, cons, size}
+use Rattle.terms.specs.Term.{Term, var, node, Terms, nil, cons, size, Pair}
 use Rattle.reading.specs.Stops.{cut-field, wrong-arity-or-rank, wrong-term, large-side}
 
 -- What was read, or the refusal's number and place [4.13].
@@ -111,3 +111,11 @@ read-side Σ at bytes = do
   t ← read-term Σ (suc (length bytes)) at bytes
   _ ← refuse-if (ltb most-nodes (size (t .part))) large-side at
   ok t
+
+-- left side, right side, and nothing behind them; 10: "byte after the right term", at "that byte" [3.7, 4.10, 4.18]
+unfoldable pub read-pair : List Symbol → ℕ → List ℕ → Reading Pair
+read-pair Σ at bytes = do
+  l ← read-side Σ at bytes
+  r ← read-side Σ (l .end) (l .rest)
+  _ ← refuse-if (ltb 0 (length (r .rest))) wrong-term (r .end)
+  ok (record { left = l .part; right = r .part })

@@ -1,4 +1,4 @@
--- Document 01, "Stops and what they leave": the refusals' numbers, each once. The ends of a run have theirs in `end-number` of
+-- Document 01, "Stops and what they leave", and document 02: the refusals' numbers, each once. The ends of a run have theirs in `end-number` of
 -- rewriting/specs/Rewrite. Where a refusal is given, and with which place, stands at its use. Assumes nothing.
 use Prim.Native.Nat.{ℕ}
 
@@ -45,3 +45,16 @@ large-side = 11
 -- "compare, unify, subterm: equation fields are not exactly one" [4.12]
 abbrev pub not-one-equation : ℕ
 not-one-equation = 12
+
+-- Document 02, Three: "when the record is over 16,384 bytes .., ends where a field is due .., or has a field that is cut, out of order or against
+-- document 01's layout, renaming and limits" [18.3, 18.4]
+abbrev pub wrong-record : ℕ
+wrong-record = 13
+
+-- "when the record's end is not 0" [18.10]
+abbrev pub not-complete : ℕ
+not-complete = 14
+
+-- "when a rule's left side is not above its right side" [18.11]
+abbrev pub not-above : ℕ
+not-above = 15

@@ -13,7 +13,7 @@ pub const REMOVED_RULE: u8 = 2;
 
 pub const SCANNED_INPUT: u8 = 3;
 
-const OVERLAPPING: u8 = 4;
+pub const OVERLAPPING: u8 = 4;
 
 // The first number of a mark stands behind its kind.
 pub const FIRST: usize = 1;

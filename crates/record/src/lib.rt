@@ -1,0 +1,353 @@
+// A result record's bytes, read front to back over a problem's symbols. A field that is bad has its first byte for a place; the refusal's number is
+// the caller's.
+ghost use mathlib.Core.Path.{_≡_};
+ghost use Prim.Native.Nat.{_+_, _*_, _≤_};
+ghost use lib.ListN.{length};
+ghost use Rattle.limits.specs.Limits.{most-rules, most-record};
+ghost use Rattle.reading.specs.Answers.{Table};
+ghost use Rattle.slots.specs.Slots.{slot-width};
+ghost use Rattle.record.specs.Record.{listed-end};
+ghost use Rattle.record.specs.Reader.{IsEnd, IsUnits, IsEntry, IsForms, IsHeld, IsRule, IsRules, IsEntries, IsNothing, IsLast, IsBehind};
+ghost use Rattle.record.specs.Reader.{IsRecord};
+use limits::FIELD_HEAD;
+
+// The tags of a result's fields.
+const END: u8 = 0x10;
+
+const UNITS: u8 = 0x11;
+
+const RULE: u8 = 0x12;
+
+const ENTRY: u8 = 0x13;
+
+const FORMS: u8 = 0x14;
+
+// The end of a run that could orient no side: field 14 is due with it alone.
+const NEITHER: usize = 20;
+
+// Where the units' field and the first rule's begin: the fields before them have one length only.
+const UNITS_AT: usize = FIELD_HEAD + 1;
+
+pub const RULES_AT: usize = UNITS_AT + FIELD_HEAD + 4;
+
+// A rule's field before its left side: the field's head, and the rule's number.
+pub const RULE_HEAD: usize = FIELD_HEAD + 2;
+
+pub enum Field {
+    // A number, or the place behind what was read.
+    Value(usize),
+    // The first byte of a bad field, or the end where one is due.
+    Bad(usize),
+}
+
+// Whether a run ends so.
+fn listed(end: usize) -> bool
+    ensures { λ r. ⌜ r ≡ listed-end end ⌝ }
+{
+    if end == 0 {
+        return true;
+    }
+    if end < 20 {
+        return false;
+    }
+    end <= 24
+}
+
+// Field 10, which stands first: the end.
+fn end_field(kept: &[u8]) -> Field
+    ensures { λ r. ⌜ IsEnd (now (kept .entry)) r ⌝ }
+{
+    match problem::due(kept, 0, END) {
+        problem::Read::Refused {
+            number: _,
+            place: _,
+        } => Field::Bad(0),
+        problem::Read::Value(e) => {
+            if e != UNITS_AT {
+                return Field::Bad(0);
+            }
+            let end = terms::wide(kept[FIELD_HEAD]);
+            if listed(end) {
+                return Field::Value(end);
+            }
+            Field::Bad(0)
+        }
+    }
+}
+
+// Field 11: the units.
+fn units_field(kept: &[u8], at: usize) -> Field
+    ensures { λ r. ⌜ IsUnits (now (kept .entry)) at r ⌝ }
+{
+    match problem::due(kept, at, UNITS) {
+        problem::Read::Refused {
+            number: _,
+            place: _,
+        } => Field::Bad(at),
+        problem::Read::Value(e) => {
+            let start = at + FIELD_HEAD;
+            if e - start != 4 {
+                return Field::Bad(at);
+            }
+            let units = reading::number(kept, start, 4);
+            if units > limits::BUDGET {
+                return Field::Bad(at);
+            }
+            Field::Value(units)
+        }
+    }
+}
+
+pub enum Held {
+    // Where the right side begins.
+    Filled(usize),
+    Bad,
+}
+
+// Two sides, renamed as a pair, which fill the bytes from a place to an end.
+fn renamed_pair(kept: &[u8], table: &[u8], at: usize, end: usize) -> Held
+    requires { ⌜ Table (now table) ⌝ }
+    requires { ⌜ (at ≤ end) × (end ≤ length (now kept)) × (length (now kept) ≤ most-record) ⌝ }
+    ensures { λ r. ⌜ IsHeld (now (table .entry)) (now (kept .entry)) at end r ⌝ }
+{
+    match reading::pair_at(kept, table, at, end) {
+        reading::Pair::Wrong(_) => Held::Bad,
+        reading::Pair::Large(_) => Held::Bad,
+        reading::Pair::Filled(middle) => {
+            if reading::is_renamed(kept, at, end) {
+                return Held::Filled(middle);
+            }
+            Held::Bad
+        }
+    }
+}
+
+pub enum Rule {
+    // Where the right side begins, and where the field ends.
+    At {
+        number: usize,
+        middle: usize,
+        end: usize,
+    },
+    Bad,
+}
+
+// Field 12: a rule whose number is above that of the rule before.
+pub fn rule_field(kept: &[u8], table: &[u8], at: usize, before: usize) -> Rule
+    requires { ⌜ Table (now table) ⌝ }
+    requires { ⌜ length (now kept) ≤ most-record ⌝ }
+    ensures { λ r. ⌜ IsRule (now (table .entry)) (now (kept .entry)) at before r ⌝ }
+{
+    match problem::due(kept, at, RULE) {
+        problem::Read::Refused {
+            number: _,
+            place: _,
+        } => Rule::Bad,
+        problem::Read::Value(end) => {
+            let start = at + RULE_HEAD;
+            if end < start {
+                return Rule::Bad;
+            }
+            let number = reading::number(kept, at + FIELD_HEAD, 2);
+            match renamed_pair(kept, table, start, end) {
+                Held::Bad => Rule::Bad,
+                Held::Filled(middle) => {
+                    if number <= before {
+                        return Rule::Bad;
+                    }
+                    if number > limits::NUMBERS {
+                        return Rule::Bad;
+                    }
+                    Rule::At {
+                        number,
+                        middle,
+                        end,
+                    }
+                }
+            }
+        }
+    }
+}
+
+pub enum Rules {
+    // So many, and the place behind them.
+    Fine { count: usize, end: usize },
+    // The first byte of a bad field.
+    Bad(usize),
+}
+
+// The rules' fields from a place on, at most 32: their sides into slots.
+fn read_rules(kept: &[u8], table: &[u8], at: usize, slots: &mut [u8]) -> Rules
+    requires { ⌜ Table (now table) ⌝ }
+    requires { ⌜ (at ≤ length (now kept)) × (length (now kept) ≤ most-record) ⌝ }
+    requires { ⌜ slot-width * most-rules ≤ length (now slots) ⌝ }
+    ensures { λ r. ⌜ IsRules (now (table .entry)) (now (kept .entry)) at (now (slots .exit)) r ⌝ }
+{
+    let mut count: usize = 0;
+    let mut before: usize = 0;
+    let mut i = at;
+    while i < kept.len() {
+        if count == limits::RULES {
+            return Rules::Fine { count, end: i };
+        }
+        if kept[i] != RULE {
+            return Rules::Fine { count, end: i };
+        }
+        match rule_field(kept, table, i, before) {
+            Rule::Bad => {
+                return Rules::Bad(i);
+            }
+            Rule::At {
+                number,
+                middle,
+                end,
+            } => {
+                let start = i + RULE_HEAD;
+                slots::put_sides(slots, count, &kept[start..middle], &kept[middle..end]);
+                count += 1;
+                before = number;
+                i = end;
+            }
+        }
+    }
+    Rules::Fine { count, end: i }
+}
+
+// Field 13: the place behind it. Only its length and its kind are read.
+pub fn entry_field(kept: &[u8], at: usize) -> Field
+    ensures { λ r. ⌜ IsEntry (now (kept .entry)) at r ⌝ }
+{
+    match problem::due(kept, at, ENTRY) {
+        problem::Read::Refused {
+            number: _,
+            place: _,
+        } => Field::Bad(at),
+        problem::Read::Value(e) => {
+            if e - at != limits::ENTRY {
+                return Field::Bad(at);
+            }
+            let kind = kept[at + FIELD_HEAD];
+            if kind == 0 {
+                return Field::Bad(at);
+            }
+            if kind > slots::origins::OVERLAPPING {
+                return Field::Bad(at);
+            }
+            Field::Value(e)
+        }
+    }
+}
+
+// The log's fields from a place on, at most 512: the place behind them.
+fn read_entries(kept: &[u8], at: usize) -> Field
+    requires { ⌜ at ≤ length (now kept) ⌝ }
+    ensures { λ r. ⌜ IsEntries (now (kept .entry)) at r ⌝ }
+{
+    let mut count: usize = 0;
+    let mut i = at;
+    while i < kept.len() {
+        if count == limits::ENTRIES {
+            return Field::Value(i);
+        }
+        if kept[i] != ENTRY {
+            return Field::Value(i);
+        }
+        match entry_field(kept, i) {
+            Field::Bad(place) => {
+                return Field::Bad(place);
+            }
+            Field::Value(end) => {
+                count += 1;
+                i = end;
+            }
+        }
+    }
+    Field::Value(i)
+}
+
+// Field 14: the place behind it.
+fn forms_field(kept: &[u8], table: &[u8], at: usize) -> Field
+    requires { ⌜ Table (now table) ⌝ }
+    requires { ⌜ length (now kept) ≤ most-record ⌝ }
+    ensures { λ r. ⌜ IsForms (now (table .entry)) (now (kept .entry)) at r ⌝ }
+{
+    match problem::due(kept, at, FORMS) {
+        problem::Read::Refused {
+            number: _,
+            place: _,
+        } => Field::Bad(at),
+        problem::Read::Value(e) => match renamed_pair(kept, table, at + FIELD_HEAD, e) {
+            Held::Bad => Field::Bad(at),
+            Held::Filled(_) => Field::Value(e),
+        },
+    }
+}
+
+// The place is the last: no byte stands there.
+fn nothing_behind(kept: &[u8], at: usize) -> Field
+    ensures { λ r. ⌜ IsNothing (now (kept .entry)) at r ⌝ }
+{
+    if at < kept.len() {
+        return Field::Bad(at);
+    }
+    Field::Value(at)
+}
+
+// What is due behind the log: with end 20 the forms, and nothing else.
+fn last_field(kept: &[u8], table: &[u8], end: usize, at: usize) -> Field
+    requires { ⌜ Table (now table) ⌝ }
+    requires { ⌜ length (now kept) ≤ most-record ⌝ }
+    ensures { λ r. ⌜ IsLast (now (table .entry)) (now (kept .entry)) end at r ⌝ }
+{
+    if end != NEITHER {
+        return nothing_behind(kept, at);
+    }
+    match forms_field(kept, table, at) {
+        Field::Bad(place) => Field::Bad(place),
+        Field::Value(e) => nothing_behind(kept, e),
+    }
+}
+
+pub enum Record {
+    // Its end, and how many rules it has.
+    Fine { end: usize, count: usize },
+    // The first byte of the first bad field, or the end where a field is due.
+    Bad(usize),
+}
+
+// The record behind its first two fields.
+fn read_behind(kept: &[u8], table: &[u8], end: usize, slots: &mut [u8]) -> Record
+    requires { ⌜ Table (now table) ⌝ }
+    requires { ⌜ (11 ≤ length (now kept)) × (length (now kept) ≤ most-record) ⌝ }
+    requires { ⌜ slot-width * most-rules ≤ length (now slots) ⌝ }
+    ensures { λ r. ⌜ IsBehind (now (table .entry)) (now (kept .entry)) end (now (slots .exit)) r ⌝ }
+{
+    match read_rules(kept, table, RULES_AT, slots) {
+        Rules::Bad(place) => Record::Bad(place),
+        Rules::Fine { count, end: log } => match read_entries(kept, log) {
+            Field::Bad(place) => Record::Bad(place),
+            Field::Value(behind) => match last_field(kept, table, end, behind) {
+                Field::Bad(place) => Record::Bad(place),
+                Field::Value(_) => Record::Fine { end, count },
+            },
+        },
+    }
+}
+
+// The record: its end and the number of its rules, whose sides go into slots.
+pub fn read(kept: &[u8], table: &[u8], slots: &mut [u8]) -> Record
+    requires { ⌜ Table (now table) ⌝ }
+    requires { ⌜ slot-width * most-rules ≤ length (now slots) ⌝ }
+    ensures { λ r. ⌜ IsRecord (now (table .entry)) (now (kept .entry)) (now (slots .exit)) r ⌝ }
+{
+    if kept.len() > limits::RECORD {
+        return Record::Bad(limits::RECORD);
+    }
+    match end_field(kept) {
+        Field::Bad(place) => Record::Bad(place),
+        Field::Value(end) => match units_field(kept, UNITS_AT) {
+            Field::Bad(place) => Record::Bad(place),
+            Field::Value(_) => read_behind(kept, table, end, slots),
+        },
+    }
+}
