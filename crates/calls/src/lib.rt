@@ -43,6 +43,7 @@ pub fn compare(problem: &[u8]) -> Compared
             left,
             right,
             end: _,
+            budget: _,
         } => named(order::comparison(&problem[left..], &problem[right..], &problem[3..table_end])),
     }
 }
@@ -85,6 +86,7 @@ pub fn unify(problem: &[u8], result: &mut [u8]) -> Unified
             left,
             right,
             end,
+            budget: _,
         } => answer(instances::common_instance(
             &problem[left..end],
             &problem[3..table_end],
@@ -113,6 +115,7 @@ pub fn subterm_bounds(problem: &[u8], position: usize) -> Bounds
             left,
             right,
             end: _,
+            budget: _,
         } => {
             if position >= right - left {
                 return Bounds { start: 0, end: 0 };

@@ -241,7 +241,7 @@ unfolding parse-single
 single-first bytes S q =
     from-bind _ _ S q λ P p q.
     from-bind _ _ S q λ e h q.
-    let r : record { symbols = P .symbols; equation = e } ≡ S = ok-injective q in
+    let r : record { symbols = P .symbols; budget = P .budget; equation = e } ≡ S = ok-injective q in
     rw (← r) (only-fits (λ (q : Equation). q .first ≤ 8192) (length bytes) (P .equations) e (parse-firsts bytes P p .1) h)
 
 enough-within : (buffer : ℕ) → RefusesWithin 8192 (enough buffer)

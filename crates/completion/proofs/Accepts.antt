@@ -144,6 +144,6 @@ unfolding parse-single
 single-fits bytes S q =
     from-bind _ _ S q λ P a q.
     from-bind _ _ S q λ e b q.
-    let r : record { symbols = P .symbols; equation = e } ≡ S = cc in
+    let r : record { symbols = P .symbols; budget = P .budget; equation = e } ≡ S = cc in
     let k : Accepted P = accepts bytes P a in
     rw (← r) (record { symbols-few = k .symbols-few; fits = only-fits _ (length bytes) (P .equations) e (k .equations-fit) b })

@@ -68,16 +68,17 @@ complete-call bytes buffer = do
   P ← parse bytes
   ok (result-bytes (run P))
 
--- what compare, unify and subterm read [4.15, 12.1]
+-- what compare, unify, subterm and decide read [4.15, 12.1, 18.1]
 pub record Single : Type 0 where
   pub symbols : List Symbol
+  pub budget : ℕ
   pub equation : Equation
 
 unfoldable pub parse-single : List ℕ → Reading Single
 parse-single bytes = do
   P ← parse bytes
   e ← only-equation (length bytes) (P .equations)
-  ok (record { symbols = P .symbols; equation = e })
+  ok (record { symbols = P .symbols; budget = P .budget; equation = e })
 
 -- compare: 1 to 4, or the refusal [12.2]
 unfoldable pub compare-call : List ℕ → Reading ℕ

@@ -5,4 +5,5 @@ pub mod Delivery
 pub mod Transitions
 pub mod Systems
 pub mod Decides
+pub mod Keeps
 pub mod Promise

@@ -14,6 +14,7 @@ use Rattle.problem.specs.Stops.{cut-field, wrong-term}
 use Rattle.rewriting.specs.Overlap.{Rule, sides-of}
 use Rattle.rewriting.specs.Rewrite.{complete}
 use Rattle.completion.specs.Turn.{run}
+use Rattle.completion.specs.Keeps.{Keeps}
 use Rattle.completion.specs.Decides.{Decides}
 use Rattle.completion.specs.Transitions.{Properly, _⨾_, Derivation}
 use Rattle.completion.specs.Systems.{together, given}
@@ -61,7 +62,7 @@ rules-in Σ (f ∷ fs) =
     let here : Reading (List Rule) = rule-of Σ (f .contents) >>= λ r. later >>= λ rs. ok (r ∷ rs) in
     if eqb (f .tag) 0x12 then here else later
 
--- What the result of an accepted problem holds [14.1 to 14.3].
+-- What the result of an accepted problem holds [14.1 to 14.3, 14.12].
 pub record Promise (P : Problem) (result : List ℕ) : Type 0 where
   pub fields : List Field
   pub are-fields : fields-of result ≡ ok fields
@@ -72,6 +73,8 @@ pub record Promise (P : Problem) (result : List ℕ) : Type 0 where
   pub are-rules : rules-in (P .symbols) fields ≡ ok rules
   -- "and are the live rules, each once, as those turns leave them"
   pub are-live : rules ≡ run P .state .rules
+  -- what the turns leave, and so the result, keeps document 01's limits, is renamed, and its rules go down [14.12]
+  pub keeps : Keeps (P .symbols) (run P)
   -- "A rule set is delivered as complete when complete accepts a problem and field 10 of the result it writes holds 0";
   -- "the buyer's equations are its fields of tag 03"
   pub decide : end-in fields ≡ some 0 → Decides (P .symbols) (P .equations) rules

@@ -18,7 +18,7 @@ use Rattle.only_equation.specs.Places.{table, SidesAt}
 
 module _ (l : List ℕ) where
   single-is : (P : Problem) → parse l ≡ ok P →
-      parse-single l ≡ (only-equation (length l) (P .equations) >>= λ e. ok (record { symbols = P .symbols; equation = e }))
+      parse-single l ≡ (only-equation (length l) (P .equations) >>= λ e. ok (record { symbols = P .symbols; budget = P .budget; equation = e }))
   unfolding parse-single
   single-is P h = bind-ok _ h
 
@@ -60,11 +60,13 @@ module _ (l : List ℕ) where
           go q [] i m L = absurd (omega arith)
           go q (q′ ∷ qs) i m L = single-is P (A .is) ∙ bind-refused _ (rw i (ap (refused 12) (L .5 .4 .first-is ∙ end-is _ (L .1))))
 
-      pub sides-at : n ≤ 1 → (r : ℕ) → ((x : Term) → Starts (table l e) (drop start l) x → r ≡ start + size x) → (S : Single) × SidesAt l e start r k S
+      pub sides-at : n ≤ 1 → (r : ℕ) → ((x : Term) → Starts (table l e) (drop start l) x → r ≡ start + size x) →
+          (S : Single) × SidesAt l e start r k S × (S .budget ≡ b)
       unfolding Laid only-equation field-at
       sides-at h r right = with-equations (λ _ _ m. absurd (omega (arith, F .starts, F .low, F .within))) go
         where
-          go : (q : Equation) (qs : List Equation) → P .equations ≡ q ∷ qs → n ≡ length (q ∷ qs) → Follow (q ∷ qs) → (S : Single) × SidesAt l e start r k S
+          go : (q : Equation) (qs : List Equation) → P .equations ≡ q ∷ qs → n ≡ length (q ∷ qs) → Follow (q ∷ qs) →
+              (S : Single) × SidesAt l e start r k S × (S .budget ≡ b)
           go q (q′ ∷ qs) i m L = absurd (omega arith)
           go q [] i m L =
               let B = L .4 in
@@ -72,7 +74,7 @@ module _ (l : List ℕ) where
               let left : Starts (table l e) (drop start l) (q .sides .left) = rw s (B .left) in
               let w : r ≡ start + size (q .sides .left) = right (q .sides .left) left in
               let k-is : L .0 ≡ k = end-is _ (L .1) in (
-                record { symbols = P .symbols; equation = q },
+                record { symbols = P .symbols; budget = P .budget; equation = q },
                 record {
                   is = single-is P (A .is) ∙ bind-ok _ (rw i refl);
                   small = A .small;
@@ -87,6 +89,7 @@ module _ (l : List ℕ) where
                   left = left;
                   right = rw (w, s) (B .right);
                 },
+                A .budget-is,
               )
 
 pub in-order : (l : List ℕ) (e a b c : ℕ) (S : Single) → SidesAt l e a b c S →

@@ -1,4 +1,4 @@
--- Where the sides of a problem's only equation stand, or why the problem is refused. Assumes nothing.
+-- Where the sides of a problem's only equation stand, with its budget, or why the problem is refused. Assumes nothing.
 use mathlib.Core.Path.{_≡_}
 use mathlib.Core.List.{List}
 use Prim.Native.Nat.{ℕ, _+_, _-_, _≤_}
@@ -38,5 +38,5 @@ pub record SidesAt (l : List ℕ) (e a b c : ℕ) (S : Single) : Type 0 where
   pub right : Starts (table l e) (drop b l) (right-side S)
 
 abbrev pub IsSides : List ℕ → Equation → Type 0
-IsSides l (At e a b c) = (S : Single) × SidesAt l e a b c S
+IsSides l (At e a b c u) = (S : Single) × SidesAt l e a b c S × (S .budget ≡ u)
 IsSides l (Refused n p) = parse-single l ≡ refused n p

@@ -2,12 +2,13 @@
 ghost use Rattle.only_equation.specs.Places.{IsSides};
 
 pub enum Equation {
-    // The table's end, where each side begins, and the end of the second.
+    // The table's end, where each side begins, and the end of the second; and the problem's budget.
     At {
         table_end: usize,
         left: usize,
         right: usize,
         end: usize,
+        budget: usize,
     },
     // Refused, with the number and the place.
     Refused {
@@ -24,7 +25,7 @@ pub fn sides(problem: &[u8]) -> Equation
         problem::Input::Refused { number, place } => Equation::Refused { number, place },
         problem::Input::Fine {
             table_end,
-            budget: _,
+            budget,
             equations,
             count,
         } => match reading::field_at(problem, equations) {
@@ -46,6 +47,7 @@ pub fn sides(problem: &[u8]) -> Equation
                     left: start,
                     right,
                     end,
+                    budget,
                 }
             }
         },

@@ -1,0 +1,67 @@
+-- Document 02, Three: what the answers "same" and "different" are right about, said of the bytes that are lent. Assumes nothing.
+-- Read first: Decide, completion/specs/Delivery (Step, Replacement, Many, Last), completion/specs/Calls (complete-call).
+use mathlib.Core.Path.{_≡_}
+use mathlib.Core.List.{List}
+use mathlib.Core.Logic.{_↔_, _⊎_}
+use Prim.Native.Nat.{ℕ}
+use Rattle.terms.specs.Term.{Term}
+use Rattle.reading.specs.Stops.{wrong-record, not-complete, not-above}
+use Rattle.problem.specs.Problem.{Reading, ok, refused, Problem, parse}
+use Rattle.rewriting.specs.Rewrite.{End, end-number, complete, spent, too-large}
+use Rattle.completion.specs.Turn.{run}
+use Rattle.completion.specs.Delivery.{Replacement, Many, Last}
+use Rattle.completion.specs.Calls.{complete-call, Single, parse-single}
+use Rattle.decide.specs.Decide.{Question, read-question, Answer, are-same, are-different, ended}
+use Rattle.decide.specs.declared.Decided.{Decided}
+use Rattle.decide.specs.declared.Decided.the-variants.{Same, Different, Spent, TooLarge, Refused}
+
+-- "answers same, different, 21 or 22", or the refusal's number and place; 21 and 22 are the numbers of these ends [18.12, 18.13]
+unfoldable pub decided-told : Decided → Reading Answer
+decided-told Same = ok are-same
+decided-told Different = ok are-different
+decided-told Spent = ok (ended spent)
+decided-told TooLarge = ok (ended too-large)
+decided-told (Refused number place) = refused number place
+
+-- both terms have one last term by the record's rules
+pub record OneLast (q : Question) : Type 0 where
+  pub term : Term
+  pub left-last : Last (q .symbols) (q .rules) (q .sides .left) term
+  pub right-last : Last (q .symbols) (q .rules) (q .sides .right) term
+
+-- the terms have different last terms by the record's rules
+pub record TwoLasts (q : Question) : Type 0 where
+  pub left-term : Term
+  pub right-term : Term
+  pub left-last : Last (q .symbols) (q .rules) (q .sides .left) left-term
+  pub right-last : Last (q .symbols) (q .rules) (q .sides .right) right-term
+  pub differ : left-term ≡ right-term → ⊥
+
+-- "Elsewhere the answer speaks only of the record's rules": of every record that passes. [18.14]
+pub record AboutRules (problem kept : List ℕ) (r : Reading Answer) : Type 0 where
+  pub same : (q : Question) → read-question problem kept ≡ ok q → r ≡ ok are-same → OneLast q
+  pub different : (q : Question) → read-question problem kept ≡ ok q → r ≡ ok are-different → TwoLasts q
+  pub ends : (e : End) → r ≡ ok (ended e) → (end-number e ≡ 21) ⊎ (end-number e ≡ 22)
+
+-- "a record that the engine wrote" for the problem P, whose bytes are these: complete left it in a result buffer of some length [18.15]
+pub record EngineWrote (given : List ℕ) (P : Problem) (kept : List ℕ) : Type 0 where
+  pub parsed : parse given ≡ ok P
+  pub buffer : ℕ
+  pub written : complete-call given buffer ≡ ok kept
+
+-- the buyer's equations lead from one side of the asked equation to the other
+abbrev pub Leads : Problem → Single → Type 0
+Leads P S = Many (Replacement (P .symbols) (P .equations)) (S .equation .sides .left) (S .equation .sides .right)
+
+-- "For a record that the engine wrote with end 0 for the same symbol field, "same" and "different" are right about the buyer's equations." That the
+-- end is 0 need not be said: with another one the answer is 14. [18.15]
+pub record AboutEquations (problem kept : List ℕ) (r : Reading Answer) : Type 0 where
+  pub exactly : (given : List ℕ) (P : Problem) (S : Single) → EngineWrote given P kept → parse-single problem ≡ ok S → P .symbols ≡ S .symbols →
+      (r ≡ ok are-same) ⊎ (r ≡ ok are-different) → ((r ≡ ok are-same) ↔ Leads P S) × ((r ≡ ok are-different) ↔ (Leads P S → ⊥))
+
+-- A record that complete wrote for the same symbol field is not refused with 13 or 15, and with 14 exactly if the run did not end with 0. [18.16]
+pub record NotRefused (problem kept : List ℕ) (r : Reading Answer) : Type 0 where
+  pub never : (given : List ℕ) (P : Problem) (S : Single) → EngineWrote given P kept → parse-single problem ≡ ok S → P .symbols ≡ S .symbols →
+      (place : ℕ) → (r ≡ refused wrong-record place → ⊥) × (r ≡ refused not-above place → ⊥)
+  pub unfinished : (given : List ℕ) (P : Problem) (S : Single) → EngineWrote given P kept → parse-single problem ≡ ok S → P .symbols ≡ S .symbols →
+      (r ≡ refused not-complete 0) ↔ (run P .end ≡ complete → ⊥)
