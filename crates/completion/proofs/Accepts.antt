@@ -134,9 +134,10 @@ only-fits Q end [] e h q = absurd (no-ok q)
 only-fits Q end (d ∷ []) e h q = let r : d ≡ e = cc in rw (← r) (every-head h)
 only-fits Q end (d ∷ d′ ∷ es) e h q = absurd (no-ok q)
 
--- what compare, unify and subterm read
+-- what compare, unify, subterm and decide read
 pub record SingleFits (S : Single) : Type 0 where
   pub symbols-few : length (S .symbols) ≤ 16
+  pub budget-few : S .budget ≤ 1_000_000
   pub fits : HeldPair (length (S .symbols)) 16 (S .equation .sides)
 
 pub single-fits : (bytes : List ℕ) (S : Single) → parse-single bytes ≡ ok S → SingleFits S
@@ -146,4 +147,5 @@ single-fits bytes S q =
     from-bind _ _ S q λ e b q.
     let r : record { symbols = P .symbols; budget = P .budget; equation = e } ≡ S = cc in
     let k : Accepted P = accepts bytes P a in
-    rw (← r) (record { symbols-few = k .symbols-few; fits = only-fits _ (length bytes) (P .equations) e (k .equations-fit) b })
+    rw (← r)
+    (record { symbols-few = k .symbols-few; budget-few = k .budget-few; fits = only-fits _ (length bytes) (P .equations) e (k .equations-fit) b })

@@ -6,7 +6,7 @@ use mathlib.Core.List.{List}
 use Prim.Native.Nat.{ℕ}
 use lib.Dec.{eqb}
 use lib.ListN.{length}
-use Rattle.limits.specs.Limits.{most-variables, most-apart}
+use Rattle.limits.specs.Limits.{most-apart}
 use Rattle.terms.specs.Term.{Term, Pair, term-bytes}
 use Rattle.terms.specs.Flat.{Wf}
 use Rattle.reading.specs.Stops.{not-complete, not-above}
@@ -15,7 +15,7 @@ use Rattle.problem.specs.Problem.{Reading, ok, refused, _>>=_, refuse-if, Symbo
 use Rattle.rewriting.specs.Overlap.{Rule, sides-of}
 use Rattle.rewriting.specs.Rewrite.{return, Paying, _>>=_ as _then_, normalise, normalise-pair}
 use Rattle.slots.specs.Slots.{Sides, Stored}
-use Rattle.record.specs.Record.{Record, rules-of, read-record}
+use Rattle.record.specs.Record.{rules-of, read-record}
 use Rattle.record.specs.Reader.{rules-at}
 use Rattle.decide.specs.Decide.{all-above, Answer, answer}
 use Rattle.decide.specs.Answers.{decided-told}

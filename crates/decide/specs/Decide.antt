@@ -9,7 +9,7 @@ use Rattle.terms.specs.Base.{if_then_else_}
 use Rattle.terms.specs.Term.{Pair, same}
 use Rattle.order.specs.Order.{above}
 use Rattle.reading.specs.Stops.{not-complete, not-above}
-use Rattle.problem.specs.Problem.{Reading, ok, refused, _>>=_, refuse-if, Symbol, rank-of}
+use Rattle.problem.specs.Problem.{Reading, ok, _>>=_, refuse-if, Symbol, rank-of}
 use Rattle.rewriting.specs.Overlap.{Rule}
 use Rattle.rewriting.specs.Rewrite.{End, Paid, done, stop, normalise-pair}
 use Rattle.completion.specs.Calls.{parse-single}

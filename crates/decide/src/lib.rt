@@ -44,8 +44,8 @@ pub enum Above {
 
 // The rules in the slots, whose fields begin at `record::RULES_AT`, one behind the other.
 fn all_above(rules: &[u8], count: usize, table: &[u8]) -> Above
-    requires { ⌜ Layout (now rules) count ⌝ }
-    requires { ⌜ count ≤ most-rules ⌝ }
+    requires { ⌜ Table (now table) ⌝ }
+    requires { ⌜ Layout (now rules) count × (count ≤ most-rules) ⌝ }
     ensures { λ r. ⌜ AllAbove (now (table .entry)) (now (rules .entry)) count r ⌝ }
 {
     let mut place = record::RULES_AT;

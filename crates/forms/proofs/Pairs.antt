@@ -2,23 +2,22 @@
 -- Read first: specs/Forms (RightWalk, PairWalk, compared), normaliser/specs/Settled (Normalised), proofs/Walking.
 use mathlib.Core.Path.{_≡_, refl, sym, _∙_, ap, ap₂, subst}
 use mathlib.Core.Bool.{Bool, true, false}
-use mathlib.Core.List.{List, [], append-nil}
-use Prim.Native.Nat.{ℕ, _-_, _≤_}
+use mathlib.Core.List.{List}
+use Prim.Native.Nat.{ℕ, _-_}
 use native.Mathlib.Omega.{arith}
-use lib.ListN.{length, take, length-take}
+use lib.ListN.{take}
 use Rattle.terms.specs.Base.{if_then_else_}
-use Rattle.terms.specs.Term.{Term, Pair, same, size, term-bytes}
-use Rattle.terms.specs.Flat.{Wf}
-use Rattle.terms.proofs.Flats.{unique, widen}
-use Rattle.terms.proofs.Shape.{same-dec}
+use Rattle.terms.specs.Term.{Term, Pair, same}
+use Rattle.terms.proofs.Flats.{widen}
+use Rattle.terms.proofs.Shape.{zero≢one}
 use Rattle.rewriting.specs.Overlap.{Rule}
 use Rattle.rewriting.specs.Rewrite.{End, Paid, done, stop, Paying, return, and-then, _>>=_, normalise, normalise-pair}
 use Rattle.completion.specs.Turn.{Origin, Candidate, if-different}
-use Rattle.matching.proofs.Replacing.{take-less-zero}
 use Rattle.slots.specs.Slots.{PairAt, slot, mark-of, left-of, right-of, Layout, PutSides, PutMark}
 use Rattle.slots.proofs.Layouts.{kept-none, kept-put, layout-put, pair-put}
-use Rattle.normaliser.specs.Settled.{FormStops, SmallForm, NormalIs, Normalised}
-use Rattle.normaliser.proofs.Stopping.{Stopped, end-of, Stopping, no-unit, no-room, stopping, stopped-form}
+use Rattle.normaliser.specs.Settled.{NormalIs, Normalised}
+use Rattle.normaliser.proofs.Stopping.{Stopped, end-of, Stopping, no-unit, no-room}
+use Rattle.normaliser.proofs.Outcomes.{no-form, normal-form, same-by}
 use Rattle.normaliser.specs.declared.Reached.{Reached}
 use Rattle.normaliser.specs.declared.Form.{Form}
 use Rattle.normaliser.specs.declared.Form.the-variants.{Normal as NormalForm}
@@ -70,8 +69,7 @@ module _ {tab rules : List ℕ} {count : ℕ} {t out out′ : List ℕ} {units :
   module _ (f : Form) (s : Stopped f) (g : r .form ≡ f) {w : Walk} (e : w ≡ record { found = Ends (end-of f); units = units - r .paid }) where
     side-ends : {one : List ℕ} {d : ScanPart} (p : Paid Term) → NormalIs tab out′ units r p →
         ((x : End) (k : ℕ) → p ≡ stop x k → (next : Paying Candidate) → d next units ≡ stop x k) → Walked tab one d units w
-    side-ends (done y k) h q = absurd (subst Stopped (sym g ∙ h .0) s)
-    side-ends (stop x k) h q = ends f x (stopping x f (subst (FormStops x) g (h .0))) (found-is e) (let a = h .1 in units-is e ∙ omega arith) (q x k refl)
+    side-ends p h q = no-form hr f s g p h λ x k i st z. ends f x st (found-is e) (units-is e ∙ sym z) (q x k i)
 
     pub right-ends : {first one : List ℕ} → RightWalk tab rules count first t one one units w
     right-ends = record {
@@ -88,29 +86,14 @@ module _ {tab rules : List ℕ} {count : ℕ} {t out out′ : List ℕ} {units :
 
   -- it came to a normal form of n bytes
   module _ {n : ℕ} (g : r .form ≡ NormalForm n) where
-    pub few-bytes : n ≤ 120
-    few-bytes = subst SmallForm g (hr .small)
-
-    pub few-taken : length (take (n - 0) out′) ≤ 120
-    few-taken = let a = few-bytes in omega (arith, length-take (n - 0) out′)
-
-    normal-form : {A : Type 0} (p : Paid Term) → NormalIs tab out′ units r p →
-        ((y : Term) (k : ℕ) → p ≡ done y k → k ≡ units - r .paid → take (n - 0) out′ ≡ term-bytes y → Wf 32 tab y → A) → A
-    normal-form (done y k) h f =
-        let a : NormalForm n ≡ NormalForm (size y) = sym g ∙ h .0 in
-        let z : n ≡ size y = cc in
-        f y k refl (let b = h .1 in omega arith) (take-less-zero n out′ ∙ ap (λ j. take j out′) z ∙ h .2) (h .3)
-    normal-form (stop x k) h f = absurd (subst Stopped g (stopped-form (stopping x (r .form) (h .0))))
-
     module _ {first one : List ℕ} where
       pub right-same : {w : Walk} → first ≡ take (n - 0) out′ → w ≡ record { found = Equal; units = units - r .paid } →
           RightWalk tab rules count first t one one units w
       right-same b e = record {
         room = bare-room e (omega arith);
         answer = λ rs st ct o l x mk wl wx bl bx.
-            normal-form _ (hr .answer rs st ct x wx bx) λ y k q z by wy.
-            let s : l ≡ y = unique 32 tab l y [] [] wl wy (append-nil (term-bytes l) ∙ sym bl ∙ b ∙ by ∙ sym (append-nil (term-bytes y))) .0 in
-            on (found-is e) (λ next. forms-agree rs o next units l x y k q (same-dec l y .1 s) ∙ ap next (z ∙ sym (units-is e)));
+            normal-form hr g _ (hr .answer rs st ct x wx bx) λ y k q z by wy.
+            on (found-is e) (λ next. forms-agree rs o next units l x y k q (same-by tab l y wl wy bl by true (λ _. b) (λ _. refl)) ∙ ap next (z ∙ sym (units-is e)));
       }
 
       pub right-differs : {one′ : List ℕ} {w : Walk} (b : Bool) → b ≡ false → (first ≡ take (n - 0) out′ → b ≡ true) →
@@ -119,22 +102,18 @@ module _ {tab rules : List ℕ} {count : ℕ} {t out out′ : List ℕ} {units :
       right-differs b differs agrees put e = record {
         room = record { kept = kept-put put; left-over = let q = units-is e in omega arith };
         answer = λ rs st ct o l x mk wl wx bl bx.
-            normal-form _ (hr .answer rs st ct x wx bx) λ y k q z by wy.
+            normal-form hr g _ (hr .answer rs st ct x wx bx) λ y k q z by wy.
             let c : Candidate = record { origin = o; sides = record { left = l; right = y } } in
-            found c (found-is e) (λ next. forms-differ rs o next units l x y k q (apart l y bl by (same l y) refl) ∙ ap (done c) (z ∙ sym (units-is e)))
+            found c (found-is e) (λ next. forms-differ rs o next units l x y k q (same-by tab l y wl wy bl by false (λ z. absurd (zero≢one (cc))) (λ z. sym differs ∙ agrees z)) ∙ ap (done c) (z ∙ sym (units-is e)))
             (record { sides = pair-put put (record { left-wf = wl; right-wf = wy; left-bytes = bl; right-bytes = by }); from = put .mark ∙ mk });
       }
-        where
-          apart : (l y : Term) → first ≡ term-bytes l → take (n - 0) out′ ≡ term-bytes y → (s : Bool) → same l y ≡ s → same l y ≡ false
-          apart l y bl by true s = let k : b ≡ true = agrees (bl ∙ ap term-bytes (same-dec l y .0 s) ∙ sym by) in cc
-          apart l y bl by false s = s
 
     pub left-form : {list : List ℕ} {k : ℕ} {one one′ u : List ℕ} {w : Walk} → t ≡ left-of (slot list k) → u ≡ right-of (slot list k) →
         RightWalk tab rules count (take (n - 0) out′) u one one′ (units - r .paid) w → PairWalk tab list k rules count one one′ units w
     left-form {one = one} ql qr R = record {
       room = room-from (kept-none one) (omega arith) (R .room);
       answer = λ rs st ct o p mk at.
-          normal-form _ (hr .answer rs st ct (p .left) (at .sides .left-wf) (ql ∙ at .sides .left-bytes)) λ y j e z by wy.
+          normal-form hr g _ (hr .answer rs st ct (p .left) (at .sides .left-wf) (ql ∙ at .sides .left-bytes)) λ y j e z by wy.
           walked-from (λ next. left-done rs o next units p y j e ∙ ap (compared-right rs o y (p .right) next) z)
           (R .answer rs st ct o y (p .right) mk wy (at .sides .right-wf) by (qr ∙ at .sides .right-bytes));
     }

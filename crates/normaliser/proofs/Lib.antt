@@ -5,3 +5,4 @@ pub mod Together
 pub mod Loading
 pub mod Whole
 pub mod Stopping
+pub mod Outcomes

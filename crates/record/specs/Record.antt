@@ -9,7 +9,7 @@ use lib.ListN.{length, getD}
 use Rattle.limits.specs.Limits.{most-budget, most-rules, most-entries, most-record}
 use Rattle.terms.specs.Base.{if_then_else_, number-from, member}
 use Rattle.reading.specs.Stops.{wrong-record}
-use Rattle.problem.specs.Problem.{Reading, ok, refused, _>>=_, refuse-if, ReadField, Symbol}
+use Rattle.problem.specs.Problem.{Reading, ok, _>>=_, refuse-if, ReadField, Symbol}
 use Rattle.rewriting.specs.Overlap.{Rule}
 use Rattle.record.specs.Fields.{demand, one-field, fields-there, read-rule, read-forms}
 

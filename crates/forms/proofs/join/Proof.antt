@@ -1,6 +1,7 @@
 -- `join`: the left side comes to no normal form, or the rest is `join_right`. Assumes nothing.
 -- Read first: specs/Forms (PairWalk), proofs/Pairs.
-use Rattle.forms.proofs.Pairs.{few-bytes, few-taken, left-ends, left-form}
+use Rattle.forms.proofs.Pairs.{left-ends, left-form}
+use Rattle.normaliser.proofs.Outcomes.{few-bytes, few-taken}
 use Rattle.normaliser.specs.declared.Form.the-variants.{Spent, TooLarge}
 use borrow.Author.Needs.{needs}
 use Rattle.forms.proofs.join.Statement.{statement}

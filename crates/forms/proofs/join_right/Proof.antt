@@ -1,6 +1,7 @@
 -- `join_right`: a lemma for each return: no normal form, the forms are equal bytes, the forms differ. Assumes nothing.
 -- Read first: specs/Forms (RightWalk), proofs/Pairs.
-use Rattle.forms.proofs.Pairs.{few-bytes, few-taken, right-ends, right-same, right-differs}
+use Rattle.forms.proofs.Pairs.{right-ends, right-same, right-differs}
+use Rattle.normaliser.proofs.Outcomes.{few-bytes, few-taken}
 use Rattle.normaliser.specs.declared.Form.the-variants.{Spent, TooLarge}
 use borrow.Author.Needs.{needs}
 use Rattle.forms.proofs.join_right.Statement.{statement}

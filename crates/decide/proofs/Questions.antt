@@ -1,0 +1,124 @@
+-- `ask` and `decide` by their returns: what each part of the definition's reading answers is answered. Assumes nothing.
+-- Read first: specs/Asking (ask-call, Asks), record/specs/Reader (IsRecord), only_equation/specs/Places (SidesAt).
+use mathlib.Core.Path.{_≡_, refl, sym, _∙_, ap}
+use mathlib.Core.Bool.{not}
+use mathlib.Core.List.{List, [], _∷_}
+use Prim.Native.Nat.{ℕ, _+_, _-_, _≤_}
+use native.Mathlib.Omega.{arith}
+use lib.Dec.{eqb}
+use lib.ListN.{length, take, drop}
+use lib.Seq.{take-at}
+use borrow.Author.Tests.{eq-eqb, ne-eqb}
+use Rattle.terms.specs.Term.{Term, Pair, size, term-bytes}
+use Rattle.terms.specs.Flat.{Starts}
+use Rattle.terms.proofs.Bytes.{length-bytes}
+use Rattle.reading.specs.Answers.{symbols-of}
+use Rattle.reading.proofs.Reading.{bind-ok, bind-refused}
+use Rattle.problem.specs.Problem.{Reading, ok, refused, _>>=_, refuse-if}
+use Rattle.rewriting.specs.Overlap.{Rule}
+use Rattle.rewriting.specs.Rewrite.{normalise-pair}
+use Rattle.completion.specs.Calls.{Single, parse-single}
+use Rattle.completion.proofs.Accepts.{single-fits}
+use Rattle.slots.specs.Slots.{Sides}
+use Rattle.only_equation.specs.Places.{table, left-side, right-side, SidesAt}
+use Rattle.record.specs.Record.{Record, rules-of, read-record}
+use Rattle.record.specs.Reader.{rules-at, InSlots}
+use Rattle.decide.specs.Decide.{all-above, Question, read-question, Answer, answer, decide-call}
+use Rattle.decide.specs.Answers.{decided-told}
+use Rattle.decide.specs.Asking.{above-told, AllAbove, FormsCompared, ask-call, Asks}
+use Rattle.decide.specs.declared.Above.the-variants.{All, Not}
+use Rattle.decide.specs.declared.Decided.{Decided}
+use Rattle.decide.specs.declared.Decided.the-variants.{Refused}
+
+-- rules without their places
+rules-back : (at : ℕ) (rs : List Rule) → rules-of (rules-at at rs) ≡ rs
+unfolding rules-at
+rules-back at [] = refl
+rules-back at (r ∷ rs) = ap (λ l. r ∷ l) (rules-back _ rs)
+
+-- `ask`
+module _ (tab kept : List ℕ) (budget : ℕ) where
+  pub record-refused : (left right : List ℕ) (p : ℕ) → read-record (symbols-of tab) kept ≡ refused 13 p → Asks tab left right budget kept (Refused 13 p)
+  unfolding decided-told ask-call
+  record-refused left right p h = record { is = λ e S. sym (bind-refused _ h) }
+
+  module _ (end units : ℕ) (rs : List Rule)
+      (h : read-record (symbols-of tab) kept ≡ ok (record { end = end; units = units; rules = rules-at 11 rs })) where
+    pub end-refused : (left right : List ℕ) → (end ≡ 0 → ⊥) → Asks tab left right budget kept (Refused 14 0)
+    unfolding decided-told ask-call _>>=_ refuse-if
+    end-refused left right n = record { is = λ e S. sym (bind-ok _ h ∙ rw (ne-eqb end 0 n) refl) }
+
+    module _ (z : end ≡ 0) where
+      -- behind 14
+      behind : (e : Pair) → ask-call (symbols-of tab) e budget kept ≡ (all-above (symbols-of tab) (rules-at 11 rs) >>= λ _. ok (answer (normalise-pair rs e budget)))
+      unfolding ask-call _>>=_ refuse-if
+      behind e = bind-ok _ h ∙ rw (eq-eqb end 0 z, rules-back 11 rs) refl
+
+      pub rule-refused : {slots : List ℕ} {count : ℕ} → InSlots tab slots count rs → (left right : List ℕ) (p : ℕ) → AllAbove tab slots count (Not p) → Asks tab left right budget kept (Refused 15 p)
+      unfolding decided-told above-told
+      rule-refused I left right p A = record { is = λ e S. sym (behind e ∙ bind-refused _ (A .is rs (I .stored) (I .counted))) }
+
+      pub forms-asked : {slots left right : List ℕ} {count : ℕ} {d : Decided} → InSlots tab slots count rs → AllAbove tab slots count All →
+          FormsCompared tab slots count left right budget d → Asks tab left right budget kept d
+      unfolding above-told
+      forms-asked I A F =
+          record { is = λ e S. F .is rs (I .stored) (I .counted) e S ∙ sym (behind e ∙ bind-ok _ (A .is rs (I .stored) (I .counted))) }
+
+-- what is done with the question may be done behind its tests
+regroup-tests : {B C D E : Type 0} (b : Reading B) (c : Reading C) (d : D) (g : D → E) →
+    ((b >>= λ _. c >>= λ _. ok d) >>= λ q. ok (g q)) ≡ (b >>= λ _. c >>= λ _. ok (g d))
+unfolding _>>=_
+regroup-tests (ok x) (ok y) d g = refl
+regroup-tests (ok x) (refused n p) d g = refl
+regroup-tests (refused n p) c d g = refl
+
+regroup : {A B C D E : Type 0} (a : Reading A) (b : A → Reading B) (c : A → Reading C) (d : A → D) (g : D → E) →
+    ((a >>= λ x. b x >>= λ _. c x >>= λ _. ok (d x)) >>= λ q. ok (g q)) ≡ (a >>= λ x. b x >>= λ _. c x >>= λ _. ok (g (d x)))
+unfolding _>>=_
+regroup (ok x) b c d g = regroup-tests (b x) (c x) (d x) g
+regroup (refused n p) b c d g = refl
+
+-- `decide`
+module _ (problem : List ℕ) where
+  pub problem-refused : (kept : List ℕ) (n p : ℕ) → parse-single problem ≡ refused n p → refused n p ≡ decide-call problem kept
+  unfolding decide-call read-question _>>=_
+  problem-refused kept n p h = rw h refl
+
+  -- a side of the equation, as it is lent
+  lent : {tab : List ℕ} (a : ℕ) (x : Term) → Starts tab (drop a problem) x → (b : ℕ) → b ≡ a + size x → take (b - a) (drop a problem) ≡ term-bytes x
+  lent a x S b q = let n : b - a ≡ size x = omega arith in rw (n, S .bytes) (take-at (term-bytes x) (S .rest) (size x) (length-bytes x))
+
+  module _ (e a b c : ℕ) (S : Single) (A : SidesAt problem e a b c S) where
+    pub lent-sides : Sides 32 (table problem e) (take (b - a) (drop a problem)) (take (c - b) (drop b problem)) (S .equation .sides)
+    lent-sides = record {
+      left-wf = A .left .wf;
+      right-wf = A .right .wf;
+      left-bytes = lent a (left-side S) (A .left) b (A .right-is);
+      right-bytes = lent b (right-side S) (A .right) c (A .end-is);
+    }
+
+    pub lent-small : (length (take (b - a) (drop a problem)) ≤ 120) × (length (take (c - b) (drop b problem)) ≤ 120) × (S .budget ≤ 1_000_000)
+    lent-small =
+        let F = single-fits problem S (A .is) in
+        let L = lent-sides in (
+          omega (arith, ap length (L .left-bytes), length-bytes (left-side S), F .fits .left .small),
+          omega (arith, ap length (L .right-bytes), length-bytes (right-side S), F .fits .right .small),
+          F .budget-few,
+        )
+
+    asked-is : (kept : List ℕ) → decide-call problem kept ≡ ask-call (symbols-of (table problem e)) (S .equation .sides) (S .budget) kept
+    unfolding decide-call read-question ask-call
+    asked-is kept =
+        let g : Question → Answer = λ q. answer (normalise-pair (q .rules) (q .sides) (q .budget)) in
+        let d : Record → Question =
+        λ r. record { symbols = S .symbols; budget = S .budget; sides = S .equation .sides; rules = rules-of (r .rules) } in
+        ap (λ (m : Reading Question). m >>= λ q. ok (g q)) (bind-ok _ (A .is))
+        ∙ regroup (read-record (S .symbols) kept) (λ r. refuse-if (not (eqb (r .end) 0)) 14 0) (λ r. all-above (S .symbols) (r .rules)) d g
+        ∙ ap (λ Σ. ask-call Σ (S .equation .sides) (S .budget) kept) (A .symbols-are)
+
+    pub decided : (kept : List ℕ) (u : ℕ) → S .budget ≡ u → (d : Decided) →
+        Asks (table problem e) (take (b - a) (drop a problem)) (take (c - b) (drop b problem)) u kept d →
+        decided-told d ≡ decide-call problem kept
+    decided kept u q d h =
+        h .is (S .equation .sides) lent-sides ∙ ap (λ v. ask-call (symbols-of (table problem e)) (S .equation .sides) v kept) (sym q)
+        ∙ sym (asked-is kept)

@@ -1,0 +1,85 @@
+-- `decide`: the problem is refused, or the rest is `ask`; the laws of the answer are those of the definition's. Assumes nothing.
+-- Read first: specs/Answers, proofs/Questions, proofs/Answering (laws).
+use mathlib.Core.Path.{subst}
+use native.Mathlib.Omega.{arith}
+use Rattle.only_equation.specs.Places.{IsSides}
+use Rattle.only_equation.specs.declared.Equation.the-variants.{At}
+use Rattle.only_equation.proofs.Singles.{in-order}
+use Rattle.decide.proofs.Questions.{problem-refused, lent-small, decided}
+use Rattle.decide.proofs.Answering.{laws}
+use borrow.Author.Needs.{needs}
+use Rattle.decide.proofs.decide.Statement.{statement}
+use Rattle.decide.proofs.decide.Tie as tie
+
+-- Places, found by their types: the only field of a type is the place itself.
+abbrev sides-of-table-end : tie.After-table-end → tie.After-sides
+sides-of-table-end at = search depth 0
+
+abbrev entry-of-sides : tie.After-sides → tie.Start
+entry-of-sides at = search depth 0
+
+-- the equation that was found, and the order of its places
+
+found : (at : tie.After-table-end) → IsSides (entry-of-sides (sides-of-table-end at) .args .problem .now)
+    (At (at .table-end .given .0 .0) (at .table-end .given .0 .1 .0) (at .table-end .given .0 .1 .1 .0) (at .table-end .given .0 .1 .1 .1 .0)
+    (at .table-end .given .0 .1 .1 .1 .1 .0))
+found at = subst (IsSides _) (at .table-end .given .1) (sides-of-table-end at .sides .ensures)
+
+sub-ask : tie.Need-sub-ask
+sub-ask c = let at-table-end : tie.After-table-end = search depth 0 in omega (arith, in-order _ _ _ _ _ _ (found at-table-end .1))
+
+part-ask-start : tie.Need-part-ask-start
+part-ask-start c = let at-table-end : tie.After-table-end = search depth 0 in omega (arith, in-order _ _ _ _ _ _ (found at-table-end .1))
+
+part-ask-end : tie.Need-part-ask-end
+part-ask-end c = let at-table-end : tie.After-table-end = search depth 0 in omega (arith, in-order _ _ _ _ _ _ (found at-table-end .1))
+
+sub-ask-2 : tie.Need-sub-ask-2
+sub-ask-2 c = let at-table-end : tie.After-table-end = search depth 0 in omega (arith, in-order _ _ _ _ _ _ (found at-table-end .1))
+
+part-ask-start-2 : tie.Need-part-ask-start-2
+part-ask-start-2 c = let at-table-end : tie.After-table-end = search depth 0 in omega (arith, in-order _ _ _ _ _ _ (found at-table-end .1))
+
+part-ask-end-2 : tie.Need-part-ask-end-2
+part-ask-end-2 c = let at-table-end : tie.After-table-end = search depth 0 in omega (arith, in-order _ _ _ _ _ _ (found at-table-end .1))
+
+sub-ask-3 : tie.Need-sub-ask-3
+sub-ask-3 c = let at-table-end : tie.After-table-end = search depth 0 in omega (arith, in-order _ _ _ _ _ _ (found at-table-end .1))
+
+part-ask-start-3 : tie.Need-part-ask-start-3
+part-ask-start-3 c = let at-table-end : tie.After-table-end = search depth 0 in omega (arith, in-order _ _ _ _ _ _ (found at-table-end .1))
+
+part-ask-end-3 : tie.Need-part-ask-end-3
+part-ask-end-3 c = let at-table-end : tie.After-table-end = search depth 0 in omega (arith, in-order _ _ _ _ _ _ (found at-table-end .1))
+
+cast-ask : tie.Need-cast-ask
+cast-ask c =
+    let at-table-end : tie.After-table-end = search depth 0 in
+    let A = found at-table-end in
+    let few = lent-small _ _ _ _ _ _ (A .1) .2 in
+    let is = A .2 in
+    search needs
+
+ask-requires : tie.Need-ask-requires
+ask-requires c κs =
+    let at-table-end : tie.After-table-end = search depth 0 in
+    let A = found at-table-end in
+    let S = lent-small _ _ _ _ _ _ (A .1) in
+    (A .1 .known, (S .0, S .1))
+
+returns : tie.Need-returns
+returns c =
+    let at-sides : tie.After-sides = search depth 0 in
+    laws _ _ _ (problem-refused _ _ _ _ (rw (c .before .number .given .1) at (at-sides .sides .ensures)))
+
+returns-2 : tie.Need-returns-2
+returns-2 c =
+    let at-table-end : tie.After-table-end = search depth 0 in
+    let A = found at-table-end in
+    laws _ _ _ (decided _ _ _ _ _ _ (A .1) _ _ (A .2) _ (c .ask .ensures))
+
+pub decide-spec : {M : Type 1} → statement M
+decide-spec =
+    tie.close (tie.spec
+    (λ c κs. search needs) (λ c. search needs) (λ c. search needs) sub-ask part-ask-start part-ask-end sub-ask-2 part-ask-start-2 part-ask-end-2
+    sub-ask-3 part-ask-start-3 part-ask-end-3 cast-ask ask-requires returns returns-2)
