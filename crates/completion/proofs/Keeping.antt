@@ -1,21 +1,17 @@
 -- What the turns leave for a problem that is accepted keeps document 01's limits, is renamed, and its rules go down. Assumes nothing.
--- Read first: specs/Keeps, proofs/Kept (the limits), proofs/OverRun, proofs/Renamed, proofs/Invariant (rules go down).
-use mathlib.Core.Logic.{⊎-elim}
+-- Read first: specs/Keeps, proofs/Limits (`pair-keeps`), proofs/Kept, proofs/OverRun, proofs/Renamed, proofs/Invariant (rules go down).
 use mathlib.Core.List.{List, [], _∷_}
 use Prim.Native.Nat.{ℕ, _<_, _≤_}
 use native.Mathlib.Omega.{arith}
 use lib.ListN.{length}
 use Rattle.terms.specs.Base.{Every, of-cons}
-use Rattle.terms.specs.Term.{Pair, pair-variables, renamed}
-use Rattle.terms.proofs.Below.{pair-in}
-use Rattle.terms.proofs.Every.{every-of}
-use Rattle.terms.proofs.Limits.{made-vars}
+use Rattle.terms.specs.Term.{Pair, renamed}
 use Rattle.terms.proofs.Rename.{renamed-again}
 use Rattle.problem.specs.Problem.{Symbol, Problem}
 use Rattle.rewriting.specs.Overlap.{Rule}
 use Rattle.completion.specs.Turn.{State, run}
 use Rattle.completion.specs.Keeps.{PairKeeps, RulesKeep, Keeps}
-use Rattle.completion.proofs.Limits.{HeldPair, RuleFits, Ascending, numbers, Limits, Accepted, renamed-held}
+use Rattle.completion.proofs.Limits.{RuleFits, Ascending, numbers, Limits, Accepted, renamed-held, pair-keeps}
 use Rattle.completion.proofs.Ends.{Neither}
 use Rattle.completion.proofs.Stopped.{run-stops, run-units, run-neither}
 use Rattle.completion.proofs.Closed.{Closed, Has, reachable-has, taken-has}
@@ -26,18 +22,6 @@ use Rattle.completion.proofs.OverRun.{over-closed}
 use Rattle.completion.proofs.Renamed.{Renamed, run-renamed}
 use Rattle.completion.proofs.Kept.{run-limits, neither-fits}
 use Rattle.completion.proofs.Result.{result-length}
-
-pub pair-keeps : (Σ : List Symbol) (e : Pair) → HeldPair (length Σ) 16 e → OverPair Σ e → Renamed e → PairKeeps Σ e
-pair-keeps Σ e h o q =
-    record {
-      left-over = o .0;
-      right-over = o .1;
-      left-small = h .left .small;
-      right-small = h .right .small;
-      variables-few = every-of (pair-variables e)
-          (λ x i. ⊎-elim (λ j. made-vars _ _ (e .left) (h .left .made) x j) (λ j. made-vars _ _ (e .right) (h .right .made) x j) (pair-in e x i));
-      unchanged = q;
-    }
 
 module _ (P : Problem) (a : Accepted P) where
   abbrev Σ : List Symbol

@@ -21,6 +21,7 @@ pub mod Delivered
 pub mod Limits
 pub mod Kept
 pub mod Accepts
+pub mod Widths
 pub mod Result
 pub mod Keeping
 pub mod Capacity

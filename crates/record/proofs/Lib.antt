@@ -1,0 +1,4 @@
+pub mod Parts
+pub mod Agrees
+pub mod Back
+pub mod RoundTrip
