@@ -131,7 +131,11 @@ module _ (Σ : List Symbol) (few : length Σ ≤ 16) where
       go true q =
           from-bind _ _ u (rw q at e) λ f h e.
           let r = one-read wrong-record 0x14 (read-forms Σ) at bytes f h in
-          record { fields = plain (r .field) ∷ []; are = r .more-fields [] (no-fields (f .end) (f .rest) u e); no-rule = every-one (ap (λ n. eqb n 0x12) (r .tag-is)) }
+          record {
+            fields = plain (r .field) ∷ [];
+            are = r .more-fields [] (no-fields (f .end) (f .rest) u e);
+            no-rule = every-one (ap (λ n. eqb n 0x12) (r .tag-is));
+          }
 
   -- What a record that was read says, as the promise of complete reads it.
   pub record Agrees (bytes : List ℕ) (r : Record) : Type 0 where
