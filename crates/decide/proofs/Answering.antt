@@ -124,14 +124,14 @@ module _ (problem kept given : List ℕ) (P : Problem) (S : Single) (w : EngineW
   above-passed : all-above (S .symbols) rules-left ≡ ok tt
   above-passed = ap (λ Σ. all-above Σ rules-left) (sym same-symbols) ∙ keep-above (P .symbols) 11 0 (run P .state .rules) (promise .keeps .rules-keep)
 
-  answers : eqb (end-number (run P .end)) 0 ≡ true →
+  when-complete : eqb (end-number (run P .end)) 0 ≡ true →
       decide-call problem kept ≡ ok (answer (normalise-pair (rules-of rules-left) (S .equation .sides) (S .budget)))
   unfolding decide-call read-question _>>=_ refuse-if
-  answers z = rw is-single (rw record-read (rw z (rw above-passed refl)))
+  when-complete z = rw is-single (rw record-read (rw z (rw above-passed refl)))
 
-  refuses : eqb (end-number (run P .end)) 0 ≡ false → decide-call problem kept ≡ refused not-complete 0
+  when-not : eqb (end-number (run P .end)) 0 ≡ false → decide-call problem kept ≡ refused not-complete 0
   unfolding decide-call read-question _>>=_ refuse-if
-  refuses z = rw is-single (rw record-read (rw z refl))
+  when-not z = rw is-single (rw record-read (rw z refl))
 
   -- 13 and 15 are not given, and 14 as the run's end says
   record ByEnd (r : Reading Answer) : Type 0 where
@@ -140,13 +140,13 @@ module _ (problem kept given : List ℕ) (P : Problem) (S : Single) (w : EngineW
 
   by-end : (b : Bool) → eqb (end-number (run P .end)) 0 ≡ b → Says (run P .end ≡ complete) b → ByEnd (decide-call problem kept)
   by-end true z e =
-      rw (answers z)
+      rw (when-complete z)
       (record {
         never = λ place. (λ h. no-ok (sym h), λ h. no-ok (sym h));
         unfinished = (λ h. absurd (no-ok (sym h)), λ n. absurd (n e));
       })
   by-end false z n =
-      rw (refuses z)
+      rw (when-not z)
       (record {
         never = λ place. (λ h. let d : not-complete ≡ wrong-record = cc in omega arith, λ h. let d : not-complete ≡ not-above = cc in omega arith);
         unfinished = (λ _. n, λ _. refl);
