@@ -1,17 +1,18 @@
 -- What is read fits: a problem that is accepted has at most 16 symbols and 16 equations, whose sides have at most 120 nodes and variables below 16;
--- also where compare, unify and subterm read it. Assumes nothing.
+-- also where compare, unify, subterm and decide read it. Assumes nothing.
 -- Read first: problem/proofs/Reading, proofs/Limits.
-use mathlib.Core.Path.{_≡_}
+use mathlib.Core.Path.{_≡_, ap, subst, _∙_}
 use mathlib.Core.Bool.{Bool, true, false, _||_}
-use mathlib.Core.List.{List, [], _∷_}
+use mathlib.Core.List.{List, [], _∷_, _++_}
 use Prim.Native.Nat.{ℕ, zero, suc, _+_, _*_, _%_, _≤_}
 use native.Mathlib.Omega.{arith}
 use lib.Dec.{eqb, ltb}
 use lib.ListN.{length}
 use borrow.Author.Tests.{ltb-false}
 use Rattle.terms.specs.Base.{number-from, Every, of-none, of-cons}
-use Rattle.terms.specs.Term.{Term, size, Pair}
+use Rattle.terms.specs.Term.{Term, size, term-bytes, Pair}
 use Rattle.terms.proofs.Every.{every-head}
+use Rattle.terms.proofs.Lists.{nothing}
 use Rattle.problem.specs.Problem.{ok, ReadField, Symbol, read-symbols, symbol-field, budget-field, ReadPart, read-side, read-pair, Equation, equation-field}
 use Rattle.problem.specs.Problem.{equation-fields, Problem, parse, only-equation}
 use Rattle.completion.specs.Calls.{Single, parse-single}
@@ -58,32 +59,49 @@ module _ (Σ : List Symbol) where
   abbrev n : ℕ
   n = length Σ
 
-  side-fits : (at : ℕ) (bytes : List ℕ) (p : ReadPart Term) → read-side Σ at bytes ≡ ok p → HeldTo n 16 (p .part) × Over Σ (p .part)
+  record SideFits (bytes : List ℕ) (p : ReadPart Term) : Type 0 where
+    held : HeldTo n 16 (p .part)
+    over : Over Σ (p .part)
+    front : bytes ≡ term-bytes (p .part) ++ p .rest
+
+  side-fits : (at : ℕ) (bytes : List ℕ) (p : ReadPart Term) → read-side Σ at bytes ≡ ok p → SideFits bytes p
   unfolding read-side
   side-fits at bytes p e =
       from-bind _ _ p e λ t a e.
       from-bind _ _ p e λ u b e.
-      let q : t ≡ p = ok-injective e in
       let r : ReadsTo Σ at bytes t = reads Σ (suc (length bytes)) at bytes t a in
-      rw (← q) (record { small = ltb-false 120 (size (t .part)) (passed _ 11 at u b); made = r .made }, r .over)
+      subst (SideFits bytes) (ok-injective e)
+      (record { held = record { small = ltb-false 120 (size (t .part)) (passed _ 11 at u b); made = r .made }; over = r .over; front = r .front })
 
-  pub pair-fits : (at : ℕ) (bytes : List ℕ) (e : Pair) → read-pair Σ at bytes ≡ ok e → HeldPair n 16 e × OverPair Σ e
+  -- two sides that fill the bytes
+  pub record PairFits (bytes : List ℕ) (e : Pair) : Type 0 where
+    pub held : HeldPair n 16 e
+    pub over : OverPair Σ e
+    pub filled : bytes ≡ term-bytes (e .left) ++ (term-bytes (e .right) ++ [])
+
+  pub pair-fits : (at : ℕ) (bytes : List ℕ) (e : Pair) → read-pair Σ at bytes ≡ ok e → PairFits bytes e
   unfolding read-pair
   pair-fits at bytes e h =
       from-bind _ _ e h λ l a h.
       from-bind _ _ e h λ r b h.
-      from-bind _ _ e h λ _ _ h.
-      let q : record { left = l .part; right = r .part } ≡ e = ok-injective h in
-      let x = side-fits at bytes l a in
-      let y = side-fits (l .end) (l .rest) r b in
-      rw (← q) (record { left = x .0; right = y .0 }, (x .1, y .1))
+      from-bind _ _ e h λ u c h.
+      let x : SideFits bytes l = side-fits at bytes l a in
+      let y : SideFits (l .rest) r = side-fits (l .end) (l .rest) r b in
+      let none : r .rest ≡ [] = nothing (r .rest) (omega (arith, ltb-false 0 (length (r .rest)) (passed _ 10 (r .end) u c))) in
+      subst (PairFits bytes) (ok-injective h)
+      (record {
+        held = record { left = x .held; right = y .held };
+        over = (x .over, y .over);
+        filled = x .front ∙ ap (λ (m : List ℕ). term-bytes (l .part) ++ m) (y .front ∙ ap (λ (m : List ℕ). term-bytes (r .part) ++ m) none);
+      })
 
   equation-fits : (f : ReadField) (e : Equation) → equation-field Σ f ≡ ok e → HeldPair n 16 (e .sides) × OverPair Σ (e .sides)
   unfolding equation-field
   equation-fits f e h =
       from-bind _ _ e h λ d a h.
       let q : record { first = f .first; sides = d } ≡ e = ok-injective h in
-      rw (← q) (pair-fits (f .first + 3) (f .contents) d a)
+      let k : PairFits (f .contents) d = pair-fits (f .first + 3) (f .contents) d a in
+      rw (← q) (k .held, k .over)
 
   record EquationsFit (more : ℕ) (es : List Equation) : Type 0 where
     few : length es ≤ more
@@ -139,6 +157,7 @@ pub record SingleFits (S : Single) : Type 0 where
   pub symbols-few : length (S .symbols) ≤ 16
   pub budget-few : S .budget ≤ 1_000_000
   pub fits : HeldPair (length (S .symbols)) 16 (S .equation .sides)
+  pub over : OverPair (S .symbols) (S .equation .sides)
 
 pub single-fits : (bytes : List ℕ) (S : Single) → parse-single bytes ≡ ok S → SingleFits S
 unfolding parse-single
@@ -148,4 +167,9 @@ single-fits bytes S q =
     let r : record { symbols = P .symbols; budget = P .budget; equation = e } ≡ S = cc in
     let k : Accepted P = accepts bytes P a in
     rw (← r)
-    (record { symbols-few = k .symbols-few; budget-few = k .budget-few; fits = only-fits _ (length bytes) (P .equations) e (k .equations-fit) b })
+    (record {
+      symbols-few = k .symbols-few;
+      budget-few = k .budget-few;
+      fits = only-fits _ (length bytes) (P .equations) e (k .equations-fit) b;
+      over = only-fits _ (length bytes) (P .equations) e (k .equations-over) b;
+    })

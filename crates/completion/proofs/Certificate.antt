@@ -17,7 +17,7 @@ use Rattle.problem.specs.Problem.{Symbol, rank-of, Equation}
 use Rattle.completion.specs.Decides.{Decides}
 use Rattle.completion.proofs.Words.{equation-sides}
 use Rattle.completion.proofs.Over.{OverEquations}
-use Rattle.completion.proofs.OverRun.{OverRules}
+use Rattle.completion.proofs.OverRules.{OverRules}
 use Rattle.completion.proofs.Deliver.{decides}
 
 -- What must hold of rules, for whatever reason, to deliver them for the equations.

@@ -1,40 +1,29 @@
 -- The delivery theorem in the words of document 01, from what a convergent system gives among all trees. Assumes nothing.
--- Read first: specs/Decides, proofs/Words, proofs/Replacements.
+-- Read first: specs/Decides, proofs/OverRules, proofs/Replacements.
 use mathlib.Core.Path.{_≡_, sym, _∙_, subst}
 use mathlib.Core.List.{List}
 use Prim.Native.Nat.{suc}
 use Rattle.terms.specs.Term.{Term}
 use Rattle.rewriting.specs.Overlap.{Rule, sides-of}
-use Rattle.rewriting.proofs.Relations.{Of, Star, stop, move, Solves}
+use Rattle.rewriting.proofs.Relations.{Of, Star, Solves}
 use Rattle.rewriting.proofs.Stepping.{StepBy}
 use Rattle.problem.specs.Problem.{Symbol, Equation}
-use Rattle.completion.specs.Delivery.{Step, Many, stay, go, Ends, Last}
+use Rattle.completion.specs.Delivery.{Ends, Last}
 use Rattle.problem.specs.Over.{Over}
 use Rattle.completion.specs.Decides.{Decides}
-use Rattle.completion.proofs.Words.{equation-sides, word-step, word-many, step-word, word-normal, normal-word}
-use Rattle.completion.proofs.Over.{OverEquations, over-step, over-star}
-use Rattle.completion.proofs.OverRun.{OverRules, of-over, of-brings}
+use Rattle.completion.proofs.Words.{equation-sides, word-step, word-many, word-normal, normal-word}
+use Rattle.completion.proofs.Over.{OverEquations}
+use Rattle.completion.proofs.OverRules.{OverRules, of-brings, raw-stays, star-stays, star-word}
 use Rattle.completion.proofs.Replacements.{replacement-over, conv-is-many}
 
 module _ (Σ : List Symbol) (es : List Equation) (rules : List Rule) (given : OverEquations Σ es) (good : OverRules Σ rules)
     (solves : Solves (Of (equation-sides es)) (Of (sides-of rules))) where
-  raw-stays : (s t : Term) → Over Σ s → StepBy rules s t → Over Σ t
-  raw-stays s t o w = over-step Σ (Of (sides-of rules)) (λ l r i. of-over Σ rules good l r i .1) (of-brings Σ rules good) s t w o
-
-  star-stays : {s t : Term} → Star (StepBy rules) s t → Over Σ s → Over Σ t
-  star-stays m o = over-star Σ (Of (sides-of rules)) (λ l r i. of-over Σ rules good l r i .1) (of-brings Σ rules good) m o
-
-  -- from a term over the symbols, steps are steps in the words
-  star-word : {s t : Term} → Star (StepBy rules) s t → Over Σ s → Many (Step Σ rules) s t
-  star-word stop o = stay
-  star-word (move w m) o = go (step-word Σ rules (of-brings Σ rules good) _ _ o w) (star-word m (raw-stays _ _ o w))
-
   -- the last term in the words is the last term
   last-is : (s t : Term) → Over Σ s → Last Σ rules s t → t ≡ solves .final s
   unfolding Last
   last-is s t o h =
       let m : Star (StepBy rules) s t = word-many Σ rules (h .0) in
-      solves .only s t m (normal-word Σ rules (of-brings Σ rules good) t (star-stays m o) (h .1))
+      solves .only s t m (normal-word Σ rules (of-brings Σ rules good) t (star-stays Σ rules good m o) (h .1))
 
   pub decides : Decides Σ es rules
   unfolding Ends Last
@@ -43,18 +32,18 @@ module _ (Σ : List Symbol) (es : List Equation) (rules : List Rule) (given : Ov
         ends = λ s o w. solves .never-forever s (λ n. word-step Σ rules (s n) (s (suc n)) (w n));
         has-last = λ s o. (
           solves .final s,
-          star-stays (solves .reached s) o,
-          (star-word (solves .reached s) o, word-normal Σ rules (solves .final s) (solves .stuck s)),
+          star-stays Σ rules good (solves .reached s) o,
+          (star-word Σ rules good (solves .reached s) o, word-normal Σ rules (solves .final s) (solves .stuck s)),
         );
         one-last = λ s t u o h k. last-is s t o h ∙ sym (last-is s u o k);
         always = λ s t u o m h.
             let n : Star (StepBy rules) s t = word-many Σ rules m in
-            star-word (subst (λ z. Star (StepBy rules) t z) (sym (last-is s u o h)) (solves .always s t n)) (star-stays n o);
+            star-word Σ rules good (subst (λ z. Star (StepBy rules) t z) (sym (last-is s u o h)) (solves .always s t n)) (star-stays Σ rules good n o);
         same-last = λ s t u v o q h k.
             let e : u ≡ solves .final s = last-is s u o h in
             let d : v ≡ solves .final t = last-is t v q k in
             let c = conv-is-many Σ es given s t o q in
             (λ p. c .0 (solves .same-final s t .0 (sym e ∙ p ∙ d)), λ m. e ∙ solves .same-final s t .1 (c .1 m) ∙ sym d);
-        step-stays = λ s t o w. raw-stays s t o (word-step Σ rules s t w);
+        step-stays = λ s t o w. raw-stays Σ rules good s t o (word-step Σ rules s t w);
         replacement-stays = replacement-over Σ es given;
       }

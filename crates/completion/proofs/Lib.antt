@@ -11,6 +11,7 @@ pub mod Invariant
 pub mod AtEnd
 pub mod Certificate
 pub mod Over
+pub mod OverRules
 pub mod OverRun
 pub mod Renamed
 pub mod Patch
@@ -20,7 +21,9 @@ pub mod Delivered
 pub mod Limits
 pub mod Kept
 pub mod Accepts
+pub mod Widths
 pub mod Result
+pub mod Keeping
 pub mod Capacity
 pub mod Steady
 pub mod Raised

@@ -2,17 +2,24 @@
 -- nothing.
 -- Read first: specs/Turn, terms/proofs/Limits.
 use mathlib.Core.Path.{_≡_, refl, ap}
-use mathlib.Core.List.{List, [], _∷_, map}
+use mathlib.Core.Logic.{⊎-elim}
+use mathlib.Core.List.{List, [], _∷_, map, List·Memᴰ·head, Memᴰ·append-left, Memᴰ·append-right}
 use Prim.Native.Nat.{ℕ, suc, _+_, _≤_, _<_}
 use native.Mathlib.Omega.{arith}
 use lib.ListN.{length}
-use Rattle.terms.specs.Term.{Term, Pair, size, pair-variables, renamed}
-use Rattle.terms.proofs.Limits.{Made, made-vars, made-with, variables-few, renamed-left-size, renamed-right-size, renamed-left-made, renamed-right-made}
+use Rattle.terms.specs.Term.{Term, var, node, Terms, nil, cons, variables, variables-of, Pair, size, pair-variables, renamed}
+use Rattle.terms.proofs.Subst.{In, VarsIn}
+use Rattle.terms.proofs.Below.{pair-in, in-pair-left, in-pair-right}
+use Rattle.terms.proofs.Every.{every-in, every-of}
+use Rattle.terms.proofs.Limits.{Made, MadeAll, made-vars, made-with, variables-few, renamed-left-size, renamed-right-size, renamed-left-made}
+use Rattle.terms.proofs.Limits.{renamed-right-made}
 use Rattle.terms.specs.Base.{Every, of-none, of-cons}
 use Rattle.rewriting.specs.Overlap.{Rule}
-use Rattle.problem.specs.Problem.{Equation, Problem}
-use Rattle.completion.proofs.Over.{OverEquations}
+use Rattle.problem.specs.Problem.{Symbol, Equation, Problem}
+use Rattle.problem.specs.Over.{Over, OverAll}
+use Rattle.completion.proofs.Over.{OverPair, OverEquations}
 use Rattle.completion.specs.Turn.{Origin, waiting-input, removed-rule, scanned-input, overlapping, Candidate, Entry, State, candidates, initial}
+use Rattle.completion.specs.Keeps.{PairKeeps}
 
 -- At most 120 nodes, symbols below n, variables below v.
 pub record HeldTo (n v : ℕ) (t : Term) : Type 0 where
@@ -107,6 +114,39 @@ renamed-held n v w e few h =
 
 pub few-variables : (n v : ℕ) (e : Pair) → HeldPair n v e → length (pair-variables e) ≤ v
 few-variables n v e h = variables-few v e (made-vars _ (λ x. x < v) (e .left) (h .left .made)) (made-vars _ (λ x. x < v) (e .right) (h .right .made))
+
+-- A pair that is held, over the symbols and renamed keeps what the promise of complete says of a pair; and one that keeps it is held.
+pub pair-keeps : (Σ : List Symbol) (e : Pair) → HeldPair (length Σ) 16 e → OverPair Σ e → renamed e ≡ e → PairKeeps Σ e
+pair-keeps Σ e h o q =
+    record {
+      left-over = o .0;
+      right-over = o .1;
+      left-small = h .left .small;
+      right-small = h .right .small;
+      variables-few = every-of (pair-variables e)
+          (λ x i. ⊎-elim (λ j. made-vars _ _ (e .left) (h .left .made) x j) (λ j. made-vars _ _ (e .right) (h .right .made) x j) (pair-in e x i));
+      unchanged = q;
+    }
+
+module _ (Σ : List Symbol) (X : ℕ → Type 0) where
+  mutual
+    unfolding Over Made variables
+
+    over-made : (t : Term) → Over Σ t → VarsIn X t → Made (λ f. f < length Σ) X t
+    over-made (var x) o k = k x (List·Memᴰ·head refl)
+    over-made (node f ts) o k = (o .0, over-made-all ts (o .2) k)
+
+    over-made-all : (ts : Terms) → OverAll Σ ts → ((x : ℕ) → In x (variables-of ts) → X x) → MadeAll (λ f. f < length Σ) X ts
+    over-made-all nil o k = tt
+    over-made-all (cons t ts) o k =
+        (over-made t (o .0) (λ x i. k x (Memᴰ·append-left (variables-of ts) i)), over-made-all ts (o .1) (λ x i. k x (Memᴰ·append-right (variables t) i)))
+
+pub keeps-held : (Σ : List Symbol) (e : Pair) → PairKeeps Σ e → HeldPair (length Σ) 16 e
+keeps-held Σ e k =
+    record {
+      left = record { small = k .left-small; made = over-made Σ _ (e .left) (k .left-over) (λ x i. every-in (k .variables-few) (in-pair-left e x i)) };
+      right = record { small = k .right-small; made = over-made Σ _ (e .right) (k .right-over) (λ x i. every-in (k .variables-few) (in-pair-right e x i)) };
+    }
 
 -- The inputs as candidates.
 pub length-candidates : (origin : ℕ → Origin) (k : ℕ) (es : List Equation) → length (candidates origin k es) ≡ length es

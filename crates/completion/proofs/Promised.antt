@@ -1,6 +1,6 @@
 -- Demand 3, the delivery theorem, as a promise about bytes: what complete writes, read back, holds the end and the live rules of the run, and where
 -- the end is 0 these rules settle the buyer's equations. And demand 2: these rules are derived from the equations. Assumes nothing.
--- Read first: specs/Promise, proofs/Delivered, proofs/Published, proofs/ReadBack.
+-- Read first: specs/Promise, proofs/Delivered, proofs/Published, proofs/Keeping, proofs/ReadBack.
 use mathlib.Core.Path.{_≡_, refl, sym, ap, subst, _∙_}
 use mathlib.Core.Bool.{false}
 use mathlib.Core.List.{List, [], _∷_, _++_, map, append-assoc}
@@ -21,11 +21,13 @@ use Rattle.completion.specs.Turn.{Entry, run}
 use Rattle.completion.specs.Calls.{rule-field, entry-field, forms-field, result-fields, result-bytes, complete-call}
 use Rattle.completion.specs.Promise.{fields-of, one-byte, end-in, rules-in, Promise, Delivers}
 use Rattle.completion.proofs.Limits.{RuleFits, Accepted, Limits}
-use Rattle.completion.proofs.OverRun.{OverRule, reachable-over}
+use Rattle.completion.proofs.OverRules.{OverRule}
+use Rattle.completion.proofs.OverRun.{reachable-over}
 use Rattle.completion.proofs.Stopped.{run-stops}
 use Rattle.completion.proofs.Kept.{run-limits}
 use Rattle.completion.proofs.Accepts.{accepts}
 use Rattle.completion.proofs.Result.{fields-fit}
+use Rattle.completion.proofs.Keeping.{run-keeps}
 use Rattle.completion.proofs.ReadBack.{fields-are, Fits, no-rules, rules-back}
 use Rattle.completion.proofs.Delivered.{delivered}
 use Rattle.completion.proofs.Published.{run-derived, complete-derived}
@@ -105,6 +107,7 @@ module _ (bytes : List ℕ) (P : Problem) (read : parse bytes ≡ ok P) where
         rules = run P .state .rules;
         are-rules = rules-read;
         are-live = refl;
+        keeps = run-keeps P accepted;
         decide = λ h. delivered bytes P read (end-read .0 h);
         derived = run-derived P;
         derived-alone = λ h. complete-derived P (end-read .0 h);

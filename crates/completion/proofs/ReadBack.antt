@@ -47,7 +47,7 @@ fields-are fs h = fields-back (suc (length (flatMap field-bytes fs))) 0 fs h (om
 
 module _ (Σ : List Symbol) (few : length Σ ≤ 16) where
   -- symbols of the table, and variables that have a byte each
-  abbrev Named : Term → Type 0
+  abbrev pub Named : Term → Type 0
   Named t = Made (λ f. f < length Σ) (λ x. x < 16) t
 
   -- a rule that its field can hold
@@ -58,7 +58,7 @@ module _ (Σ : List Symbol) (few : length Σ ≤ 16) where
     pub left-named : Named (r .sides .left)
     pub right-named : Named (r .sides .right)
 
-  two-terms : (n high low : ℕ) (l r : Term) (bytes : List ℕ) → bytes ≡ term-bytes l ++ (term-bytes r ++ []) → number-from 0 (high ∷ low ∷ []) ≡ n →
+  pub two-terms : (n high low : ℕ) (l r : Term) (bytes : List ℕ) → bytes ≡ term-bytes l ++ (term-bytes r ++ []) → number-from 0 (high ∷ low ∷ []) ≡ n →
       Over Σ l → Over Σ r → Named l → Named r → rule-of Σ (high ∷ low ∷ bytes) ≡ ok (record { number = n; sides = record { left = l; right = r } })
   unfolding rule-of _>>=_ refuse-if
   two-terms n high low l r bytes b e ol or nl nr =

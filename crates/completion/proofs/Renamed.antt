@@ -22,7 +22,7 @@ use Rattle.completion.specs.Turn.{Candidate, scanned-input, State, candi
 use Rattle.completion.proofs.Reachable.{Reachable}
 use Rattle.completion.proofs.Stopped.{run-stops}
 use Rattle.completion.proofs.Closed.{Closed, candidates-every, reachable-has}
-use Rattle.completion.proofs.OverRun.{above-brings}
+use Rattle.completion.proofs.OverRules.{above-brings}
 
 -- the variables are 0, 1, 2 .. in order of first occurrence
 abbrev pub Renamed : Pair → Type 0

@@ -1,0 +1,4 @@
+pub mod Asked
+pub mod Right
+pub mod Answering
+pub mod Instances

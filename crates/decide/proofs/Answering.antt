@@ -1,0 +1,166 @@
+-- A record that complete wrote for the same symbol field: "same" and "different" are right about the buyer's equations, 13 and 15 are not given, and
+-- 14 exactly if the run did not end with 0. This rests on the promise of complete, and on nothing else of a run. Assumes nothing.
+-- Read first: specs/Answers, proofs/Right, completion/specs/Promise, record/proofs/RoundTrip.
+use mathlib.Core.Path.{_≡_, refl, sym, ap, ap₂, subst₂, _∙_}
+use mathlib.Core.Bool.{Bool, true, false}
+use mathlib.Core.List.{List, [], _∷_}
+use mathlib.Core.Logic.{_↔_, _⊎_, ⊎-elim}
+use Prim.Native.Nat.{ℕ}
+use native.Mathlib.Omega.{arith}
+use lib.Dec.{eqb}
+use Rattle.terms.specs.Term.{Term, Pair}
+use Rattle.terms.proofs.Shape.{zero≢one, Says}
+use Rattle.reading.specs.Stops.{wrong-record, not-complete, not-above}
+use Rattle.problem.specs.Problem.{Reading, ok, refused, _>>=_, refuse-if, Symbol, Problem}
+use Rattle.problem.proofs.Reading.{from-bind, ok-injective, no-ok}
+use Rattle.rewriting.specs.Overlap.{Rule}
+use Rattle.rewriting.specs.Rewrite.{End, complete, neither-above, spent, too-large, rules-full, log-full, end-number, normalise-pair}
+use Rattle.completion.specs.Turn.{run}
+use Rattle.completion.specs.Calls.{result-bytes, complete-call, Single, parse-single}
+use Rattle.completion.specs.Keeps.{RulesKeep}
+use Rattle.completion.specs.Delivery.{Replacement, Many, Last}
+use Rattle.completion.specs.Decides.{Decides}
+use Rattle.completion.specs.Promise.{Promise, Delivers, end-in, rules-in}
+use Rattle.completion.proofs.Accepts.{accepts}
+use Rattle.completion.proofs.Promised.{promised}
+use Rattle.record.specs.Record.{RuleAt, rules-of, read-record}
+use Rattle.record.specs.Reader.{rules-at}
+use Rattle.record.proofs.RoundTrip.{record-back}
+use Rattle.decide.specs.Decide.{all-above, Question, read-question, Answer, are-same, are-different, answer, decide-call}
+use Rattle.decide.specs.Answers.{OneLast, TwoLasts, EngineWrote, Leads, AboutEquations, NotRefused}
+use Rattle.decide.proofs.Asked.{Asked, asked}
+use Rattle.decide.proofs.Right.{Told, Answered, answered}
+
+-- 0 is the number of `complete` alone
+zero-end : (e : End) → Says (e ≡ complete) (eqb (end-number e) 0)
+unfolding end-number
+zero-end complete = refl
+zero-end (neither-above p) = λ h. zero≢one (cc)
+zero-end spent = λ h. zero≢one (cc)
+zero-end too-large = λ h. zero≢one (cc)
+zero-end rules-full = λ h. zero≢one (cc)
+zero-end log-full = λ h. zero≢one (cc)
+
+-- rules that go down pass 15
+keep-above : (Σ : List Symbol) (at before : ℕ) (rules : List Rule) → RulesKeep Σ before rules → all-above Σ (rules-at at rules) ≡ ok tt
+unfolding all-above rules-at RulesKeep _>>=_ refuse-if
+keep-above Σ at before [] h = refl
+keep-above Σ at before (r ∷ rules) h = rw (h .0 .down) (keep-above Σ _ (r .number) rules (h .1))
+
+module _ (problem kept given : List ℕ) (P : Problem) (S : Single) (w : EngineWrote given P kept) (is-single : parse-single problem ≡ ok S)
+    (same-symbols : P .symbols ≡ S .symbols) where
+  promise : Promise P kept
+  unfolding Delivers
+  promise = promised given (w .buffer) kept (w .written) P (w .parsed)
+
+  -- the equations lead from one side to the other
+  abbrev Led : List Symbol → Pair → Type 0
+  Led Σ e = Many (Replacement Σ (P .equations)) (e .left) (e .right)
+
+  module _ (q : Question) (k : Asked problem kept q) where
+    single-is : k .single ≡ S
+    single-is = ok-injective (sym (k .is-single) ∙ is-single)
+
+    asked-symbols : q .symbols ≡ P .symbols
+    asked-symbols = k .symbols-are ∙ ap (λ (S : Single). S .symbols) single-is ∙ sym same-symbols
+
+    asked-sides : q .sides ≡ S .equation .sides
+    asked-sides = k .sides-are ∙ ap (λ (S : Single). S .equation .sides) single-is
+
+    -- The record's rules decide the equations of the problem that it was written for.
+    rules-decide : Decides (q .symbols) (P .equations) (q .rules)
+    rules-decide =
+        let fields : promise .fields ≡ k .fields = ok-injective (sym (promise .are-fields) ∙ k .are-fields) in
+        let rules : promise .rules ≡ q .rules = ok-injective (sym (promise .are-rules) ∙ ap (λ fs. rules-in (P .symbols) fs) fields
+        ∙ ap (λ Σ. rules-in Σ (k .fields)) (sym asked-symbols) ∙ k .rules-are) in
+        subst₂ (λ Σ rules. Decides Σ (P .equations) rules) (sym asked-symbols) rules (promise .decide (ap end-in fields ∙ k .end-zero))
+
+    last-exactly : (u v : Term) → Last (q .symbols) (q .rules) (q .sides .left) u → Last (q .symbols) (q .rules) (q .sides .right) v → (u ≡ v) ↔ Leads P S
+    last-exactly u v l r =
+        let c = rules-decide .same-last (q .sides .left) (q .sides .right) u v (k .sides-over .0) (k .sides-over .1) l r in
+        (λ e. subst₂ Led asked-symbols asked-sides (c .0 e), λ m. c .1 (subst₂ Led (sym asked-symbols) (sym asked-sides) m))
+
+  same-leads : decide-call problem kept ≡ ok are-same → Leads P S
+  unfolding Told
+  same-leads h =
+      let a : Answered problem kept are-same = answered problem kept are-same h in
+      let t : OneLast (a .question) = a .is-told in
+      last-exactly (a .question) (asked problem kept _ (a .is-question)) (t .term) (t .term) (t .left-last) (t .right-last) .0 refl
+
+  different-leads : decide-call problem kept ≡ ok are-different → Leads P S → ⊥
+  unfolding Told
+  different-leads h m =
+      let a : Answered problem kept are-different = answered problem kept are-different h in
+      let t : TwoLasts (a .question) = a .is-told in
+      t .differ (last-exactly (a .question) (asked problem kept _ (a .is-question)) (t .left-term) (t .right-term) (t .left-last) (t .right-last) .1 m)
+
+  not-both : decide-call problem kept ≡ ok are-same → decide-call problem kept ≡ ok are-different → ⊥
+  not-both h d = different-leads d (same-leads h)
+
+  equations-exactly : (decide-call problem kept ≡ ok are-same) ⊎ (decide-call problem kept ≡ ok are-different) →
+      ((decide-call problem kept ≡ ok are-same) ↔ Leads P S) × ((decide-call problem kept ≡ ok are-different) ↔ (Leads P S → ⊥))
+  equations-exactly h =
+      ⊎-elim
+      (λ e. ((λ _. same-leads e, λ _. e), (λ d. absurd (not-both e d), λ n. absurd (n (same-leads e)))))
+      (λ d. ((λ e. absurd (not-both e d), λ m. absurd (different-leads d m)), (λ _. different-leads d, λ _. d)))
+      h
+
+  -- What the record is read as.
+  kept-is : kept ≡ result-bytes (run P)
+  unfolding complete-call
+  kept-is =
+      from-bind _ _ kept (w .written) λ _ _ e.
+      from-bind _ _ kept e λ Q b e.
+      sym (ok-injective e) ∙ ap (λ (Q : Problem). result-bytes (run Q)) (ok-injective (sym b ∙ w .parsed))
+
+  abbrev rules-left : List RuleAt
+  rules-left = rules-at 11 (run P .state .rules)
+
+  record-read : read-record (S .symbols) kept ≡ ok (record { end = end-number (run P .end); units = run P .units; rules = rules-left })
+  record-read =
+      ap₂ read-record (sym same-symbols) kept-is
+      ∙ record-back (P .symbols) (accepts given P (w .parsed) .symbols-few) (run P) (promise .keeps)
+
+  above-passed : all-above (S .symbols) rules-left ≡ ok tt
+  above-passed = ap (λ Σ. all-above Σ rules-left) (sym same-symbols) ∙ keep-above (P .symbols) 11 0 (run P .state .rules) (promise .keeps .rules-keep)
+
+  when-complete : eqb (end-number (run P .end)) 0 ≡ true →
+      decide-call problem kept ≡ ok (answer (normalise-pair (rules-of rules-left) (S .equation .sides) (S .budget)))
+  unfolding decide-call read-question _>>=_ refuse-if
+  when-complete z = rw is-single (rw record-read (rw z (rw above-passed refl)))
+
+  when-not : eqb (end-number (run P .end)) 0 ≡ false → decide-call problem kept ≡ refused not-complete 0
+  unfolding decide-call read-question _>>=_ refuse-if
+  when-not z = rw is-single (rw record-read (rw z refl))
+
+  -- 13 and 15 are not given, and 14 as the run's end says
+  record ByEnd (r : Reading Answer) : Type 0 where
+    never : (place : ℕ) → (r ≡ refused wrong-record place → ⊥) × (r ≡ refused not-above place → ⊥)
+    unfinished : (r ≡ refused not-complete 0) ↔ (run P .end ≡ complete → ⊥)
+
+  by-end : (b : Bool) → eqb (end-number (run P .end)) 0 ≡ b → Says (run P .end ≡ complete) b → ByEnd (decide-call problem kept)
+  by-end true z e =
+      rw (when-complete z)
+      (record {
+        never = λ place. (λ h. no-ok (sym h), λ h. no-ok (sym h));
+        unfinished = (λ h. absurd (no-ok (sym h)), λ n. absurd (n e));
+      })
+  by-end false z n =
+      rw (when-not z)
+      (record {
+        never = λ place. (λ h. let d : not-complete ≡ wrong-record = cc in omega arith, λ h. let d : not-complete ≡ not-above = cc in omega arith);
+        unfinished = (λ _. n, λ _. refl);
+      })
+
+  engine-end : ByEnd (decide-call problem kept)
+  engine-end = by-end _ refl (zero-end (run P .end))
+
+pub about-equations : (problem kept : List ℕ) → AboutEquations problem kept (decide-call problem kept)
+about-equations problem kept = record { exactly = λ given P S w p e. equations-exactly problem kept given P S w p e }
+
+pub not-refused : (problem kept : List ℕ) → NotRefused problem kept (decide-call problem kept)
+not-refused problem kept =
+    record {
+      never = λ given P S w p e. engine-end problem kept given P S w p e .never;
+      unfinished = λ given P S w p e. engine-end problem kept given P S w p e .unfinished;
+    }
