@@ -12,45 +12,45 @@ use borrow.Author.Tests.{ltb-false, leb-true}
 use Rattle.terms.specs.Base.{number-from, Every, of-none, of-cons}
 use Rattle.terms.specs.Term.{Term, term-bytes}
 use Rattle.terms.proofs.Bytes.{length-bytes}
-use Rattle.terms.proofs.Shape.{both-true}
+use Rattle.terms.proofs.Shape.{both-true, zero≢one}
 use Rattle.terms.proofs.Every.{every-head, every-tail}
 use Rattle.problem.specs.Problem.{Reading, ok, refused, _>>=_, refuse-if, ReadField, read-field, due, Symbol, arity-of, read-symbols, symbol-field}
-use Rattle.problem.specs.Problem.{budget-field, Byte, symbol, variable, neither, byte-of, ReadPart, read-term, read-terms, read-side, Equation}
+use Rattle.problem.specs.Problem.{budget-field, Byte, symbol, variable, neither, byte-of, ReadPart, read-term, read-terms, read-side, read-pair, Equation}
 use Rattle.problem.specs.Problem.{equation-field, equation-fields, Problem, parse, only-equation}
 use Rattle.completion.specs.Calls.{enough, complete-call, Single, parse-single, compare-call, unify-call}
 use Rattle.completion.proofs.Accepts.{only-fits}
 use Rattle.problem.proofs.Reading.{ReadsTo, reads, from-bind, no-ok, ok-injective, passed}
 
--- 1 to 12, and not 7: "Refusal 7 no longer occurs." [4.1 to 4.12]
-abbrev pub is-refusal : ℕ → Bool
-is-refusal n = leb 1 n && leb n 12 && not (eqb n 7)
+-- 1 to so many, and not 7: "Refusal 7 no longer occurs." [4.1 to 4.12]
+abbrev pub is-refusal : ℕ → ℕ → Bool
+is-refusal most n = leb 1 n && leb n most && not (eqb n 7)
 
 -- If a reading is refused, the number is one of these and the place at most e.
-pub data RefusesWithin {A : Type 0} (e : ℕ) : Reading A → Type 0 where
-  was-read : {a : A} → RefusesWithin e (ok a)
-  was-refused : (n at : ℕ) → is-refusal n ≡ true → at ≤ e → RefusesWithin e (refused n at)
+pub data RefusesWithin {A : Type 0} (most e : ℕ) : Reading A → Type 0 where
+  was-read : {a : A} → RefusesWithin most e (ok a)
+  was-refused : (n at : ℕ) → is-refusal most n ≡ true → at ≤ e → RefusesWithin most e (refused n at)
 
-pub refusal-few : (n : ℕ) → is-refusal n ≡ true → n ≤ 12
-refusal-few n h = leb-true n 12 (both-true (leb 1 n) (leb n 12) (both-true (leb 1 n && leb n 12) (not (eqb n 7)) h .0) .1)
+pub refusal-few : (most n : ℕ) → is-refusal most n ≡ true → n ≤ most
+refusal-few most n h = leb-true n most (both-true (leb 1 n) (leb n most) (both-true (leb 1 n && leb n most) (not (eqb n 7)) h .0) .1)
 
-bind-within : {A B : Type 0} {e : ℕ} (m : Reading A) (next : A → Reading B) → RefusesWithin e m →
-    ((a : A) → m ≡ ok a → RefusesWithin e (next a)) → RefusesWithin e (m >>= next)
+pub bind-within : {A B : Type 0} {most e : ℕ} (m : Reading A) (next : A → Reading B) → RefusesWithin most e m →
+    ((a : A) → m ≡ ok a → RefusesWithin most e (next a)) → RefusesWithin most e (m >>= next)
 unfolding _>>=_
 bind-within (ok a) next h k = k a refl
 bind-within (refused n at) next (was-refused _ _ p q) k = was-refused n at p q
 
-test-within : {e : ℕ} (b : Bool) (n at : ℕ) → is-refusal n ≡ true → at ≤ e → RefusesWithin e (refuse-if b n at)
+pub test-within : {most e : ℕ} (b : Bool) (n at : ℕ) → is-refusal most n ≡ true → at ≤ e → RefusesWithin most e (refuse-if b n at)
 unfolding refuse-if
 test-within true n at p q = was-refused n at p q
 test-within false n at p q = was-read
 
 -- A field that was read: its contents and what stands behind it are parts of the bytes.
-record FieldWithin (at : ℕ) (bytes : List ℕ) (f : ReadField) : Type 0 where
-  first : f .first ≡ at
-  contents : at + 3 + length (f .contents) ≡ f .end
-  rest : f .end + length (f .rest) ≡ at + length bytes
+pub record FieldWithin (at : ℕ) (bytes : List ℕ) (f : ReadField) : Type 0 where
+  pub first : f .first ≡ at
+  pub contents : at + 3 + length (f .contents) ≡ f .end
+  pub rest : f .end + length (f .rest) ≡ at + length bytes
 
-field-within : {e : ℕ} (at : ℕ) (bytes : List ℕ) → at ≤ e → RefusesWithin e (read-field at bytes)
+field-within : {e : ℕ} (at : ℕ) (bytes : List ℕ) → at ≤ e → RefusesWithin 12 e (read-field at bytes)
 unfolding read-field
 field-within at [] h = was-refused 3 at refl h
 field-within at (t ∷ []) h = was-refused 3 at refl h
@@ -69,14 +69,14 @@ field-parts at (t ∷ a ∷ b ∷ bytes) f q =
     let r : record { first = at; tag = t; contents = take n bytes; end = at + 3 + n; rest = drop n bytes } ≡ f = ok-injective q in
     rw (← r) (record { first = refl; contents = omega (arith, length-take n bytes); rest = omega (arith, length-drop n bytes) })
 
-due-within : {e : ℕ} (tag at : ℕ) (bytes : List ℕ) → at ≤ e → RefusesWithin e (due tag at bytes)
+due-within : {e : ℕ} (tag at : ℕ) (bytes : List ℕ) → at ≤ e → RefusesWithin 12 e (due tag at bytes)
 unfolding due
 due-within tag at [] h = was-refused 4 at refl h
 due-within tag at (b ∷ bytes) h =
     bind-within _ _ (field-within at (b ∷ bytes) h) λ f _.
     bind-within _ _ (test-within _ 4 at refl h) λ _ _. was-read
 
-due-parts : (tag at : ℕ) (bytes : List ℕ) (f : ReadField) → due tag at bytes ≡ ok f → FieldWithin at bytes f
+pub due-parts : (tag at : ℕ) (bytes : List ℕ) (f : ReadField) → due tag at bytes ≡ ok f → FieldWithin at bytes f
 unfolding due
 due-parts tag at [] f q = absurd (no-ok q)
 due-parts tag at (b ∷ bytes) f q =
@@ -84,7 +84,7 @@ due-parts tag at (b ∷ bytes) f q =
     from-bind _ _ f q λ _ _ q.
     let r : g ≡ f = ok-injective q in rw (← r) (field-parts at (b ∷ bytes) g p)
 
-symbols-within : {e : ℕ} (at : ℕ) (bytes : List ℕ) → at + length bytes ≤ e → RefusesWithin e (read-symbols at bytes)
+symbols-within : {e : ℕ} (at : ℕ) (bytes : List ℕ) → at + length bytes ≤ e → RefusesWithin 12 e (read-symbols at bytes)
 unfolding read-symbols
 symbols-within at [] h = was-read
 symbols-within at (a ∷ []) h = was-read
@@ -93,12 +93,12 @@ symbols-within at (a ∷ r ∷ bytes) h =
     bind-within _ _ (test-within _ 6 (at + 1) refl (omega arith)) λ _ _.
     bind-within _ _ (symbols-within (at + 2) bytes (omega arith)) λ _ _. was-read
 
-symbol-field-within : {e : ℕ} (f : ReadField) → f .first + 3 + length (f .contents) ≤ e → RefusesWithin e (symbol-field f)
+symbol-field-within : {e : ℕ} (f : ReadField) → f .first + 3 + length (f .contents) ≤ e → RefusesWithin 12 e (symbol-field f)
 unfolding symbol-field
 symbol-field-within f h =
     bind-within _ _ (test-within _ 5 (f .first) refl (omega arith)) λ _ _. symbols-within (f .first + 3) (f .contents) h
 
-budget-within : {e : ℕ} (f : ReadField) → f .first ≤ e → RefusesWithin e (budget-field f)
+budget-within : {e : ℕ} (f : ReadField) → f .first ≤ e → RefusesWithin 12 e (budget-field f)
 unfolding budget-field
 budget-within f h =
     bind-within _ _ (test-within _ 8 (f .first) refl h) λ _ _.
@@ -115,23 +115,23 @@ module _ (Σ : List Symbol) (e : ℕ) where
       let l : length bytes ≡ length (term-bytes (p .part)) + length (p .rest) = ap length (r .front) ∙ length-append (term-bytes (p .part)) (p .rest) in
       omega (arith, length-bytes (p .part), r .ends)
 
-  terms-within : (one : ℕ → List ℕ → Reading (ReadPart Term)) → ((at : ℕ) (bytes : List ℕ) → at + length bytes ≤ e → RefusesWithin e (one at bytes)) →
+  terms-within : (one : ℕ → List ℕ → Reading (ReadPart Term)) → ((at : ℕ) (bytes : List ℕ) → at + length bytes ≤ e → RefusesWithin 12 e (one at bytes)) →
       ((at : ℕ) (bytes : List ℕ) (p : ReadPart Term) → one at bytes ≡ ok p → Behind at bytes p) →
-      (n at : ℕ) (bytes : List ℕ) → at + length bytes ≤ e → RefusesWithin e (read-terms one n at bytes)
+      (n at : ℕ) (bytes : List ℕ) → at + length bytes ≤ e → RefusesWithin 12 e (read-terms one n at bytes)
   unfolding read-terms
   terms-within one h b zero at bytes k = was-read
   terms-within one h b (suc n) at bytes k =
       bind-within _ _ (h at bytes k) λ t q.
       bind-within _ _ (terms-within one h b n (t .end) (t .rest) (omega (arith, b at bytes t q))) λ _ _. was-read
 
-  term-within : (depth at : ℕ) (bytes : List ℕ) → at + length bytes ≤ e → RefusesWithin e (read-term Σ depth at bytes)
+  term-within : (depth at : ℕ) (bytes : List ℕ) → at + length bytes ≤ e → RefusesWithin 12 e (read-term Σ depth at bytes)
   unfolding read-term
   term-within zero at bytes k = was-refused 10 at refl (omega arith)
   term-within (suc depth) at [] k = was-refused 10 at refl (omega arith)
   term-within (suc depth) at (b ∷ bytes) k = go (byte-of Σ b) refl (λ at bytes k. term-within depth at bytes k)
     where
-      go : (c : Byte) → byte-of Σ b ≡ c → ((at : ℕ) (bytes : List ℕ) → at + length bytes ≤ e → RefusesWithin e (read-term Σ depth at bytes)) →
-          RefusesWithin e (read-term Σ (suc depth) at (b ∷ bytes))
+      go : (c : Byte) → byte-of Σ b ≡ c → ((at : ℕ) (bytes : List ℕ) → at + length bytes ≤ e → RefusesWithin 12 e (read-term Σ depth at bytes)) →
+          RefusesWithin 12 e (read-term Σ (suc depth) at (b ∷ bytes))
       go (symbol f) q ih =
           rw (q, read-term)
           (bind-within _ _ (terms-within _ ih (λ at bytes p h. term-behind depth at bytes p h) (arity-of Σ f) (at + 1) bytes (omega arith)) λ _ _.
@@ -139,7 +139,7 @@ module _ (Σ : List Symbol) (e : ℕ) where
       go (variable x) q ih = rw (q, read-term) was-read
       go neither q ih = rw (q, read-term) (was-refused 10 at refl (omega arith))
 
-  side-within : (at : ℕ) (bytes : List ℕ) → at + length bytes ≤ e → RefusesWithin e (read-side Σ at bytes)
+  side-within : (at : ℕ) (bytes : List ℕ) → at + length bytes ≤ e → RefusesWithin 12 e (read-side Σ at bytes)
   unfolding read-side
   side-within at bytes k =
       bind-within _ _ (term-within (suc (length bytes)) at bytes k) λ t _.
@@ -152,7 +152,7 @@ module _ (Σ : List Symbol) (e : ℕ) where
       from-bind _ _ p q λ _ _ q.
       let s : t ≡ p = ok-injective q in rw (← s) (term-behind (suc (length bytes)) at bytes t r)
 
-  pair-within : (at : ℕ) (bytes : List ℕ) → at + length bytes ≤ e → RefusesWithin e (read-pair Σ at bytes)
+  pair-within : (at : ℕ) (bytes : List ℕ) → at + length bytes ≤ e → RefusesWithin 12 e (read-pair Σ at bytes)
   unfolding read-pair
   pair-within at bytes k =
       bind-within _ _ (side-within at bytes k) λ l p.
@@ -161,11 +161,11 @@ module _ (Σ : List Symbol) (e : ℕ) where
       let b = side-behind (l .end) (l .rest) r q in
       bind-within _ _ (test-within _ 10 (r .end) refl (omega arith)) λ _ _. was-read
 
-  equation-within : (f : ReadField) → f .first + 3 + length (f .contents) ≤ e → RefusesWithin e (equation-field Σ f)
+  equation-within : (f : ReadField) → f .first + 3 + length (f .contents) ≤ e → RefusesWithin 12 e (equation-field Σ f)
   unfolding equation-field
   equation-within f k = bind-within _ _ (pair-within (f .first + 3) (f .contents) k) λ _ _. was-read
 
-  equations-within : (more at : ℕ) (bytes : List ℕ) → at + length bytes ≤ e → RefusesWithin e (equation-fields Σ more at bytes)
+  equations-within : (more at : ℕ) (bytes : List ℕ) → at + length bytes ≤ e → RefusesWithin 12 e (equation-fields Σ more at bytes)
   unfolding equation-fields
   equations-within zero at [] k = was-read
   equations-within zero at (b ∷ bytes) k =
@@ -195,7 +195,7 @@ module _ (Σ : List Symbol) (e : ℕ) where
       let low : d .first ≤ e = omega (arith, w .first) in
       rw (← r) (of-cons low (firsts-within more (f .end) (f .rest) ds (omega (arith, w .rest)) c))
 
-pub parse-within : (bytes : List ℕ) → RefusesWithin 8192 (parse bytes)
+pub parse-within : (bytes : List ℕ) → RefusesWithin 12 8192 (parse bytes)
 unfolding parse
 parse-within bytes =
     bind-within _ _ (test-within _ 2 8192 refl (omega arith)) λ u p.
@@ -223,13 +223,13 @@ parse-firsts bytes P q =
     let r : record { symbols = Σ; budget = budget; equations = es } ≡ P = ok-injective q in
     rw (← r) (few, firsts-within Σ 8192 16 (b .end) (b .rest) es (omega (arith, a .rest, c .rest)) p)
 
-only-within : {e : ℕ} (end : ℕ) (es : List Equation) → end ≤ e → Every (λ (q : Equation). q .first ≤ e) es → RefusesWithin e (only-equation end es)
+only-within : {e : ℕ} (end : ℕ) (es : List Equation) → end ≤ e → Every (λ (q : Equation). q .first ≤ e) es → RefusesWithin 12 e (only-equation end es)
 unfolding only-equation
 only-within end [] h k = was-refused 12 end refl h
 only-within end (d ∷ []) h k = was-read
 only-within end (d ∷ d′ ∷ es) h k = was-refused 12 (d′ .first) refl (every-head (every-tail k))
 
-single-within : (bytes : List ℕ) → RefusesWithin 8192 (parse-single bytes)
+pub single-within : (bytes : List ℕ) → RefusesWithin 12 8192 (parse-single bytes)
 unfolding parse-single
 single-within bytes =
     bind-within _ _ (parse-within bytes) λ P p.
@@ -244,30 +244,30 @@ single-first bytes S q =
     let r : record { symbols = P .symbols; budget = P .budget; equation = e } ≡ S = ok-injective q in
     rw (← r) (only-fits (λ (q : Equation). q .first ≤ 8192) (length bytes) (P .equations) e (parse-firsts bytes P p .1) h)
 
-enough-within : (buffer : ℕ) → RefusesWithin 8192 (enough buffer)
+enough-within : (buffer : ℕ) → RefusesWithin 12 8192 (enough buffer)
 unfolding enough
 enough-within buffer = test-within _ 1 0 refl (omega arith)
 
-pub complete-within : (bytes : List ℕ) (buffer : ℕ) → RefusesWithin 8192 (complete-call bytes buffer)
+pub complete-within : (bytes : List ℕ) (buffer : ℕ) → RefusesWithin 12 8192 (complete-call bytes buffer)
 unfolding complete-call
 complete-within bytes buffer = bind-within _ _ (enough-within buffer) λ _ _. bind-within _ _ (parse-within bytes) λ _ _. was-read
 
-pub compare-within : (bytes : List ℕ) → RefusesWithin 8192 (compare-call bytes)
+pub compare-within : (bytes : List ℕ) → RefusesWithin 12 8192 (compare-call bytes)
 unfolding compare-call
 compare-within bytes = bind-within _ _ (single-within bytes) λ _ _. was-read
 
-pub unify-within : (bytes : List ℕ) (buffer : ℕ) → RefusesWithin 8192 (unify-call bytes buffer)
+pub unify-within : (bytes : List ℕ) (buffer : ℕ) → RefusesWithin 12 8192 (unify-call bytes buffer)
 unfolding unify-call
 unify-within bytes buffer = bind-within _ _ (enough-within buffer) λ _ _. bind-within _ _ (single-within bytes) λ _ _. was-read
 
 -- "Refusal 7 no longer occurs."
-not-7 : {A : Type 0} {e at : ℕ} → RefusesWithin {A = A} e (refused 7 at) → ⊥
-not-7 (was-refused _ _ h _) = let z : _≡_ {A = ℕ} 0 1 = cc in omega arith
+pub not-7 : {A : Type 0} {most e at : ℕ} → RefusesWithin {A = A} most e (refused 7 at) → ⊥
+not-7 {most = most} (was-refused _ _ h _) = let z : false ≡ true = both-true (leb 1 7 && leb 7 most) (not (eqb 7 7)) h .1 in zero≢one (cc)
 
 pub never-7 : (bytes : List ℕ) (buffer at : ℕ) →
     (complete-call bytes buffer ≡ refused 7 at → ⊥) × (compare-call bytes ≡ refused 7 at → ⊥) × (unify-call bytes buffer ≡ refused 7 at → ⊥)
 never-7 bytes buffer at = (
-  λ q. not-7 (subst (RefusesWithin 8192) q (complete-within bytes buffer)),
-  λ q. not-7 (subst (RefusesWithin 8192) q (compare-within bytes)),
-  λ q. not-7 (subst (RefusesWithin 8192) q (unify-within bytes buffer)),
+  λ q. not-7 (subst (RefusesWithin 12 8192) q (complete-within bytes buffer)),
+  λ q. not-7 (subst (RefusesWithin 12 8192) q (compare-within bytes)),
+  λ q. not-7 (subst (RefusesWithin 12 8192) q (unify-within bytes buffer)),
 )

@@ -58,9 +58,9 @@ pub complete-unpacks : (problem : List ℕ) (buffer : ℕ) →
 unfolding answer-code counted
 complete-unpacks problem buffer = go (complete-call problem buffer) refl (complete-within problem buffer)
   where
-    go : (c : Reading (List ℕ)) → complete-call problem buffer ≡ c → RefusesWithin 8192 c → UnpacksAnswer (answer-code (counted c)) (counted c)
+    go : (c : Reading (List ℕ)) → complete-call problem buffer ≡ c → RefusesWithin 12 8192 c → UnpacksAnswer (answer-code (counted c)) (counted c)
     go (ok bytes) q h = code-unpacks 1 0 (length bytes) (omega arith) (omega (arith, complete-writes problem buffer bytes q .few))
-    go (refused n at) q (was-refused _ _ a b) = code-unpacks 0 n at (omega (arith, refusal-few n a)) (omega arith)
+    go (refused n at) q (was-refused _ _ a b) = code-unpacks 0 n at (omega (arith, refusal-few 12 n a)) (omega arith)
 
 compare-few : (problem : List ℕ) (v : ℕ) → compare-call problem ≡ ok v → v ≤ 4
 unfolding compare-call
@@ -73,9 +73,9 @@ pub compare-unpacks : (problem : List ℕ) → UnpacksAnswer (answer-code (compa
 unfolding answer-code
 compare-unpacks problem = go (compare-call problem) refl (compare-within problem)
   where
-    go : (c : Reading ℕ) → compare-call problem ≡ c → RefusesWithin 8192 c → UnpacksAnswer (answer-code c) c
+    go : (c : Reading ℕ) → compare-call problem ≡ c → RefusesWithin 12 8192 c → UnpacksAnswer (answer-code c) c
     go (ok v) q h = code-unpacks 1 0 v (omega arith) (omega (arith, compare-few problem v q))
-    go (refused n at) q (was-refused _ _ a b) = code-unpacks 0 n at (omega (arith, refusal-few n a)) (omega arith)
+    go (refused n at) q (was-refused _ _ a b) = code-unpacks 0 n at (omega (arith, refusal-few 12 n a)) (omega arith)
 
 -- unify
 abbrev pub UnpacksReturned : ℕ → Returned → Type 0
@@ -113,11 +113,11 @@ pub unify-unpacks : (problem : List ℕ) (buffer : ℕ) →
 unfolding unify-code unify-returns end-number
 unify-unpacks problem buffer = go (unify-call problem buffer) refl (unify-within problem buffer)
   where
-    go : (c : Reading CommonInstance) → unify-call problem buffer ≡ c → RefusesWithin 8192 c → UnpacksReturned (unify-code (unify-returns c)) (unify-returns c)
+    go : (c : Reading CommonInstance) → unify-call problem buffer ≡ c → RefusesWithin 12 8192 c → UnpacksReturned (unify-code (unify-returns c)) (unify-returns c)
     go (ok (instance bytes)) q h = code-unpacks 1 0 (length bytes) (omega arith) (omega (arith, unify-few problem buffer bytes q))
     go (ok no-instance) q h = code-unpacks 2 0 0 (omega arith) (omega arith)
     go (ok instance-too-large) q h = code-unpacks 3 22 0 (omega arith) (omega arith)
-    go (refused n at) q (was-refused _ _ a b) = code-unpacks 0 n at (omega (arith, refusal-few n a)) (omega arith)
+    go (refused n at) q (was-refused _ _ a b) = code-unpacks 0 n at (omega (arith, refusal-few 12 n a)) (omega arith)
 
 -- subterm
 subterm-few : (t : Term) (p : ℕ) (u : Term) → subterm-at t p ≡ some u → size u ≤ size t

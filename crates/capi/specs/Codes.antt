@@ -2,11 +2,15 @@
 -- apart; and demand 3 of the bytes that C takes and leaves; section 15 of docs/DEFINITION.md. Assumes nothing.
 use mathlib.Core.Path.{_≡_}
 use mathlib.Core.List.{List}
+use mathlib.Core.Logic.{_↔_}
 use Prim.Native.Nat.{ℕ, _+_, _*_, _/_, _%_}
 use lib.ListN.{take}
-use Rattle.problem.specs.Problem.{Reading, ok, refused}
-use Rattle.completion.specs.Calls.{Part}
+use Rattle.problem.specs.Problem.{Reading, ok, refused, Problem}
+use Rattle.rewriting.specs.Rewrite.{end-number}
+use Rattle.completion.specs.Calls.{Part, Single, parse-single}
 use Rattle.completion.specs.Promise.{Delivers}
+use Rattle.decide.specs.Decide.{Answer, are-same, are-different, ended}
+use Rattle.decide.specs.Answers.{EngineWrote, Leads}
 use Rattle.calls.specs.Answers.{Returned, bytes-written, none-common, number-only, number-and-place}
 
 -- [15.1]
@@ -26,6 +30,13 @@ unify-code (bytes-written count) = code 1 0 count
 unify-code none-common = code 2 0 0
 unify-code (number-only n) = code 3 n 0
 unify-code (number-and-place n at) = code 0 n at
+
+-- decide: kind 1 with 1 for "same" or 2 for "different", kind 3 with the number 21 or 22, or kind 0 with the refusal's number and place [15.6]
+unfoldable pub decide-code : Reading Answer → ℕ
+decide-code (ok are-same) = code 1 0 1
+decide-code (ok are-different) = code 1 0 2
+decide-code (ok (ended e)) = code 3 (end-number e) 0
+decide-code (refused n at) = code 0 n at
 
 -- subterm: the part's first byte times 2 ^ 32, and how many bytes it has [15.4]
 unfoldable pub part-code : Part → ℕ
@@ -49,3 +60,9 @@ start-in r = r / 4_294_967_296
 -- deliver. [15.5]
 unfoldable pub CodeDelivers : List ℕ → List ℕ → ℕ → Type 0
 CodeDelivers problem result r = kind-in r ≡ 1 → Delivers problem (take (value-in r) result)
+
+-- What decide's answer is right about, for C: of a record that complete wrote for a problem with the same symbol field, where the kind is 1, the value
+-- is 1 exactly if that problem's equations lead from one side to the other, and 2 exactly if they do not. [15.7]
+pub record CodeDecides (problem kept : List ℕ) (r : ℕ) : Type 0 where
+  pub exactly : (given : List ℕ) (P : Problem) (S : Single) → EngineWrote given P kept → parse-single problem ≡ ok S → P .symbols ≡ S .symbols →
+      kind-in r ≡ 1 → ((value-in r ≡ 1) ↔ Leads P S) × ((value-in r ≡ 2) ↔ (Leads P S → ⊥))

@@ -5,7 +5,8 @@ ghost use lib.ListN.{length};
 ghost use Rattle.completion.specs.Calls.{complete-call, compare-call, unify-call, subterm-part, after-complete, after-unify};
 ghost use Rattle.complete.specs.Answer.{counted};
 ghost use Rattle.calls.specs.Answers.{unify-returns};
-ghost use Rattle.capi.specs.Codes.{code, answer-code, unify-code, part-code, CodeDelivers};
+ghost use Rattle.decide.specs.Decide.{decide-call};
+ghost use Rattle.capi.specs.Codes.{code, answer-code, unify-code, decide-code, part-code, CodeDelivers, CodeDecides};
 
 fn code(kind: u64, number: u8, value: usize) -> u64
     requires { ⌜ kind ≤ 3 ⌝ }
@@ -48,6 +49,21 @@ pub extern "C" fn vb_subterm(problem: &[u8], position: usize) -> u64
     let start = b.start;
     let bytes = b.end - start;
     start as u64 % 4294967296 * 4294967296 + bytes as u64 % 4294967296
+}
+
+// The second promise says of what the answer is right: of a record that complete wrote.
+#[no_mangle]
+pub extern "C" fn vb_decide(problem: &[u8], kept: &[u8]) -> u64
+    ensures { λ r. ⌜ r ≡ decide-code (decide-call (now (problem .entry)) (now (kept .entry))) ⌝ }
+    ensures equations { λ r. ⌜ CodeDecides (now (problem .entry)) (now (kept .entry)) r ⌝ }
+{
+    match decide::decide(problem, kept) {
+        decide::Decided::Same => code(1, 0, 1),
+        decide::Decided::Different => code(1, 0, 2),
+        decide::Decided::Spent => code(3, rewriting::number(rewriting::End::Spent), 0),
+        decide::Decided::TooLarge => code(3, rewriting::number(rewriting::End::TooLarge), 0),
+        decide::Decided::Refused { number, place } => code(0, number, place),
+    }
 }
 
 // The third promise is demand 3, of the bytes that C is left: of as many as the answer's value says, where its kind is 1.

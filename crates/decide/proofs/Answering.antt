@@ -1,7 +1,7 @@
 -- A record that complete wrote for the same symbol field: "same" and "different" are right about the buyer's equations, 13 and 15 are not given, and
 -- 14 exactly if the run did not end with 0. This rests on the promise of complete, and on nothing else of a run. Assumes nothing.
 -- Read first: specs/Answers, proofs/Right, completion/specs/Promise, record/proofs/RoundTrip.
-use mathlib.Core.Path.{_≡_, refl, sym, ap, ap₂, subst₂, _∙_}
+use mathlib.Core.Path.{_≡_, refl, sym, ap, ap₂, subst, subst₂, _∙_}
 use mathlib.Core.Bool.{Bool, true, false}
 use mathlib.Core.List.{List, [], _∷_}
 use mathlib.Core.Logic.{_↔_, _⊎_, ⊎-elim}
@@ -27,9 +27,9 @@ use Rattle.record.specs.Record.{RuleAt, rules-of, read-record}
 use Rattle.record.specs.Reader.{rules-at}
 use Rattle.record.proofs.RoundTrip.{record-back}
 use Rattle.decide.specs.Decide.{all-above, Question, read-question, Answer, are-same, are-different, answer, decide-call}
-use Rattle.decide.specs.Answers.{OneLast, TwoLasts, EngineWrote, Leads, AboutEquations, NotRefused}
+use Rattle.decide.specs.Answers.{OneLast, TwoLasts, AboutRules, EngineWrote, Leads, AboutEquations, NotRefused}
 use Rattle.decide.proofs.Asked.{Asked, asked}
-use Rattle.decide.proofs.Right.{Told, Answered, answered}
+use Rattle.decide.proofs.Right.{Told, Answered, answered, about-rules}
 
 -- 0 is the number of `complete` alone
 zero-end : (e : End) → Says (e ≡ complete) (eqb (end-number e) 0)
@@ -164,3 +164,10 @@ not-refused problem kept =
       never = λ given P S w p e. engine-end problem kept given P S w p e .never;
       unfinished = λ given P S w p e. engine-end problem kept given P S w p e .unfinished;
     }
+
+-- What `decide` promises of an answer that is the definition's.
+pub laws : (problem kept : List ℕ) (r : Reading Answer) → r ≡ decide-call problem kept →
+    (r ≡ decide-call problem kept) × (AboutRules problem kept r × (AboutEquations problem kept r × NotRefused problem kept r))
+laws problem kept r e =
+    (e, (subst (AboutRules problem kept) (sym e) (about-rules problem kept),
+      (subst (AboutEquations problem kept) (sym e) (about-equations problem kept), subst (NotRefused problem kept) (sym e) (not-refused problem kept))))

@@ -5,6 +5,7 @@ use native.Mathlib.Omega.{arith}
 use Rattle.only_equation.specs.Places.{IsSides}
 use Rattle.only_equation.specs.declared.Equation.the-variants.{At}
 use Rattle.only_equation.proofs.Singles.{in-order}
+use Rattle.decide.specs.Answers.{decided-told}
 use Rattle.decide.proofs.Questions.{problem-refused, lent-small, decided}
 use Rattle.decide.proofs.Answering.{laws}
 use borrow.Author.Needs.{needs}
@@ -68,6 +69,7 @@ ask-requires c κs =
     (A .1 .known, (S .0, S .1))
 
 returns : tie.Need-returns
+unfolding decided-told
 returns c =
     let at-sides : tie.After-sides = search depth 0 in
     laws _ _ _ (problem-refused _ _ _ _ (rw (c .before .number .given .1) at (at-sides .sides .ensures)))

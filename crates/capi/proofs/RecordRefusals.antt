@@ -1,0 +1,106 @@
+-- A refusal of decide has a number of at most 15 that is not 7, and a place of at most 16,384, whatever the bytes. Assumes nothing.
+-- Read first: proofs/Refusals, record/specs/Record, decide/specs/Decide.
+use mathlib.Core.Path.{_≡_, refl, sym, _∙_, subst}
+use mathlib.Core.Bool.{Bool, true, false, not, _&&_}
+use mathlib.Core.List.{List, [], _∷_}
+use mathlib.Core.Option.{Option, none, some}
+use Prim.Native.Nat.{ℕ, zero, suc, _+_, _≤_}
+use native.Mathlib.Omega.{arith}
+use lib.Dec.{eqb, leb}
+use lib.ListN.{length}
+use borrow.Author.Tests.{ltb-false, leb-true, le-leb}
+use Rattle.terms.specs.Base.{if_then_else_, Every, of-none, of-cons}
+use Rattle.terms.proofs.Shape.{both-true}
+use Rattle.terms.proofs.Every.{every-head, every-tail}
+use Rattle.problem.specs.Problem.{Reading, ok, refused, _>>=_, ReadField, due, Symbol, ReadPart}
+use Rattle.problem.proofs.Reading.{from-bind, no-ok, ok-injective, passed}
+use Rattle.record.specs.Fields.{or-refuse, one-field, fields-there, read-forms}
+use Rattle.record.specs.Record.{RuleAt, Record, read-end, read-units, read-rule-at, read-kind, nothing-behind, last-field, read-record}
+use Rattle.decide.specs.Decide.{all-above, read-question, decide-call}
+use Rattle.capi.proofs.Refusals.{is-refusal, RefusesWithin, was-read, was-refused, bind-within, test-within, FieldWithin, due-parts, not-7}
+use Rattle.capi.proofs.Refusals.{single-within}
+
+-- fewer numbers and places are among more
+wider : {A : Type 0} {few many e f : ℕ} {m : Reading A} → few ≤ many → e ≤ f → RefusesWithin few e m → RefusesWithin many f m
+wider k l was-read = was-read
+wider {few = few} {many} k l (was-refused n at h p) =
+    let a = both-true (leb 1 n && leb n few) (not (eqb n 7)) h in
+    let b = both-true (leb 1 n) (leb n few) (a .0) in
+    was-refused n at (rw (b .0, le-leb n many (let c = leb-true n few (b .1) in omega arith), a .1) refl) (omega arith)
+
+-- A part of a record's bytes that is read at a place: what stands behind it is the rest of the bytes; or 13, at a place of at most e.
+abbrev Walks : {A : Type 0} → ℕ → ℕ → List ℕ → Reading (ReadPart A) → Type 0
+Walks e at bytes (ok p) = p .end + length (p .rest) ≡ at + length bytes
+Walks e at bytes (refused n k) = (n ≡ 13) × (k ≤ e)
+
+walks-on : {A B : Type 0} (e at : ℕ) (bytes : List ℕ) (m : Reading (ReadPart A)) (next : ReadPart A → Reading (ReadPart B)) → Walks e at bytes m →
+    ((a : ReadPart A) → a .end + length (a .rest) ≡ at + length bytes → Walks e at bytes (next a)) → Walks e at bytes (m >>= next)
+unfolding _>>=_
+walks-on e at bytes (ok a) next h k = k a h
+walks-on e at bytes (refused n p) next h k = h
+
+walks-within : {A : Type 0} (e at : ℕ) (bytes : List ℕ) (m : Reading (ReadPart A)) → Walks e at bytes m → RefusesWithin 15 e m
+walks-within e at bytes (ok p) h = was-read
+walks-within e at bytes (refused n k) h = was-refused n k (rw (h .0) refl) (h .1)
+
+one-walks : {A : Type 0} (e tag : ℕ) (read : ReadField → Reading A) (at : ℕ) (bytes : List ℕ) → at ≤ e → Walks e at bytes (one-field 13 tag read at bytes)
+unfolding one-field
+one-walks {A} e tag read at bytes h = go _ refl
+  where
+    go : (m : Reading (ReadPart A)) → (due tag at bytes >>= λ f. read f >>= λ a. ok (record { part = a; end = f .end; rest = f .rest })) ≡ m →
+        Walks e at bytes (or-refuse 13 at m)
+    go (ok p) q = ?
+    go (refused n k) q = ?
+
+module _ {A : Type 0} (e tag : ℕ) (read : Option A → ReadField → Reading A) where
+  there-walks : (more : ℕ) (before : Option A) (at : ℕ) (bytes : List ℕ) → at + length bytes ≤ e →
+      Walks e at bytes (fields-there 13 tag read more before at bytes)
+  unfolding fields-there if_then_else_
+  there-walks zero before at bytes h = refl
+  there-walks (suc more) before at [] h = refl
+  there-walks (suc more) before at (b ∷ bytes) h = go (eqb b tag) (λ before at bytes h. there-walks more before at bytes h)
+    where
+      one : ((before : Option A) (at : ℕ) (bytes : List ℕ) → at + length bytes ≤ e → Walks e at bytes (fields-there 13 tag read more before at bytes)) →
+          Walks e at (b ∷ bytes) (one-field 13 tag (read before) at (b ∷ bytes) >>= λ a.
+          fields-there 13 tag read more (some (a .part)) (a .end) (a .rest) >>= λ later.
+          ok (record { part = a .part ∷ later .part; end = later .end; rest = later .rest }))
+      one ih =
+          walks-on e at (b ∷ bytes) _ _ (one-walks e tag (read before) at (b ∷ bytes) (omega arith)) λ a w.
+          moved a w (fields-there 13 tag read more (some (a .part)) (a .end) (a .rest)) (ih (some (a .part)) (a .end) (a .rest) (omega arith))
+
+      moved : (a : ReadPart A) → a .end + length (a .rest) ≡ at + length (b ∷ bytes) → (m : Reading (ReadPart (List A))) → Walks e (a .end) (a .rest) m →
+          Walks e at (b ∷ bytes) (m >>= λ later. ok (record { part = a .part ∷ later .part; end = later .end; rest = later .rest }))
+      moved a w (ok p) h = h ∙ w
+      moved a w (refused n k) h = h
+
+      go : (t : Bool) →
+          ((before : Option A) (at : ℕ) (bytes : List ℕ) → at + length bytes ≤ e → Walks e at bytes (fields-there 13 tag read more before at bytes)) →
+          Walks e at (b ∷ bytes) (if t then (one-field 13 tag (read before) at (b ∷ bytes) >>= λ a.
+          fields-there 13 tag read more (some (a .part)) (a .end) (a .rest) >>= λ later.
+          ok (record { part = a .part ∷ later .part; end = later .end; rest = later .rest })) else ok (record { part = []; end = at; rest = b ∷ bytes }))
+      go true ih = one ih
+      go false ih = refl
+
+-- nothing behind the last field, and the last field
+nothing-within : (e at : ℕ) (bytes : List ℕ) → at ≤ e → RefusesWithin 15 e (nothing-behind at bytes)
+unfolding nothing-behind
+nothing-within e at bytes h = test-within _ 13 at refl h
+
+last-within : (Σ : List Symbol) (e end at : ℕ) (bytes : List ℕ) → at + length bytes ≤ e → RefusesWithin 15 e (last-field Σ end at bytes)
+unfolding last-field if_then_else_
+last-within Σ e end at bytes h = go (eqb end 20)
+  where
+    w : Walks e at bytes (one-field 13 0x14 (read-forms Σ) at bytes)
+    w = one-walks e 0x14 (read-forms Σ) at bytes (omega arith)
+
+    go : (t : Bool) → RefusesWithin 15 e
+        (if t then (one-field 13 0x14 (read-forms Σ) at bytes >>= λ f. nothing-behind (f .end) (f .rest)) else nothing-behind at bytes)
+    go true =
+        bind-within _ _ (walks-within e at bytes _ w) λ f q.
+        nothing-within e (f .end) (f .rest) (let k : f .end + length (f .rest) ≡ at + length bytes = rw q at w in omega arith)
+    go false = nothing-within e at bytes (omega arith)
+
+-- the places of the rules' fields
+firsts : (Σ : List Symbol) (e more : ℕ) (before : Option RuleAt) (at : ℕ) (bytes : List ℕ) (p : ReadPart (List RuleAt)) → at + length bytes ≤ e →
+    fields-there 13 0x12 (read-rule-at Σ) more before at bytes ≡ ok p → Every (λ (r : RuleAt). r .first ≤ e) (p .part)
+firsts Σ e more before at bytes p h q = ?
