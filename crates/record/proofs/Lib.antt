@@ -1,2 +1,5 @@
 pub mod OneField
 pub mod Holding
+pub mod Walking
+pub mod Slotted
+pub mod Whole

@@ -14,9 +14,10 @@ use borrow.Author.Tests.{le-leb, lt-leb, eq-eqb, ne-eqb}
 use Rattle.terms.specs.Base.{number-from, member}
 use Rattle.terms.proofs.Lists.{take-drop}
 use Rattle.reading.proofs.Reading.{bind-ok, bind-refused}
-use Rattle.problem.specs.Problem.{Reading, ok, refused, _>>=_, refuse-if, ReadField, due}
+use Rattle.problem.specs.Problem.{Reading, ok, refused, _>>=_, refuse-if, ReadField, ReadPart, due}
 use Rattle.problem.specs.Parser.{field-at}
 use Rattle.problem.proofs.Fields.{contents-length}
+use Rattle.problem.proofs.Laid.{due-at}
 use Rattle.record.specs.Fields.{or-refuse, demand, one-field}
 use Rattle.record.specs.Record.{listed-end, read-end, read-units, read-kind}
 use Rattle.record.specs.Reader.{Unread, OneAt, OneBad}
@@ -66,6 +67,32 @@ module _ {A : Type 0} (tag : ℕ) (read : ReadField → Reading A) (l : List ℕ
 
     pub one-unread : Unread (read (field-at tag l at e)) → OneBad tag read l at at
     one-unread u n = one-is n ∙ or-refused n at _ (unread-bind (read (field-at tag l at e)) _ u)
+
+-- A field that is read with its place is read as it is without.
+module _ {A B : Type 0} (n tag : ℕ) (read : ReadField → Reading A) (g : ℕ → A → B) (at : ℕ) where
+  abbrev with-place : ReadField → Reading B
+  with-place f = read f >>= λ a. ok (g (f .first) a)
+
+  abbrev put-place : ReadPart A → Reading (ReadPart B)
+  put-place p = ok (record { part = g at (p .part); end = p .end; rest = p .rest })
+
+  abbrev kept-of : {C : Type 0} → (ReadField → Reading C) → ReadField → Reading (ReadPart C)
+  kept-of read f = read f >>= λ c. ok (record { part = c; end = f .end; rest = f .rest })
+
+  of-field : (f : ReadField) → f .first ≡ at → (r : Reading A) → read f ≡ r → or-refuse n at (kept-of with-place f) ≡ (or-refuse n at (kept-of read f) >>= put-place)
+  unfolding or-refuse _>>=_
+  of-field f h (ok a) e = rw (e, h) refl
+  of-field f h (refused m p) e = rw e refl
+
+  of-due : (d : Reading ReadField) → ((f : ReadField) → d ≡ ok f → f .first ≡ at) →
+      or-refuse n at (d >>= kept-of with-place) ≡ (or-refuse n at (d >>= kept-of read) >>= put-place)
+  unfolding or-refuse _>>=_
+  of-due (refused m p) h = refl
+  of-due (ok f) h = of-field f (h f refl) (read f) refl
+
+  pub one-placed : (l : List ℕ) → one-field n tag with-place at (drop at l) ≡ (one-field n tag read at (drop at l) >>= put-place)
+  unfolding one-field field-at
+  one-placed l = of-due (due tag at (drop at l)) (λ f e. ap (λ (f : ReadField). f .first) (due-at tag l at f e .is))
 
 -- the listed ends
 pub listed-none : (n : ℕ) → n ≡ 0 → true ≡ listed-end n
