@@ -129,3 +129,11 @@ module _ (tab l : List ℕ) (at before e : ℕ) (within : e ≤ length l) where
 
       pub rule-fine : before < n → n ≤ 512 → rule-read ≡ ok (record { number = n; sides = p })
       rule-fine j k = rule-then ∙ demand-kept _ (rw (lt-ltb before n j, le-leb n 512 k) refl)
+
+-- both sides that are held fit in a slot
+module _ (tab l : List ℕ) (at end m : ℕ) (p : Pair) (H : HeldAt tab l at end m p) where
+  pub held-short : (length (part l at m) ≤ 120) × (length (part l m end) ≤ 120)
+  held-short = (
+    omega (arith, length-take (m - at) (drop at l), H .middle, H .left-small),
+    omega (arith, length-take (end - m) (drop m l), H .ends, H .right-small),
+  )
