@@ -3,3 +3,8 @@ pub mod Agrees
 pub mod Back
 pub mod RoundTrip
 pub mod Computes
+pub mod OneField
+pub mod Holding
+mod Walking
+mod Slotted
+mod Whole

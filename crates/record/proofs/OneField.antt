@@ -1,0 +1,194 @@
+-- A field at a place, as its reader takes it: nothing is due there, the reader refuses it, or it is read. Then the end, the units and the kind of an
+-- entry. Assumes nothing.
+-- Read first: specs/Fields (one-field), specs/Record (read-end, read-units, read-kind), specs/Reader (OneAt, OneBad), problem/proofs/Fields.
+use mathlib.Core.Path.{_≡_, refl, ap, sym, subst, _∙_}
+use mathlib.Core.Bool.{Bool, true, false, _&&_}
+use mathlib.Core.List.{List, [], _∷_}
+use Prim.Native.Nat.{ℕ, zero, suc, _+_, _-_, _<_, _≤_}
+use native.Mathlib.Nat.{add-zero, zero-add}
+use native.Mathlib.Omega.{arith}
+use lib.ListN.{length, take, drop, getD, length-take, drop-of-length-le}
+use lib.Seq.{drop-cons, getD-take, getD-drop}
+use lib.Dec.{leb}
+use borrow.Author.Tests.{le-leb, lt-leb, eq-eqb, ne-eqb}
+use Rattle.terms.specs.Base.{number-from, member}
+use Rattle.terms.proofs.Lists.{take-drop}
+use Rattle.reading.proofs.Reading.{bind-ok, bind-refused}
+use Rattle.problem.specs.Problem.{Reading, ok, refused, _>>=_, refuse-if, ReadField, ReadPart, due}
+use Rattle.problem.specs.Parser.{field-at}
+use Rattle.problem.proofs.Fields.{contents-length}
+use Rattle.problem.proofs.Laid.{due-at}
+use Rattle.record.specs.Fields.{or-refuse, demand, one-field}
+use Rattle.record.specs.Record.{listed-end, read-end, read-units, read-kind}
+use Rattle.record.specs.Reader.{Unread, OneAt, OneBad}
+
+-- what is refused stays refused, and what a field must keep
+pub unread-is : {A : Type 0} {m : Reading A} {n p : ℕ} → m ≡ refused n p → Unread m
+unfolding Unread
+unread-is e = rw e tt
+
+pub unread-bind : {A B : Type 0} (m : Reading A) (f : A → Reading B) → Unread m → Unread (m >>= f)
+unfolding Unread _>>=_
+unread-bind (ok a) f u = absurd u
+unread-bind (refused n p) f u = tt
+
+or-refused : {A : Type 0} (n at : ℕ) (m : Reading A) → Unread m → or-refuse n at m ≡ refused n at
+unfolding Unread or-refuse
+or-refused n at (ok a) u = absurd u
+or-refused n at (refused m p) u = refl
+
+pub demand-kept : {A : Type 0} {b : Bool} (f : Unit {0} → Reading A) → b ≡ true → (demand b >>= f) ≡ f tt
+unfolding demand refuse-if _>>=_
+demand-kept f e = rw e refl
+
+pub demand-broken : {A : Type 0} {b : Bool} (f : Unit {0} → Reading A) → b ≡ false → Unread (demand b >>= f)
+unfolding demand refuse-if _>>=_ Unread
+demand-broken f e = rw e tt
+
+pub one-ends : {A : Type 0} {tag : ℕ} {read : ReadField → Reading A} {l : List ℕ} {at : ℕ} {a : A} {e d : ℕ} → e ≡ d → OneAt tag read l at a e →
+    OneAt tag read l at a d
+one-ends {tag = tag} {read = read} {l = l} {at = at} {a = a} q o = subst (OneAt tag read l at a) q o
+
+-- what is due at `at` is refused; or it is the field to e, which is read or not
+module _ {A : Type 0} (tag : ℕ) (read : ReadField → Reading A) (l : List ℕ) (at : ℕ) where
+  pub one-undue : (m p : ℕ) → due tag at (drop at l) ≡ refused m p → OneBad tag read l at at
+  unfolding one-field or-refuse
+  one-undue m p d n = ap (or-refuse n at) (bind-refused _ d)
+
+  module _ (e : ℕ) (d : (due tag at (drop at l) ≡ ok (field-at tag l at e)) × (at + 3 ≤ e) × (e ≤ length l)) where
+    one-is : (n : ℕ) → one-field n tag read at (drop at l) ≡ or-refuse n at
+        (read (field-at tag l at e) >>= λ a. ok (record { part = a; end = e; rest = drop e l }))
+    unfolding one-field field-at
+    one-is n = ap (or-refuse n at) (bind-ok _ (d .0))
+
+    pub one-read : (a : A) → read (field-at tag l at e) ≡ ok a → OneAt tag read l at a e
+    unfolding or-refuse
+    one-read a h = record { is = λ n. one-is n ∙ ap (or-refuse n at) (bind-ok _ h); low = d .1; within = d .2 }
+
+    pub one-unread : Unread (read (field-at tag l at e)) → OneBad tag read l at at
+    one-unread u n = one-is n ∙ or-refused n at _ (unread-bind (read (field-at tag l at e)) _ u)
+
+-- A field that is read with its place is read as it is without.
+module _ {A B : Type 0} (n tag : ℕ) (read : ReadField → Reading A) (g : ℕ → A → B) (at : ℕ) where
+  abbrev with-place : ReadField → Reading B
+  with-place f = read f >>= λ a. ok (g (f .first) a)
+
+  abbrev put-place : ReadPart A → Reading (ReadPart B)
+  put-place p = ok (record { part = g at (p .part); end = p .end; rest = p .rest })
+
+  abbrev kept-of : {C : Type 0} → (ReadField → Reading C) → ReadField → Reading (ReadPart C)
+  kept-of read f = read f >>= λ c. ok (record { part = c; end = f .end; rest = f .rest })
+
+  of-field : (f : ReadField) → f .first ≡ at → (r : Reading A) → read f ≡ r → or-refuse n at (kept-of with-place f) ≡ (or-refuse n at (kept-of read f) >>= put-place)
+  unfolding or-refuse _>>=_
+  of-field f h (ok a) e = rw (e, h) refl
+  of-field f h (refused m p) e = rw e refl
+
+  of-due : (d : Reading ReadField) → ((f : ReadField) → d ≡ ok f → f .first ≡ at) →
+      or-refuse n at (d >>= kept-of with-place) ≡ (or-refuse n at (d >>= kept-of read) >>= put-place)
+  unfolding or-refuse _>>=_
+  of-due (refused m p) h = refl
+  of-due (ok f) h = of-field f (h f refl) (read f) refl
+
+  pub one-placed : (l : List ℕ) → one-field n tag with-place at (drop at l) ≡ (one-field n tag read at (drop at l) >>= put-place)
+  unfolding one-field field-at
+  one-placed l = of-due (due tag at (drop at l)) (λ f e. ap (λ (f : ReadField). f .first) (due-at tag l at f e .is))
+
+-- the listed ends
+pub listed-none : (n : ℕ) → n ≡ 0 → true ≡ listed-end n
+unfolding listed-end member
+listed-none n e = rw e refl
+
+unlisted : (n : ℕ) → (n ≡ 0 → ⊥) → ((k : ℕ) → k < 5 → n ≡ 20 + k → ⊥) → false ≡ listed-end n
+unfolding listed-end member
+unlisted n z f = rw (
+  ne-eqb n 0 z,
+  ne-eqb n 20 (f 0 (omega arith)),
+  ne-eqb n 21 (f 1 (omega arith)),
+  ne-eqb n 22 (f 2 (omega arith)),
+  ne-eqb n 23 (f 3 (omega arith)),
+  ne-eqb n 24 (f 4 (omega arith)),
+) refl
+
+pub listed-low : (n : ℕ) → (n ≡ 0 → ⊥) → n < 20 → false ≡ listed-end n
+listed-low n z h = unlisted n z (λ k _ e. omega arith)
+
+pub listed-high : (n : ℕ) → 20 ≤ n → leb n 24 ≡ listed-end n
+unfolding listed-end member
+listed-high n h = go (n - 20) (omega arith)
+  where
+    go : (k : ℕ) → n ≡ 20 + k → leb n 24 ≡ listed-end n
+    go zero e = rw e refl
+    go (suc zero) e = rw e refl
+    go (suc (suc zero)) e = rw e refl
+    go (suc (suc (suc zero))) e = rw e refl
+    go (suc (suc (suc (suc zero)))) e = rw e refl
+    go (suc (suc (suc (suc (suc k))))) e = lt-leb n 24 (omega arith) ∙ unlisted n (λ z. omega arith) (λ j i q. omega arith)
+
+-- the end, in the field to e
+module _ (l : List ℕ) (e : ℕ) (low : 3 ≤ e) (within : e ≤ length l) where
+  pub end-length : (e ≡ 4 → ⊥) → Unread (read-end (field-at 0x10 l 0 e))
+  unfolding read-end
+  end-length h = demand-broken _ (rw (contents-length 0x10 l 0 e within, ne-eqb (e - 3) 1 (λ k. h (omega arith))) refl)
+
+  module _ (f : e ≡ 4) (x : ℕ) (i : x ≡ getD l 3 0) where
+    contents-are : field-at 0x10 l 0 e .contents ≡ x ∷ []
+    unfolding field-at
+    contents-are =
+        let none : drop 4 (take e l) ≡ [] = drop-of-length-le (take e l) {i = 4} (omega (arith, length-take e l)) in
+        drop-cons (take e l) 3 0 (omega (arith, length-take e l)) ∙ rw (none, getD-take e l 3 0 (omega arith), i) refl
+
+    end-is : read-end (field-at 0x10 l 0 e) ≡ (demand (listed-end x) >>= λ _. ok x)
+    unfolding read-end number-from
+    end-is = rw (contents-are, zero-add x) refl
+
+    pub end-unlisted : listed-end x ≡ false → Unread (read-end (field-at 0x10 l 0 e))
+    end-unlisted h = rw end-is (demand-broken _ h)
+
+    pub end-listed : listed-end x ≡ true → read-end (field-at 0x10 l 0 e) ≡ ok x
+    end-listed h = end-is ∙ demand-kept _ h
+
+-- the units, in the field from `at` to e
+module _ (l : List ℕ) (at e : ℕ) (low : at + 3 ≤ e) (within : e ≤ length l) where
+  pub units-length : (e - (at + 3) ≡ 4 → ⊥) → Unread (read-units (field-at 0x11 l at e))
+  unfolding read-units
+  units-length h = demand-broken _ (rw (contents-length 0x11 l at e within, ne-eqb (e - (at + 3)) 4 h) refl)
+
+  module _ (h : e - (at + 3) ≡ 4) (n : ℕ) (i : n ≡ number-from 0 (take 4 (drop (at + 3) l))) where
+    units-are : read-units (field-at 0x11 l at e) ≡ (demand (leb n 1_000_000) >>= λ _. ok n)
+    unfolding read-units field-at
+    units-are =
+        let q : at + 3 + 4 ≡ e = omega arith in
+        let t : take 4 (drop (at + 3) l) ≡ drop (at + 3) (take e l) = take-drop (at + 3) 4 l ∙ rw q refl in
+        let m : number-from 0 (drop (at + 3) (take e l)) ≡ n = sym (i ∙ ap (number-from 0) t) in
+        rw (contents-length 0x11 l at e within, eq-eqb (e - (at + 3)) 4 h, m) refl
+
+    pub units-large : 1_000_000 < n → Unread (read-units (field-at 0x11 l at e))
+    units-large k = rw units-are (demand-broken _ (lt-leb n 1_000_000 k))
+
+    pub units-fine : n ≤ 1_000_000 → read-units (field-at 0x11 l at e) ≡ ok n
+    units-fine k = units-are ∙ demand-kept _ (le-leb n 1_000_000 k)
+
+-- the kind, in the field from `at` to e
+module _ (l : List ℕ) (at e : ℕ) (low : at + 3 ≤ e) (within : e ≤ length l) where
+  pub entry-length : (e - at ≡ 11 → ⊥) → Unread (read-kind (field-at 0x13 l at e))
+  unfolding read-kind
+  entry-length h = demand-broken _ (rw (contents-length 0x13 l at e within, ne-eqb (e - (at + 3)) 8 (λ k. h (omega arith))) refl)
+
+  module _ (h : e - at ≡ 11) (k : ℕ) (i : k ≡ getD l (at + 3) 0) where
+    kind-is : read-kind (field-at 0x13 l at e) ≡ (demand (leb 1 k && leb k 4) >>= λ _. ok k)
+    unfolding read-kind field-at
+    kind-is =
+        let q : e - (at + 3) ≡ 8 = omega arith in
+        let b : getD (drop (at + 3) (take e l)) 0 0 ≡ k =
+        getD-drop (at + 3) (take e l) 0 0 ∙ ap (λ z. getD (take e l) z 0) (add-zero (at + 3)) ∙ getD-take e l (at + 3) 0 (omega arith) ∙ sym i in
+        rw (contents-length 0x13 l at e within, eq-eqb (e - (at + 3)) 8 q, b) refl
+
+    pub kind-low : k ≡ 0 → Unread (read-kind (field-at 0x13 l at e))
+    kind-low z = rw kind-is (demand-broken _ (rw (lt-leb 1 k (omega arith)) refl))
+
+    pub kind-high : 4 < k → Unread (read-kind (field-at 0x13 l at e))
+    kind-high z = rw kind-is (demand-broken _ (rw (lt-leb k 4 z, le-leb 1 k (omega arith)) refl))
+
+    pub kind-fine : (k ≡ 0 → ⊥) → k ≤ 4 → read-kind (field-at 0x13 l at e) ≡ ok k
+    kind-fine z y = kind-is ∙ demand-kept _ (rw (le-leb k 4 y, le-leb 1 k (omega (arith, z))) refl)

@@ -1,0 +1,110 @@
+-- The record as a whole: what may stand behind the log, what follows the first two fields, and `read-record` itself, a lemma for each return. Assumes
+-- nothing.
+-- Read first: specs/Record (read-record), specs/Reader (read-behind, IsBehind, IsRecord).
+use mathlib.Core.Path.{_≡_, refl, ap, sym, _∙_}
+use mathlib.Core.List.{List}
+use mathlib.Core.Option.{none}
+use Prim.Native.Nat.{ℕ, _+_, _<_, _≤_}
+use native.Mathlib.Omega.{arith}
+use lib.ListN.{length, drop, length-drop}
+use borrow.Author.Tests.{lt-ltb, le-ltb, eq-eqb, ne-eqb}
+use Rattle.terms.specs.Base.{if_then_else_}
+use Rattle.terms.specs.Term.{Pair}
+use Rattle.reading.specs.Answers.{symbols-of}
+use Rattle.reading.proofs.Reading.{bind-ok, bind-refused}
+use Rattle.problem.specs.Problem.{Reading, ok, refused, _>>=_, refuse-if}
+use Rattle.rewriting.specs.Overlap.{Rule}
+use Rattle.record.specs.Fields.{one-field, fields-there, read-forms}
+use Rattle.record.specs.Record.{Record, read-end, read-units, read-rule-at, read-kind, nothing-behind, last-field, read-record}
+use Rattle.record.specs.Reader.{OneAt, OneBad, rules-at, InSlots, RulesAre, EntriesAre, IsNothing, IsLast, read-behind, IsBehind, IsRecord}
+use Rattle.record.specs.declared.Field.{Field}
+use Rattle.record.specs.declared.Field.the-variants.{Value, Bad}
+use Rattle.record.specs.declared.Record.{Record as Kept}
+use Rattle.record.specs.declared.Record.the-variants.{Fine, Bad as BadRecord}
+
+-- `nothing_behind`
+module _ (l : List ℕ) (at : ℕ) where
+  pub some-behind : at < length l → nothing-behind at (drop at l) ≡ refused 13 at
+  unfolding nothing-behind refuse-if
+  some-behind h = rw (lt-ltb 0 (length (drop at l)) (omega (arith, length-drop at l))) refl
+
+  pub none-behind : length l ≤ at → nothing-behind at (drop at l) ≡ ok tt
+  unfolding nothing-behind refuse-if
+  none-behind h = rw (le-ltb 0 (length (drop at l)) (omega (arith, length-drop at l))) refl
+
+-- `last_field`
+module _ (tab l : List ℕ) (end at : ℕ) where
+  -- as what is due at e is answered
+  as-nothing : (e : ℕ) → last-field (symbols-of tab) end at (drop at l) ≡ nothing-behind e (drop e l) → (r : Field) → IsNothing l e r → IsLast tab l end at r
+  as-nothing e q (Value v) h = q ∙ h
+  as-nothing e q (Bad p) h = q ∙ h
+
+  pub last-without : (end ≡ 20 → ⊥) → (r : Field) → IsNothing l at r → IsLast tab l end at r
+  unfolding last-field if_then_else_
+  last-without h = as-nothing at (rw (ne-eqb end 20 h) refl)
+
+  module _ (h : end ≡ 20) where
+    last-is : last-field (symbols-of tab) end at (drop at l) ≡ (one-field 13 0x14 (read-forms (symbols-of tab)) at (drop at l) >>= λ f.
+        nothing-behind (f .end) (f .rest))
+    unfolding last-field if_then_else_
+    last-is = rw (eq-eqb end 20 h) refl
+
+    pub last-bad : (p : ℕ) → OneBad 0x14 (read-forms (symbols-of tab)) l at p → last-field (symbols-of tab) end at (drop at l) ≡ refused 13 p
+    last-bad p B = last-is ∙ bind-refused _ (B 13)
+
+    pub last-forms : (forms : Pair) (e : ℕ) → OneAt 0x14 (read-forms (symbols-of tab)) l at forms e → (r : Field) → IsNothing l e r → IsLast tab l end at r
+    last-forms forms e O = as-nothing e (last-is ∙ bind-ok _ (O .is 13))
+
+-- `read_behind`
+module _ (tab l : List ℕ) (end : ℕ) where
+  pub behind-rules-bad : (p : ℕ) → ((n : ℕ) → fields-there n 0x12 (read-rule-at (symbols-of tab)) 32 none 11 (drop 11 l) ≡ refused n p) →
+      (units : ℕ) → read-behind (symbols-of tab) end units 11 (drop 11 l) ≡ refused 13 p
+  unfolding read-behind
+  behind-rules-bad p B units = bind-refused _ (B 13)
+
+  module _ (e : ℕ) (rules : List Rule) (R : RulesAre tab l 11 e rules) where
+    pub behind-entries-bad : (p : ℕ) → ((n : ℕ) → fields-there n 0x13 (λ _ f. read-kind f) 512 none e (drop e l) ≡ refused n p) →
+        (units : ℕ) → read-behind (symbols-of tab) end units 11 (drop 11 l) ≡ refused 13 p
+    unfolding read-behind
+    behind-entries-bad p B units = bind-ok _ (R .is 13) ∙ bind-refused _ (B 13)
+
+    module _ (f : ℕ) (kinds : List ℕ) (L : EntriesAre l e f kinds) where
+      pub behind-last-bad : (p : ℕ) → last-field (symbols-of tab) end f (drop f l) ≡ refused 13 p →
+          (units : ℕ) → read-behind (symbols-of tab) end units 11 (drop 11 l) ≡ refused 13 p
+      unfolding read-behind
+      behind-last-bad p B units = bind-ok _ (R .is 13) ∙ bind-ok _ (L .is 13) ∙ bind-refused _ B
+
+      pub behind-fine : last-field (symbols-of tab) end f (drop f l) ≡ ok tt → (units : ℕ) →
+          read-behind (symbols-of tab) end units 11 (drop 11 l) ≡ ok (record { end = end; units = units; rules = rules-at 11 rules })
+      unfolding read-behind
+      behind-fine h units = bind-ok _ (R .is 13) ∙ bind-ok _ (L .is 13) ∙ bind-ok _ h
+
+-- `read`
+module _ (tab l : List ℕ) where
+  pub record-long : 16384 < length l → read-record (symbols-of tab) l ≡ refused 13 16384
+  unfolding read-record _>>=_ refuse-if
+  record-long h = rw (lt-ltb 16384 (length l) h) refl
+
+  module _ (h : length l ≤ 16384) where
+    record-is : read-record (symbols-of tab) l ≡ (one-field 13 0x10 read-end 0 l >>= λ e.
+        one-field 13 0x11 read-units (e .end) (e .rest) >>= λ u.
+        read-behind (symbols-of tab) (e .part) (u .part) (u .end) (u .rest))
+    unfolding read-record _>>=_ refuse-if read-behind
+    record-is = rw (le-ltb 16384 (length l) h) refl
+
+    pub record-end-bad : (p : ℕ) → OneBad 0x10 read-end l 0 p → read-record (symbols-of tab) l ≡ refused 13 p
+    record-end-bad p B = record-is ∙ bind-refused _ (B 13)
+
+    module _ (end : ℕ) (E : OneAt 0x10 read-end l 0 end 4) where
+      pub record-units-bad : (p : ℕ) → OneBad 0x11 read-units l 4 p → read-record (symbols-of tab) l ≡ refused 13 p
+      record-units-bad p B = record-is ∙ bind-ok _ (E .is 13) ∙ bind-refused _ (B 13)
+
+      pub record-behind : (units : ℕ) → OneAt 0x11 read-units l 4 units 11 → (slots : List ℕ) (r : Kept) → IsBehind tab l end slots r → IsRecord tab l slots r
+      record-behind units U slots r = go r
+        where
+          is : read-record (symbols-of tab) l ≡ read-behind (symbols-of tab) end units 11 (drop 11 l)
+          is = record-is ∙ bind-ok _ (E .is 13) ∙ bind-ok _ (U .is 13)
+
+          go : (r : Kept) → IsBehind tab l end slots r → IsRecord tab l slots r
+          go (Fine e count) B = (units, B .1, is ∙ B .2 units ∙ rw (B .0) refl, B .3)
+          go (BadRecord p) B = is ∙ B units
