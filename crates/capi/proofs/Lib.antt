@@ -1,3 +1,4 @@
 pub mod Refusals
+pub mod RecordRefusals
 pub mod Unpacked
 pub mod Delivering
