@@ -1,6 +1,6 @@
 -- The limits of a run: live rules, numbers, log, waiting list, sizes and variables, in every state that turns reach; and what each end says. Assumes
 -- nothing.
--- Read first: specs/Turn, terms/proofs/Limits.
+-- Read first: specs/Turn, specs/Keeps, terms/proofs/Limits.
 use mathlib.Core.Path.{_≡_, refl, ap}
 use mathlib.Core.Logic.{⊎-elim}
 use mathlib.Core.List.{List, [], _∷_, map, List·Memᴰ·head, Memᴰ·append-left, Memᴰ·append-right}

@@ -33,23 +33,14 @@ use Rattle.record.specs.Reader.{rules-at}
 use Rattle.record.proofs.Back.{demand-true, placed, one-back, end-of, OtherTag, Backs, none-back, one-more, there-back, pair-back}
 
 -- 10 and 11
-end-listed : (e : End) → listed-end (end-number e) ≡ true
+end-fits : (e : End) → (listed-end (end-number e) ≡ true) × (end-number e < 256)
 unfolding listed-end end-number member
-end-listed complete = refl
-end-listed (neither-above e) = refl
-end-listed spent = refl
-end-listed too-large = refl
-end-listed rules-full = refl
-end-listed log-full = refl
-
-end-small : (e : End) → end-number e < 256
-unfolding end-number
-end-small complete = omega arith
-end-small (neither-above e) = omega arith
-end-small spent = omega arith
-end-small too-large = omega arith
-end-small rules-full = omega arith
-end-small log-full = omega arith
+end-fits complete = (refl, omega arith)
+end-fits (neither-above e) = (refl, omega arith)
+end-fits spent = (refl, omega arith)
+end-fits too-large = (refl, omega arith)
+end-fits rules-full = (refl, omega arith)
+end-fits log-full = (refl, omega arith)
 
 abbrev field-10 : End → Field
 field-10 e = record { tag = 0x10; contents = number-bytes 1 (end-number e) }
@@ -60,8 +51,8 @@ field-11 n = record { tag = 0x11; contents = number-bytes 4 n }
 end-back : (e : End) (at : ℕ) (rest : List ℕ) → read-end (placed at (field-10 e) rest) ≡ ok (end-number e)
 unfolding read-end _>>=_
 end-back e at rest =
-    rw (number-back 1 (end-number e) (end-small e))
-    (rw (eq-eqb (length (number-bytes 1 (end-number e))) 1 (length-number-bytes 1 (end-number e)), end-listed e) (rw (demand-true true refl) refl))
+    rw (number-back 1 (end-number e) (end-fits e .1))
+    (rw (eq-eqb (length (number-bytes 1 (end-number e))) 1 (length-number-bytes 1 (end-number e)), end-fits e .0) (rw (demand-true true refl) refl))
 
 units-back : (n at : ℕ) (rest : List ℕ) → n ≤ most-budget → read-units (placed at (field-11 n) rest) ≡ ok n
 unfolding read-units _>>=_
