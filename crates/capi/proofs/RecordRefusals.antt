@@ -12,12 +12,12 @@ use borrow.Author.Tests.{ltb-false, leb-true, le-leb}
 use Rattle.terms.specs.Base.{if_then_else_, Every, of-none, of-cons}
 use Rattle.terms.proofs.Shape.{both-true}
 use Rattle.problem.specs.Problem.{Reading, ok, refused, _>>=_, ReadField, due, Symbol, ReadPart}
-use Rattle.problem.proofs.Reading.{from-bind, no-ok, ok-injective, passed}
+use Rattle.problem.proofs.Reading.{from-bind, ok-injective, passed}
 use Rattle.record.specs.Fields.{or-refuse, one-field, fields-there, read-forms}
 use Rattle.record.specs.Record.{RuleAt, Record, read-end, read-units, read-rule-at, read-kind, nothing-behind, last-field, read-record}
 use Rattle.record.proofs.Parts.{or-refuse-ok}
 use Rattle.decide.specs.Decide.{all-above, read-question, decide-call}
-use Rattle.capi.proofs.Refusals.{is-refusal, RefusesWithin, was-read, was-refused, bind-within, test-within, FieldWithin, due-parts, not-7}
+use Rattle.capi.proofs.Refusals.{RefusesWithin, was-read, was-refused, bind-within, test-within, FieldWithin, due-parts, not-7}
 use Rattle.capi.proofs.Refusals.{single-within}
 
 -- fewer numbers and places are among more
@@ -58,6 +58,18 @@ one-walks {A} e tag read at bytes h = go _ refl
     go (refused n k) q = (refl, h)
 
 module _ {A : Type 0} (e tag : ℕ) (read : Option A → ReadField → Reading A) where
+  -- a field that was read, and the fields behind it
+  abbrev with-more : ℕ → ReadPart A → Reading (ReadPart (List A))
+  with-more more a =
+      fields-there 13 tag read more (some (a .part)) (a .end) (a .rest) >>= λ later.
+      ok (record { part = a .part ∷ later .part; end = later .end; rest = later .rest })
+
+  moved : (at : ℕ) (bytes : List ℕ) (a : ReadPart A) → a .end + length (a .rest) ≡ at + length bytes → (m : Reading (ReadPart (List A))) →
+      Walks e (a .end) (a .rest) m → Walks e at bytes (m >>= λ later. ok (record { part = a .part ∷ later .part; end = later .end; rest = later .rest }))
+  unfolding _>>=_
+  moved at bytes a w (ok p) h = h ∙ w
+  moved at bytes a w (refused n k) h = h
+
   there-walks : (more : ℕ) (before : Option A) (at : ℕ) (bytes : List ℕ) → at + length bytes ≤ e →
       Walks e at bytes (fields-there 13 tag read more before at bytes)
   unfolding fields-there if_then_else_
@@ -65,25 +77,15 @@ module _ {A : Type 0} (e tag : ℕ) (read : Option A → ReadField → Reading A
   there-walks (suc more) before at [] h = refl
   there-walks (suc more) before at (b ∷ bytes) h = go (eqb b tag) (λ before at bytes h. there-walks more before at bytes h)
     where
-      one : ((before : Option A) (at : ℕ) (bytes : List ℕ) → at + length bytes ≤ e → Walks e at bytes (fields-there 13 tag read more before at bytes)) →
-          Walks e at (b ∷ bytes) (one-field 13 tag (read before) at (b ∷ bytes) >>= λ a.
-          fields-there 13 tag read more (some (a .part)) (a .end) (a .rest) >>= λ later.
-          ok (record { part = a .part ∷ later .part; end = later .end; rest = later .rest }))
-      one ih =
-          walks-on e at (b ∷ bytes) _ _ (one-walks e tag (read before) at (b ∷ bytes) (omega arith)) λ a w.
-          moved a w (fields-there 13 tag read more (some (a .part)) (a .end) (a .rest)) (ih (some (a .part)) (a .end) (a .rest) (omega arith))
-
-      moved : (a : ReadPart A) → a .end + length (a .rest) ≡ at + length (b ∷ bytes) → (m : Reading (ReadPart (List A))) → Walks e (a .end) (a .rest) m →
-          Walks e at (b ∷ bytes) (m >>= λ later. ok (record { part = a .part ∷ later .part; end = later .end; rest = later .rest }))
-      moved a w (ok p) h = h ∙ w
-      moved a w (refused n k) h = h
-
       go : (t : Bool) →
           ((before : Option A) (at : ℕ) (bytes : List ℕ) → at + length bytes ≤ e → Walks e at bytes (fields-there 13 tag read more before at bytes)) →
-          Walks e at (b ∷ bytes) (if t then (one-field 13 tag (read before) at (b ∷ bytes) >>= λ a.
-          fields-there 13 tag read more (some (a .part)) (a .end) (a .rest) >>= λ later.
-          ok (record { part = a .part ∷ later .part; end = later .end; rest = later .rest })) else ok (record { part = []; end = at; rest = b ∷ bytes }))
-      go true ih = one ih
+          Walks e at (b ∷ bytes)
+          (if t then (one-field 13 tag (read before) at (b ∷ bytes) >>= with-more more) else ok (record { part = []; end = at; rest = b ∷ bytes }))
+      go true ih =
+          walks-on e at (b ∷ bytes) (one-field 13 tag (read before) at (b ∷ bytes)) (with-more more)
+          (one-walks e tag (read before) at (b ∷ bytes) (omega arith)) λ a w.
+          moved at (b ∷ bytes) a w (fields-there 13 tag read more (some (a .part)) (a .end) (a .rest))
+          (ih (some (a .part)) (a .end) (a .rest) (omega arith))
       go false ih = refl
 
 -- nothing behind the last field, and the last field

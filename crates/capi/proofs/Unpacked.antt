@@ -16,7 +16,7 @@ use Rattle.terms.proofs.Limits.{length-field-bytes, renamed-left-size}
 use Rattle.terms.proofs.Positions.{subterm-below}
 use Rattle.order.specs.Order.{comparison}
 use Rattle.unify.specs.Unify.{Binding, under, mgu}
-use Rattle.rewriting.specs.Rewrite.{end-number}
+use Rattle.rewriting.specs.Rewrite.{End, complete, neither-above, spent, too-large, rules-full, log-full, end-number}
 use Rattle.problem.specs.Problem.{Reading, ok, refused, rank-of}
 use Rattle.problem.proofs.Reading.{from-bind, ok-injective}
 use Rattle.completion.specs.Calls.{Single, parse-single, complete-call, compare-call, unify-call, CommonInstance, instance, no-instance, instance-too-large}
@@ -24,9 +24,11 @@ use Rattle.completion.specs.Calls.{unified, Part, part-of, subterm-part}
 use Rattle.completion.proofs.Accepts.{single-fits}
 use Rattle.completion.proofs.Capacity.{complete-writes}
 use Rattle.complete.specs.Answer.{counted}
+use Rattle.decide.specs.Decide.{Answer, are-same, are-different, ended, decide-call}
 use Rattle.calls.specs.Answers.{Returned, bytes-written, none-common, number-only, number-and-place, unify-returns}
 use Rattle.calls.proofs.Comparing.{comparison-range}
-use Rattle.capi.specs.Codes.{code, answer-code, unify-code, part-code, kind-in, number-in, value-in, start-in}
+use Rattle.capi.specs.Codes.{code, answer-code, unify-code, decide-code, part-code, kind-in, number-in, value-in, start-in}
+use Rattle.capi.proofs.RecordRefusals.{decide-within}
 use Rattle.capi.proofs.Refusals.{RefusesWithin, was-refused, refusal-few, single-first, complete-within, compare-within, unify-within}
 
 -- The answer r has this kind, this number and this value.
@@ -118,6 +120,32 @@ unify-unpacks problem buffer = go (unify-call problem buffer) refl (unify-within
     go (ok no-instance) q h = code-unpacks 2 0 0 (omega arith) (omega arith)
     go (ok instance-too-large) q h = code-unpacks 3 22 0 (omega arith) (omega arith)
     go (refused n at) q (was-refused _ _ a b) = code-unpacks 0 n at (omega (arith, refusal-few 12 n a)) (omega arith)
+
+-- decide
+abbrev pub UnpacksDecided : ℕ → Reading Answer → Type 0
+UnpacksDecided r (ok are-same) = Unpacks r 1 0 1
+UnpacksDecided r (ok are-different) = Unpacks r 1 0 2
+UnpacksDecided r (ok (ended e)) = Unpacks r 3 (end-number e) 0
+UnpacksDecided r (refused number place) = Unpacks r 0 number place
+
+ended-few : (e : End) → end-number e < 65_536
+unfolding end-number
+ended-few complete = omega arith
+ended-few (neither-above p) = omega arith
+ended-few spent = omega arith
+ended-few too-large = omega arith
+ended-few rules-full = omega arith
+ended-few log-full = omega arith
+
+pub decide-unpacks : (problem kept : List ℕ) → UnpacksDecided (decide-code (decide-call problem kept)) (decide-call problem kept)
+unfolding decide-code
+decide-unpacks problem kept = go (decide-call problem kept) (decide-within problem kept)
+  where
+    go : (c : Reading Answer) → RefusesWithin 15 16_384 c → UnpacksDecided (decide-code c) c
+    go (ok are-same) h = code-unpacks 1 0 1 (omega arith) (omega arith)
+    go (ok are-different) h = code-unpacks 1 0 2 (omega arith) (omega arith)
+    go (ok (ended e)) h = code-unpacks 3 (end-number e) 0 (ended-few e) (omega arith)
+    go (refused n at) (was-refused _ _ a b) = code-unpacks 0 n at (omega (arith, refusal-few 15 n a)) (omega arith)
 
 -- subterm
 subterm-few : (t : Term) (p : ℕ) (u : Term) → subterm-at t p ≡ some u → size u ≤ size t

@@ -168,6 +168,10 @@ not-refused problem kept =
 -- What `decide` promises of an answer that is the definition's.
 pub laws : (problem kept : List ℕ) (r : Reading Answer) → r ≡ decide-call problem kept →
     (r ≡ decide-call problem kept) × (AboutRules problem kept r × (AboutEquations problem kept r × NotRefused problem kept r))
-laws problem kept r e =
-    (e, (subst (AboutRules problem kept) (sym e) (about-rules problem kept),
-      (subst (AboutEquations problem kept) (sym e) (about-equations problem kept), subst (NotRefused problem kept) (sym e) (not-refused problem kept))))
+laws problem kept r e = (
+  e,
+  (
+    subst (AboutRules problem kept) (sym e) (about-rules problem kept),
+    (subst (AboutEquations problem kept) (sym e) (about-equations problem kept), subst (NotRefused problem kept) (sym e) (not-refused problem kept)),
+  ),
+)

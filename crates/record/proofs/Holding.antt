@@ -1,9 +1,9 @@
 -- Two sides that fill a field's bytes, renamed as a pair: `renamed_pair`; then a rule's field and the forms' field, which hold such a pair. Assumes
 -- nothing.
 -- Read first: specs/Fields (renamed-pair, read-rule, read-forms), specs/Reader (HeldAt), reading/proofs/Standing, proofs/OneField.
-use mathlib.Core.Path.{_≡_, refl, ap, ap₂, sym, _∙_}
+use mathlib.Core.Path.{_≡_, refl, ap, sym, _∙_}
 use mathlib.Core.Bool.{Bool, true, false, _&&_}
-use mathlib.Core.List.{List, [], _∷_, _++_}
+use mathlib.Core.List.{List, [], _++_}
 use Prim.Native.Nat.{ℕ, _+_, _-_, _<_, _≤_}
 use native.Mathlib.Omega.{arith}
 use lib.Dec.{ltb, leb}
@@ -11,8 +11,8 @@ use lib.ListN.{length, take, drop, length-take, length-drop, drop-of-length-le}
 use lib.Seq.{take-take, take-at, drop-at, drop-drop}
 use borrow.Author.Tests.{lt-ltb, le-ltb, le-leb, lt-leb}
 use Rattle.terms.specs.Base.{number-from}
-use Rattle.terms.specs.Term.{Pair, size, term-bytes, renamed, same}
-use Rattle.terms.proofs.Shape.{Decides, dec-map, dec-and, dec-agree, same-dec}
+use Rattle.terms.specs.Term.{Pair, term-bytes}
+use Rattle.terms.proofs.Shape.{dec-agree}
 use Rattle.terms.proofs.Bytes.{length-bytes}
 use Rattle.terms.proofs.Lists.{take-drop}
 use Rattle.reading.specs.Answers.{symbols-of, Table, between, PairAt, IsRenamed}
@@ -21,17 +21,10 @@ use Rattle.reading.proofs.Standing.{PairStands, pair-stands}
 use Rattle.problem.specs.Problem.{Reading, ok, refused, _>>=_, Symbol, read-term, read-side, read-pair}
 use Rattle.problem.specs.Parser.{field-at}
 use Rattle.rewriting.specs.Overlap.{Rule}
-use Rattle.slots.specs.Slots.{Sides}
 use Rattle.record.specs.Fields.{demand, is-renamed, renamed-pair, read-rule, read-forms}
 use Rattle.record.specs.Reader.{Unread, part, HeldAt}
+use Rattle.record.proofs.Parts.{renamed-dec}
 use Rattle.record.proofs.OneField.{unread-is, unread-bind, demand-kept, demand-broken}
-
--- the test of Fields says whether the pair is renamed
-renamed-dec : (p : Pair) → Decides (is-renamed p) (renamed p ≡ p)
-unfolding is-renamed
-renamed-dec p =
-    dec-map (λ k. ap₂ (λ x y. record { left = x; right = y }) (k .0) (k .1)) (λ e. (ap (λ (p : Pair). p .left) e, ap (λ (p : Pair). p .right) e))
-    (dec-and (same-dec (renamed p .left) (p .left)) (same-dec (renamed p .right) (p .right)))
 
 pub pair-refused : (Σ : List Symbol) (at : ℕ) (m : List ℕ) (n p : ℕ) → read-pair Σ at m ≡ refused n p → Unread (renamed-pair Σ at m)
 unfolding renamed-pair

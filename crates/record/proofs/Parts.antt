@@ -30,7 +30,7 @@ renamed-dec e =
     dec-map (λ k. ap₂ (λ l r. record { left = l; right = r }) (k .0) (k .1)) (λ q. (ap (λ (d : Pair). d .left) q, ap (λ (d : Pair). d .right) q))
     (dec-and (same-dec (renamed e .left) (e .left)) (same-dec (renamed e .right) (e .right)))
 
-or-refuse-ok : {A : Type 0} (n at : ℕ) (r : Reading A) (a : A) → or-refuse n at r ≡ ok a → r ≡ ok a
+pub or-refuse-ok : {A : Type 0} (n at : ℕ) (r : Reading A) (a : A) → or-refuse n at r ≡ ok a → r ≡ ok a
 unfolding or-refuse
 or-refuse-ok n at (ok b) a e = e
 or-refuse-ok n at (refused m p) a e = absurd (no-ok e)

@@ -3,7 +3,7 @@
 use mathlib.Core.Path.{_≡_, refl, ap, sym, subst, _∙_}
 use mathlib.Core.List.{List, [], _∷_, _++_, map-append}
 use mathlib.Core.Option.{Option, none, some}
-use Prim.Native.Nat.{ℕ, zero, suc, _+_, _-_, _*_, _<_, _≤_}
+use Prim.Native.Nat.{ℕ, suc, _+_, _*_, _<_, _≤_}
 use native.Mathlib.Omega.{arith}
 use native.Mathlib.Decide.{ℕ-discrete}
 use lib.ListN.{length, drop, getD, length-append, length-map}
@@ -11,14 +11,14 @@ use Rattle.limits.specs.Limits.{most-rules}
 use Rattle.terms.specs.Term.{Pair, size}
 use Rattle.reading.specs.Answers.{symbols-of}
 use Rattle.reading.proofs.Reading.{bind-ok, bind-refused}
-use Rattle.problem.specs.Problem.{Reading, ok, refused, _>>=_, ReadField, ReadPart, due}
+use Rattle.problem.specs.Problem.{ok, _>>=_}
 use Rattle.rewriting.specs.Overlap.{Rule, sides-of}
 use Rattle.slots.specs.Slots.{slot-width, slot, Short, Layout, PairAt, Stored, OnlySlot, PutSides}
 use Rattle.slots.proofs.Listing.{all-none, all-one, all-join, stored-moved}
 use Rattle.slots.proofs.Layouts.{short-moved, pair-put}
-use Rattle.record.specs.Fields.{or-refuse, one-field, read-rule}
+use Rattle.record.specs.Fields.{one-field, read-rule}
 use Rattle.record.specs.Record.{RuleAt, number-before, read-rule-at}
-use Rattle.record.specs.Reader.{part, OneAt, OneBad, HeldAt, RuleIs, rules-at, InSlots, RulesAre}
+use Rattle.record.specs.Reader.{part, OneAt, OneBad, RuleIs, rules-at, InSlots, RulesAre}
 use Rattle.record.proofs.OneField.{one-placed}
 use Rattle.record.proofs.Walking.{Walked, WalkBad, WalkEnds, walk-start, walk-full, walk-none, walk-other, walk-bad, walk-more}
 

@@ -97,9 +97,12 @@ loop-again c =
     let at-loop : tie.At-loop Inv-loop μ-loop = search depth 0 in
     let s = at-loop .loop .inv in
     let k = s .2 in
-    let f = rw (at-end .end .given .1) at (at-entry-field .entry-field .ensures) in
-    (s .0 ++ (f .0 ∷ []), some (f .0), length-append (s .0) (f .0 ∷ []) ∙ omega arith,
-    walk-more _ _ _ _ _ _ _ _ (s .3) (in-loop .loop-test .taken) (λ e. in-else1 .if1 .left (omega arith)) (in-else2 .if2 .left) _ _ (f .1))
+    let f = rw (at-end .end .given .1) at (at-entry-field .entry-field .ensures) in (
+      s .0 ++ (f .0 ∷ []),
+      some (f .0),
+      length-append (s .0) (f .0 ∷ []) ∙ omega arith,
+      walk-more _ _ _ _ _ _ _ _ (s .3) (in-loop .loop-test .taken) (λ e. in-else1 .if1 .left (omega arith)) (in-else2 .if2 .left) _ _ (f .1),
+    )
 
 -- src/lib.rt:242:1
 returns-4 : tie.Need-returns-4 Inv-loop μ-loop

@@ -186,10 +186,11 @@ loop-again c =
     let entry = entry-of-loop at-loop in
     let R = rw (at-number .number .given .1) at (at-rule-field .rule-field .ensures) in
     let s = at-loop .loop .inv in
-    let P = at-put-sides .put-sides .ensures in
-    (P .only .same ∙ s .0,
-    rules-more _ _ _ _ _ _ _ (s .1) (in-loop .loop-test .taken) (in-else1 .if1 .left) (in-else2 .if2 .left) _ _ _ _ (R .1) _ P
-    (omega (arith, entry .pre .1 .1, s .0)))
+    let P = at-put-sides .put-sides .ensures in (
+      P .only .same ∙ s .0,
+      rules-more _ _ _ _ _ _ _ (s .1) (in-loop .loop-test .taken) (in-else1 .if1 .left) (in-else2 .if2 .left) _ _ _ _ (R .1) _ P
+          (omega (arith, entry .pre .1 .1, s .0)),
+    )
 
 -- src/lib.rt:180:1
 same-length-4 : tie.Need-same-length-4 Inv-loop μ-loop
