@@ -51,6 +51,7 @@ pub fn cases() -> Vec<Case> {
     list.extend(groups());
     list.extend(growth());
     list.extend(many_steps());
+    list.extend(order_of_steps());
     list.extend(first_fields());
     list.extend(rules());
     list.extend(entries());
@@ -153,6 +154,33 @@ fn many_steps() -> Vec<Case> {
         ask("counters from 9", 9, 91_000, SAME),
         ask("counters, one unit less", 9, 90_999, SPENT),
         ask("counters from 15", 15, 987_136, SAME),
+    ]
+}
+
+/// Rules that do not join show which node and which rule is taken, and a
+/// stop shows which side comes first.
+fn order_of_steps() -> Vec<Case> {
+    let symbols = Theory::new("a/0/0 b/0/1 c/0/2 s/1/3 h/1/4");
+    let ask = |name, rules: &[&str], equation: &str, answer| {
+        let record = Kept::of_theory(&symbols.clone().equations(rules)).bytes();
+        case(name, &symbols.clone().equation(equation), 1, record, answer)
+    };
+    let longer = ["h(x) = s(s(x))"];
+    let large = format!("s(h({}))", power("s", 117, "a"));
+    let (first, second) = (format!("{large} = h(h(a))"), format!("h(h(a)) = {large}"));
+    let (inner, outer) = (["h(s(x)) = a", "s(x) = b"], ["s(x) = b", "h(s(x)) = a"]);
+    vec![
+        ask("lowest rule", &["h(c) = a", "h(x) = b"], "h(c) = a", SAME),
+        ask(
+            "lower rule",
+            &["h(x) = b", "h(c) = a"],
+            "h(c) = a",
+            DIFFERENT,
+        ),
+        ask("innermost node", &inner, "h(s(c)) = h(b)", SAME),
+        ask("innermost, lowest", &outer, "h(s(c)) = a", DIFFERENT),
+        ask("22 on the left", &longer, &first, LARGE),
+        ask("21 on the left", &longer, &second, SPENT),
     ]
 }
 

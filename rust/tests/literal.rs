@@ -173,7 +173,7 @@ fn assert_literal(questions: impl Iterator<Item = Question>) -> BTreeSet<String>
 
 #[test]
 fn questions_follow_the_definition() {
-    let count = if cfg!(debug_assertions) { 1000 } else { 6000 };
+    let count = if cfg!(debug_assertions) { 1000 } else { 10_000 };
     let questions = (0..count).map(|index| records::question(SEED, index, &result_of));
     let seen = assert_literal(questions);
     let all = [
@@ -193,6 +193,6 @@ fn questions_follow_the_definition() {
 fn damaged_records_follow_the_definition() {
     let fixed = questions::cases().into_iter().map(|case| case.question);
     assert_literal(fixed);
-    let step = if cfg!(debug_assertions) { 37 } else { 3 };
+    let step = if cfg!(debug_assertions) { 37 } else { 1 };
     assert_literal(exhaustive::all().step_by(step));
 }

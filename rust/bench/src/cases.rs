@@ -42,6 +42,7 @@ pub fn all() -> Vec<Case> {
     list.extend(limits());
     list.extend(compared());
     list.extend(unified());
+    list.extend(read());
     list.extend(decisions::all());
     list
 }
@@ -100,12 +101,6 @@ fn compared() -> Vec<Case> {
         ),
         compare("compare two chains of one rank", one_rank),
         compare("compare full binary trees", trees()),
-        case(
-            "subterm of i^119(x) at 60",
-            Call::Subterm(60),
-            chains(&is, &js),
-        ),
-        compare("read 16 equations of 240", sixteen_long()),
     ]
 }
 
@@ -118,6 +113,14 @@ fn unified() -> Vec<Case> {
         unify("unify doubling, 15 variables", doubling(15, &[])),
         unify("unify doubling, 15, cycle", doubling(15, &cycle)),
         unify("unify doubling, 15, clash", doubling(15, &clash)),
+    ]
+}
+
+fn read() -> Vec<Case> {
+    let chains = chains(&power("i", 119, "x"), &power("j", 119, "y"));
+    vec![
+        case("subterm of i^119(x) at 60", Call::Subterm(60), chains),
+        case("read 16 equations of 240", Call::Compare, sixteen_long()),
     ]
 }
 

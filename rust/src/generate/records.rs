@@ -56,9 +56,9 @@ const FAMILIES: [(&str, u64, Family); 10] = [
     ("other symbols", 5, results::other_symbols),
     ("damaged problem", 2, results::damaged_problem),
     ("damaged result", 10, damage::result),
-    ("made rules", 10, made::rules),
+    ("made rules", 12, made::rules),
     ("made fields", 4, made::fields),
-    ("growing rules", 6, growth::rules),
+    ("growing rules", 4, growth::rules),
     ("damaged rules", 4, damage::rules),
     ("long record", 1, long::record),
 ];

@@ -156,7 +156,10 @@ pub fn entries(random: &mut Random, count: usize) -> Vec<Vec<u8>> {
 /// One thing out of the common, at times within the limits.
 fn vary(random: &mut Random, kept: &mut Kept, symbols: &Symbols) {
     match random.below(8) {
-        0 => kept.entries = entries(random, *random.clone().pick(&LOGS)),
+        0 => {
+            let count = *random.pick(&LOGS);
+            kept.entries = entries(random, count);
+        }
         1 => kept.end = *random.pick(&ENDS),
         2 => kept.end = random.byte(),
         3 => kept.units = *random.pick(&UNITS),

@@ -14,7 +14,7 @@ use crate::run::END_COMPLETE;
 
 type Maker = fn(&mut Random) -> Vec<u8>;
 
-/// Makers of well-formed problems; some stand twice.
+/// Makers of problems that are mostly well-formed; some stand twice.
 const QUICK: [Maker; 12] = [
     theory::random,
     theory::random,
@@ -38,22 +38,13 @@ const TRIES: usize = 3;
 /// A budget with which most of the quick problems complete.
 const LONG_RUN: u32 = 150;
 
-/// A result with its problem's symbols and equations, mostly of end 0.
-pub fn source(random: &mut Random, complete: Complete) -> Source {
-    let tries = if random.once_in(6) { 1 } else { TRIES };
-    let mut source = completed(random, complete);
-    for _ in 1..tries {
-        if source.record.get(3) == Some(&END_COMPLETE) {
-            break;
-        }
-        source = completed(random, complete);
-    }
-    source
-}
-
-fn completed(random: &mut Random, complete: Complete) -> Source {
+/// A result of any end, with its problem's symbols and its pairs of terms.
+pub fn completed(random: &mut Random, complete: Complete) -> Source {
     let problem = generated(random);
-    let read = Problem::read(&problem).expect("these problems are well-formed");
+    let Ok(read) = Problem::read(&problem) else {
+        // A side of a single equation can pass 120 nodes.
+        return completed(random, complete);
+    };
     let symbols = symbols_of(&read);
     let record = complete(&problem).unwrap_or_default();
     let equal = match random.once_in(3) {
@@ -65,6 +56,19 @@ fn completed(random: &mut Random, complete: Complete) -> Source {
         equal,
         record,
     }
+}
+
+/// The same, mostly of end 0.
+fn source(random: &mut Random, complete: Complete) -> Source {
+    let tries = if random.once_in(6) { 1 } else { TRIES };
+    let mut source = completed(random, complete);
+    for _ in 1..tries {
+        if source.record.get(3) == Some(&END_COMPLETE) {
+            break;
+        }
+        source = completed(random, complete);
+    }
+    source
 }
 
 fn generated(random: &mut Random) -> Vec<u8> {
