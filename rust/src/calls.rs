@@ -102,7 +102,8 @@ fn test_buffer(result: &[u8]) -> Result<(), Refusal> {
     Ok(())
 }
 
-fn read_only_sides(problem: &[u8]) -> Result<(Problem<'_>, Term, Term), Refusal> {
+/// Reads the problem and the two sides of its only equation.
+pub(crate) fn read_only_sides(problem: &[u8]) -> Result<(Problem<'_>, Term, Term), Refusal> {
     let problem = Problem::read(problem)?;
     let (left, right) = problem.sides(problem.only_equation()?);
     Ok((problem, left, right))

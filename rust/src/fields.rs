@@ -3,13 +3,18 @@
 use crate::run::{End, Entry, Origin, Outcome};
 use crate::term::Term;
 
-const TAG_END: u8 = 0x10;
-const TAG_UNITS: u8 = 0x11;
+/// The tag of the end.
+pub const TAG_END: u8 = 0x10;
+/// The tag of the units.
+pub const TAG_UNITS: u8 = 0x11;
 /// The tag of a rule.
 pub const TAG_RULE: u8 = 0x12;
-const TAG_ENTRY: u8 = 0x13;
-const TAG_PAIR: u8 = 0x14;
-const TAG_INSTANCE: u8 = 0x15;
+/// The tag of a log entry.
+pub const TAG_ENTRY: u8 = 0x13;
+/// The tag of the two forms that could not be oriented.
+pub const TAG_PAIR: u8 = 0x14;
+/// The tag of a common instance.
+pub const TAG_INSTANCE: u8 = 0x15;
 
 /// Appends a field: tag, length in two bytes, contents.
 pub fn push_field(out: &mut Vec<u8>, tag: u8, contents: &[u8]) {

@@ -1,21 +1,26 @@
 //! Knuth-Bendix completion with the lexicographic path order, on heap trees.
 //!
-//! Four calls (complete, compare, unify, subterm) and the text of settle.
+//! Five calls (complete, compare, unify, subterm, decide) and the text of
+//! settle.
 //! The engine shares no code with the verified library, so that comparing
 //! the two on many problems says something about both.
 
 pub mod calls;
 pub mod cases;
+pub mod decide;
 pub mod fields;
 pub mod fixed;
 pub mod full_log;
 pub mod generate;
+pub mod kept;
 pub mod matching;
 pub mod normalise;
 pub mod notation;
 pub mod order;
 pub mod overlap;
 pub mod problem;
+pub mod questions;
+pub mod record;
 pub mod rules;
 pub mod run;
 pub mod settle;
@@ -25,6 +30,7 @@ pub mod unification;
 
 pub use calls::{compare, complete, subterm, unify};
 pub use calls::{CompareAnswer, CompleteAnswer, UnifyAnswer};
+pub use decide::{decide, DecideAnswer};
 pub use order::Order;
 pub use problem::Refusal;
 pub use settle::settle_text;
@@ -41,7 +47,11 @@ pub const MAX_LOG: usize = 512;
 pub const MAX_PROBLEM: usize = 8192;
 /// Fewest bytes a result buffer may have.
 pub const MIN_RESULT: usize = 16384;
+/// Most bytes in a record.
+pub const MAX_RECORD: usize = 16384;
+/// Highest number of a rule.
+pub const MAX_RULE_NUMBER: u16 = 512;
 /// Most equation fields in a problem.
 pub const MAX_EQUATIONS: usize = 16;
-/// Highest budget.
+/// Highest budget, and most units in a record.
 pub const MAX_BUDGET: u32 = 1_000_000;

@@ -24,6 +24,18 @@ pub enum Stop {
     LogFull,
 }
 
+impl Stop {
+    /// The number in a result or an answer.
+    pub fn number(self) -> u8 {
+        match self {
+            Stop::Budget => 21,
+            Stop::Size => 22,
+            Stop::RulesFull => 23,
+            Stop::LogFull => 24,
+        }
+    }
+}
+
 /// Units paid against the budget.
 #[derive(Clone, Copy, Debug)]
 pub struct Units {

@@ -69,6 +69,11 @@ impl Theory {
         chosen.collect()
     }
 
+    /// Both sides of every equation, in byte form.
+    pub fn all_sides(&self) -> Vec<Vec<u8>> {
+        self.equations.clone()
+    }
+
     fn byte<'t>(&self, name: &'t str, variables: &mut Vec<&'t str>) -> u8 {
         if let Some(symbol) = self.symbols.iter().position(|(n, _, _)| n == name) {
             return symbol as u8;

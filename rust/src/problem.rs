@@ -16,7 +16,7 @@ const MAX_ARITY: u8 = 4;
 const MAX_RANK: u8 = 15;
 const MAX_VARIABLE_BYTE: u8 = VARIABLE_BASE + 15;
 
-/// Why and where a problem is refused.
+/// Why and where a problem or a record is refused.
 #[derive(Clone, Copy, Debug, PartialEq, Eq)]
 pub struct Refusal {
     pub number: u8,
@@ -58,6 +58,16 @@ pub struct EquationField {
     pub start: usize,
     pub left: Range<usize>,
     pub right: Range<usize>,
+}
+
+impl EquationField {
+    /// The two sides as trees, variables as in the bytes.
+    pub fn sides(&self, bytes: &[u8], signature: &Signature) -> (Term, Term) {
+        let arity = |symbol| signature.arity(symbol);
+        let left = Term::read(&mut &bytes[self.left.clone()], &arity);
+        let right = Term::read(&mut &bytes[self.right.clone()], &arity);
+        (left, right)
+    }
 }
 
 /// An accepted problem over the lent bytes.
@@ -116,10 +126,7 @@ impl<'a> Problem<'a> {
 
     /// The two sides as trees, variables as in the bytes.
     pub fn sides(&self, equation: &EquationField) -> (Term, Term) {
-        let arity = |symbol| self.signature.arity(symbol);
-        let left = Term::read(&mut &self.bytes[equation.left.clone()], &arity);
-        let right = Term::read(&mut &self.bytes[equation.right.clone()], &arity);
-        (left, right)
+        equation.sides(self.bytes, &self.signature)
     }
 
     /// All equations in order, each renamed.
@@ -132,7 +139,7 @@ impl<'a> Problem<'a> {
 }
 
 /// Tests a field's bounds, then its tag; gives the range of its contents.
-fn open_field(bytes: &[u8], start: usize, due: u8) -> Result<Range<usize>, Refusal> {
+pub(crate) fn open_field(bytes: &[u8], start: usize, due: u8) -> Result<Range<usize>, Refusal> {
     let rest = &bytes[start..];
     if rest.len() < HEADER {
         return refuse(3, start);
@@ -187,7 +194,8 @@ fn read_budget(bytes: &[u8], start: usize) -> Result<(u32, usize), Refusal> {
     Ok((budget, contents.end))
 }
 
-fn read_equation(
+/// Reads the two terms that fill the contents of the field at the start.
+pub(crate) fn read_equation(
     bytes: &[u8],
     start: usize,
     contents: &Range<usize>,

@@ -17,6 +17,13 @@ use crate::{MAX_LOG, MAX_NODES, MAX_RULES, MAX_VARIABLES};
 use std::collections::VecDeque;
 use std::rc::Rc;
 
+/// The end of a run that is complete.
+pub const END_COMPLETE: u8 = 0;
+/// The end at a pair with neither side above the other.
+pub const END_UNORIENTABLE: u8 = 20;
+/// All ends.
+pub const ENDS: [u8; 6] = [END_COMPLETE, END_UNORIENTABLE, 21, 22, 23, 24];
+
 /// Where a taken equation comes from.
 #[derive(Clone, Copy, Debug, PartialEq, Eq)]
 pub enum Origin {
@@ -62,12 +69,9 @@ impl End {
     /// The number in the result.
     pub fn number(&self) -> u8 {
         match self {
-            End::Complete => 0,
-            End::Unorientable(..) => 20,
-            End::Stopped(Stop::Budget) => 21,
-            End::Stopped(Stop::Size) => 22,
-            End::Stopped(Stop::RulesFull) => 23,
-            End::Stopped(Stop::LogFull) => 24,
+            End::Complete => END_COMPLETE,
+            End::Unorientable(..) => END_UNORIENTABLE,
+            End::Stopped(stop) => stop.number(),
         }
     }
 }

@@ -7,6 +7,9 @@ pub const GROUP: &str = "e/0/0 i/1/2 */2/1";
 /// 0, s, p, +, - with + and - above s and p.
 pub const ARITHMETIC: &str = "0/0/0 s/1/1 p/1/2 +/2/3 -/2/4";
 
+/// 0, s, a constant, and two counters.
+pub const COUNTDOWN: &str = "0/0/0 s/1/1 a/0/2 w/4/3 f/4/4";
+
 /// A name and its theory.
 type Named = (&'static str, fn() -> Theory);
 
@@ -244,7 +247,7 @@ pub fn long_step(n: usize) -> Theory {
 /// inside, each from s^n(0): about (n + 1)^5 steps for each of the equations.
 pub fn countdown(n: usize, equations: usize) -> Theory {
     let full = power("s", n, "0");
-    let mut theory = Theory::new("0/0/0 s/1/1 a/0/2 w/4/3 f/4/4").equations(&[
+    let mut theory = Theory::new(COUNTDOWN).equations(&[
         "w(x,s(y),v,z) = w(x,y,v,z)",
         "w(s(x),0,v,z) = w(x,v,v,z)",
         "w(0,0,v,z) = z",

@@ -1,12 +1,21 @@
 //! The generator: a function of its numbers, and its reach.
 
+mod common;
+
+use common::result_of;
 use kb_engine::generate::ranks::{ranks, Ranks};
-use kb_engine::generate::{self, damage};
-use kb_engine::{compare, complete, subterm, unify};
-use kb_engine::{CompareAnswer, CompleteAnswer, UnifyAnswer, MIN_RESULT};
+use kb_engine::generate::{self, damage, records};
+use kb_engine::questions::Question;
+use kb_engine::{compare, complete, decide, subterm, unify};
+use kb_engine::{CompareAnswer, CompleteAnswer, DecideAnswer, UnifyAnswer};
+use kb_engine::{MAX_RECORD, MIN_RESULT};
 use std::collections::BTreeSet;
 
 const COUNT: u64 = 12_000;
+
+fn question(seed: u64, index: u64) -> Question {
+    records::question(seed, index, &result_of)
+}
 
 #[test]
 fn problems_depend_on_seed_and_index_only() {
@@ -69,5 +78,41 @@ fn damaged_problems_are_answered() {
         assert!(!refused || part.is_empty());
         compare(&problem);
         unify(&problem, &mut result);
+    }
+}
+
+#[test]
+fn questions_depend_on_seed_and_index_only() {
+    for index in 0..400 {
+        assert_eq!(question(3, index), question(3, index));
+    }
+    let differ = (0..400).filter(|i| question(3, *i) != question(4, *i));
+    assert!(differ.count() > 380);
+}
+
+#[test]
+fn questions_reach_every_answer() {
+    let mut seen = BTreeSet::new();
+    for index in 0..COUNT {
+        let question = question(1, index);
+        seen.insert(match decide(&question.problem, &question.record) {
+            DecideAnswer::Refused(refusal) => format!("refused {:2}", refusal.number),
+            other => format!("{other:?}"),
+        });
+    }
+    let refusals = [3, 4, 5, 6, 8, 10, 11, 12, 13, 14, 15].map(|n| format!("refused {n:2}"));
+    let decided = ["Different", "Ended(21)", "Ended(22)", "Same"].map(String::from);
+    assert!(seen.into_iter().eq(decided.into_iter().chain(refusals)));
+}
+
+#[test]
+fn records_reach_every_family_and_length() {
+    let families: BTreeSet<_> = (0..records::SHARES).map(records::family).collect();
+    assert_eq!(families.len(), 10);
+    let long = (0..COUNT).filter(|i| records::family(*i) == "long record");
+    let lengths: BTreeSet<usize> = long.map(|i| question(1, i).record.len()).collect();
+    assert!(lengths.range(13_000..14_000).count() > 20);
+    for length in [MAX_RECORD, MAX_RECORD + 1] {
+        assert!(lengths.contains(&length), "{length}");
     }
 }

@@ -3,11 +3,13 @@
 mod common;
 
 use common::literal::{apply, rename, Bytes, Symbols};
-use common::{completed, hex, literal_run};
-use kb_engine::cases;
+use common::{completed, hex, literal_run, result_of};
+use kb_engine::generate::records::{self, exhaustive};
 use kb_engine::problem::Problem;
-use kb_engine::{compare, generate, unify, CompareAnswer, UnifyAnswer, MIN_RESULT};
-use std::collections::HashMap;
+use kb_engine::questions::{self, Question};
+use kb_engine::{cases, generate};
+use kb_engine::{compare, decide, unify, CompareAnswer, DecideAnswer, UnifyAnswer, MIN_RESULT};
+use std::collections::{BTreeSet, HashMap};
 
 const SEED: u64 = 20;
 /// Longer runs are left to the comparison of engines.
@@ -40,8 +42,7 @@ fn runs_follow_the_definitions() {
         };
         let (symbols, equations) = parts(&problem);
         let budget = problem.budget.min(MOST_BUDGET);
-        let at = 3 + bytes[2] as usize + 3;
-        bytes[at..at + 4].copy_from_slice(&budget.to_be_bytes());
+        set_budget(&mut bytes, budget);
         if let Some(mut expected) = literal_run::run(symbols, budget, &equations) {
             let fields = completed(&bytes);
             expected.count = fields.count;
@@ -126,4 +127,72 @@ fn unifying_follows_the_definition() {
             assert_eq!(result[3..3 + instance.len()], expected, "{}", hex(&bytes));
         }
     }
+}
+
+/// Puts another budget in an accepted problem.
+fn set_budget(problem: &mut [u8], budget: u32) {
+    let at = 3 + problem[2] as usize + 3;
+    problem[at..at + 4].copy_from_slice(&budget.to_be_bytes());
+}
+
+/// The literal answer to a question whose problem is accepted.
+fn literal_answer(question: &Question) -> Option<DecideAnswer> {
+    let problem = Problem::read(&question.problem).ok()?;
+    problem.only_equation().ok()?;
+    let (symbols, equations) = parts(&problem);
+    let (left, right) = &equations[0];
+    Some(symbols.decide(problem.budget, [left, right], &question.record))
+}
+
+/// A refusal's number and all other answers, as text.
+fn kind(answer: DecideAnswer) -> String {
+    match answer {
+        DecideAnswer::Refused(refusal) => format!("refused {}", refusal.number),
+        other => format!("{other:?}"),
+    }
+}
+
+/// Holds questions to the literal answers; gives the kinds of answers met.
+fn assert_literal(questions: impl Iterator<Item = Question>) -> BTreeSet<String> {
+    let mut seen = BTreeSet::new();
+    for mut question in questions {
+        let Ok(problem) = Problem::read(&question.problem) else {
+            continue;
+        };
+        let budget = problem.budget.min(MOST_BUDGET);
+        set_budget(&mut question.problem, budget);
+        let (problem, record) = (&question.problem, &question.record);
+        let answer = decide(problem, record);
+        if let Some(expected) = literal_answer(&question) {
+            assert_eq!(answer, expected, "{} {}", hex(problem), hex(record));
+            seen.insert(kind(answer));
+        }
+    }
+    seen
+}
+
+#[test]
+fn questions_follow_the_definition() {
+    let count = if cfg!(debug_assertions) { 1000 } else { 10_000 };
+    let questions = (0..count).map(|index| records::question(SEED, index, &result_of));
+    let seen = assert_literal(questions);
+    let all = [
+        "Different",
+        "Ended(21)",
+        "Ended(22)",
+        "Same",
+        "refused 13",
+        "refused 14",
+        "refused 15",
+    ];
+    assert!(seen.iter().eq(all), "{seen:?}");
+}
+
+/// The fixed questions too, and damage at every byte.
+#[test]
+fn damaged_records_follow_the_definition() {
+    let fixed = questions::cases().into_iter().map(|case| case.question);
+    assert_literal(fixed);
+    let step = if cfg!(debug_assertions) { 37 } else { 1 };
+    assert_literal(exhaustive::all().step_by(step));
 }

@@ -1,5 +1,6 @@
-//! The fixed problems of the benchmark.
+//! The fixed problems of the benchmark. Those of decide stand apart.
 
+use crate::decisions;
 use kb_engine::full_log;
 use kb_engine::notation::Theory;
 use kb_engine::theories::{self, monoid, power, PAPERS};
@@ -11,6 +12,7 @@ pub enum Call {
     Compare,
     Unify,
     Subterm(usize),
+    Decide,
 }
 
 /// A named call on a problem.
@@ -18,15 +20,18 @@ pub struct Case {
     pub name: String,
     pub call: Call,
     pub problem: Vec<u8>,
+    /// What decide is asked of.
+    pub record: Vec<u8>,
 }
 
 const BUDGET: u32 = 1_000_000;
 
-fn case(name: &str, call: Call, theory: Theory) -> Case {
+pub fn case(name: &str, call: Call, theory: Theory) -> Case {
     Case {
         name: name.to_string(),
         call,
         problem: theory.problem(BUDGET),
+        record: Vec::new(),
     }
 }
 
@@ -35,7 +40,10 @@ pub fn all() -> Vec<Case> {
     let mut list = papers();
     list.extend(groups());
     list.extend(limits());
-    list.extend(terms());
+    list.extend(compared());
+    list.extend(unified());
+    list.extend(read());
+    list.extend(decisions::all());
     list
 }
 
@@ -81,49 +89,37 @@ fn limits() -> Vec<Case> {
     ]
 }
 
-fn terms() -> Vec<Case> {
+fn compared() -> Vec<Case> {
     let (is, js) = (power("i", 119, "x"), power("j", 119, "y"));
-    let trees = trees();
-    let cycle = [("x0", "x15")];
+    let compare = |name, theory| case(name, Call::Compare, theory);
+    let one_rank = chains(&mixed("i", "j"), &mixed("j", "i")).with_ranks(&[1, 1]);
     vec![
-        case(
-            "compare i^119(x), j^119(y)",
-            Call::Compare,
-            chains(&is, &js),
-        ),
-        case(
+        compare("compare i^119(x), j^119(y)", chains(&is, &js)),
+        compare(
             "compare i^119(x), j^119(x)",
-            Call::Compare,
             chains(&is, &power("j", 119, "x")),
         ),
-        case(
-            "compare two chains of one rank",
-            Call::Compare,
-            chains(&mixed("i", "j"), &mixed("j", "i")).with_ranks(&[1, 1]),
-        ),
-        case("compare full binary trees", Call::Compare, trees.clone()),
-        case("unify full binary trees", Call::Unify, trees),
-        case("unify doubling, 4 variables", Call::Unify, doubling(4, &[])),
-        case(
-            "unify doubling, 15 variables",
-            Call::Unify,
-            doubling(15, &[]),
-        ),
-        case(
-            "unify doubling, 15, cycle",
-            Call::Unify,
-            doubling(15, &cycle),
-        ),
-        case(
-            "unify doubling, 15, clash",
-            Call::Unify,
-            doubling(15, &[("c", "d")]),
-        ),
-        case(
-            "subterm of i^119(x) at 60",
-            Call::Subterm(60),
-            chains(&is, &js),
-        ),
+        compare("compare two chains of one rank", one_rank),
+        compare("compare full binary trees", trees()),
+    ]
+}
+
+fn unified() -> Vec<Case> {
+    let unify = |name, theory| case(name, Call::Unify, theory);
+    let (cycle, clash) = ([("x0", "x15")], [("c", "d")]);
+    vec![
+        unify("unify full binary trees", trees()),
+        unify("unify doubling, 4 variables", doubling(4, &[])),
+        unify("unify doubling, 15 variables", doubling(15, &[])),
+        unify("unify doubling, 15, cycle", doubling(15, &cycle)),
+        unify("unify doubling, 15, clash", doubling(15, &clash)),
+    ]
+}
+
+fn read() -> Vec<Case> {
+    let chains = chains(&power("i", 119, "x"), &power("j", 119, "y"));
+    vec![
+        case("subterm of i^119(x) at 60", Call::Subterm(60), chains),
         case("read 16 equations of 240", Call::Compare, sixteen_long()),
     ]
 }

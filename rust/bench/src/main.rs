@@ -7,6 +7,7 @@
 
 mod cases;
 mod clock;
+mod decisions;
 mod provers;
 
 use cases::{Call, Case};
@@ -26,6 +27,7 @@ fn call(engine: &dyn Engine, case: &Case, result: &mut [u8]) -> u64 {
         Call::Compare => engine.compare(problem),
         Call::Unify => engine.unify(problem, result),
         Call::Subterm(position) => engine.subterm(problem, position),
+        Call::Decide => engine.decide(problem, black_box(case.record.as_slice())),
     }
 }
 
@@ -58,7 +60,9 @@ fn answer_text(case: &Case, answer: u64, result: &[u8]) -> String {
         }
         (Call::Unify, 1) => format!("{} nodes", low - 3),
         (Call::Unify, 2) => "none".to_string(),
-        (Call::Unify, _) => format!("number {number}"),
+        (Call::Decide, 1) if low == 1 => "same".to_string(),
+        (Call::Decide, 1) => "different".to_string(),
+        (Call::Unify | Call::Decide, _) => format!("number {number}"),
     }
 }
 

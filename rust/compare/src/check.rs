@@ -1,7 +1,10 @@
-//! One problem through both engines: answers, whole buffers, lent bytes.
+//! One problem or question through both engines: answers, whole buffers, lent
+//! bytes.
 
-use crate::engines::Engine;
+use crate::engines::{decode, Engine};
+use kb_engine::questions::Question;
 use kb_engine::{MAX_NODES, MIN_RESULT};
+use std::hint::black_box;
 
 /// Bytes before and behind a result that no call may touch.
 pub const GUARD: usize = 64;
@@ -24,6 +27,8 @@ pub struct Answers {
     pub end: Option<u8>,
     pub unify: u64,
     pub compare: u64,
+    /// Of the problem and its own result.
+    pub decide: u64,
 }
 
 /// How a problem is run.
@@ -74,21 +79,50 @@ impl<'e> Checker<'e> {
         }
     }
 
-    /// Compares the four calls on a problem.
+    /// Compares the five calls on a problem. Decide is asked of the result
+    /// that both have written, or of an empty record.
     pub fn problem(&mut self, problem: &[u8], setting: &Setting) -> Result<Answers, Difference> {
         let complete = self.written("complete", problem, setting, |e, p, r| e.complete(p, r))?;
-        let end = (complete >> 48 == 1).then(|| self.buffers[0][GUARD + 3]);
+        let record = self.result(complete).to_vec();
+        let end = record.get(3).copied();
         let unify = self.written("unify", problem, setting, |e, p, r| e.unify(p, r))?;
         let compare = self.equal("compare".to_string(), |e| e.compare(problem))?;
         for position in &setting.positions {
             let call = format!("subterm at {position}");
             self.equal(call, |e| part(e.subterm(problem, *position)))?;
         }
+        let problem = problem.to_vec();
+        let decide = self.question(&Question { problem, record })?;
         Ok(Answers {
             complete,
             end,
             unify,
             compare,
+            decide,
+        })
+    }
+
+    /// The result that complete left in the first buffer, none if refused.
+    fn result(&self, answer: u64) -> &[u8] {
+        match decode(answer) {
+            (1, _, count) => &self.buffers[0][GUARD..GUARD + count as usize],
+            _ => &[],
+        }
+    }
+
+    /// Compares decide on a question.
+    pub fn question(&self, question: &Question) -> Result<u64, Difference> {
+        let lent = question.clone();
+        let decide = |e: &dyn Engine| e.decide(&lent.problem, &lent.record);
+        let answer = self.equal("decide".to_string(), decide)?;
+        if black_box(&lent) == question {
+            return Ok(answer);
+        }
+        Err(Difference {
+            call: "decide, lent bytes changed".to_string(),
+            left: answer,
+            right: answer,
+            place: None,
         })
     }
 

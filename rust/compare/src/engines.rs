@@ -2,18 +2,28 @@
 //!
 //! kind * 2^48 + number * 2^32 + place or count. Complete and unify: kind 0
 //! refused (number, place), 1 written (count), 2 no common instance, 3 too
-//! large (number 22). Compare: kind 0 refused, 1 the answer 1 to 4. Subterm:
-//! start * 2^32 + length, length 0 if refused.
+//! large (number 22). Compare: kind 0 refused, 1 the answer 1 to 4. Decide:
+//! kind 0 refused, 1 the answer 1 (same) or 2 (different), 3 ended (number 21
+//! or 22). Subterm: start * 2^32 + length, length 0 if refused.
 
 use kb_engine::calls::TOO_LARGE;
-use kb_engine::{CompareAnswer, CompleteAnswer, Refusal, UnifyAnswer};
+use kb_engine::MIN_RESULT;
+use kb_engine::{CompareAnswer, CompleteAnswer, DecideAnswer, Refusal, UnifyAnswer};
 
-/// The four calls with encoded answers.
+/// The five calls with encoded answers.
 pub trait Engine {
     fn complete(&self, problem: &[u8], result: &mut [u8]) -> u64;
     fn unify(&self, problem: &[u8], result: &mut [u8]) -> u64;
     fn compare(&self, problem: &[u8]) -> u64;
     fn subterm(&self, problem: &[u8], position: usize) -> u64;
+    fn decide(&self, problem: &[u8], record: &[u8]) -> u64;
+}
+
+/// The result that an engine writes for a problem, none if it refuses.
+pub fn result_of(engine: &dyn Engine, problem: &[u8]) -> Option<Vec<u8>> {
+    let mut result = vec![0; MIN_RESULT];
+    let (kind, _, count) = decode(engine.complete(problem, &mut result));
+    (kind == 1).then(|| result[..count as usize].to_vec())
 }
 
 /// One answer as a number.
@@ -29,7 +39,7 @@ pub fn decode(answer: u64) -> (u64, u64, u64) {
 /// The independent engine.
 pub struct RustEngine;
 
-/// A refusal, by any of complete, unify and compare.
+/// A refusal, by any call but subterm.
 pub fn refused(refusal: Refusal) -> u64 {
     encode(0, refusal.number, refusal.place)
 }
@@ -49,6 +59,16 @@ pub fn compared(answer: CompareAnswer) -> u64 {
     match answer {
         CompareAnswer::Refused(refusal) => refused(refusal),
         CompareAnswer::Compared(order) => encode(1, 0, order as usize),
+    }
+}
+
+/// An answer of decide.
+pub fn decided(answer: DecideAnswer) -> u64 {
+    match answer {
+        DecideAnswer::Refused(refusal) => refused(refusal),
+        DecideAnswer::Same => encode(1, 0, 1),
+        DecideAnswer::Different => encode(1, 0, 2),
+        DecideAnswer::Ended(number) => encode(3, number, 0),
     }
 }
 
@@ -80,5 +100,9 @@ impl Engine for RustEngine {
         let part = kb_engine::subterm(problem, position);
         let start = (part.as_ptr() as usize).wrapping_sub(problem.as_ptr() as usize);
         handed_back(start, part.len())
+    }
+
+    fn decide(&self, problem: &[u8], record: &[u8]) -> u64 {
+        decided(kb_engine::decide(problem, record))
     }
 }

@@ -1,9 +1,15 @@
-//! An engine held to the answers that the fixed problems must get.
+//! An engine held to the answers that the fixed problems and questions must
+//! get.
 
 use crate::check::part;
-use crate::engines::{compared, decode, handed_back, refused, unified, Engine};
+use crate::engines::{compared, decided, decode, handed_back, refused, unified, Engine};
 use kb_engine::fixed::Case;
-use kb_engine::MIN_RESULT;
+use kb_engine::{questions, MIN_RESULT};
+
+/// The answer that a fixed question must get.
+pub fn due(case: &questions::Case) -> u64 {
+    decided(case.answer)
+}
 
 /// The calls whose answer to a case is not what it must be, with that answer.
 pub fn faults(engine: &dyn Engine, case: &Case) -> Vec<(String, u64)> {

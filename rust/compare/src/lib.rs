@@ -1,11 +1,12 @@
-//! The two engines behind one interface, the comparison of a problem, and
-//! the answers to the fixed problems.
+//! The two engines behind one interface, the comparison of a problem or a
+//! question, the answers to the fixed ones, and the summary.
 
 pub mod check;
 pub mod engines;
 pub mod fixed;
 #[cfg(not(feature = "selfcheck"))]
 pub mod proved;
+pub mod summary;
 
 pub use engines::{Engine, RustEngine};
 

@@ -1,18 +1,21 @@
-//! Compares the proved library with the Rust engine on many problems.
+//! Compares the proved library with the Rust engine on many problems and on
+//! questions of records.
 //!
-//! kb_compare [count] [seed] [first index]: first the fixed problems, whose
-//! answers are known, then all damaged ones, then that many generated ones
-//! (100,000 unless KB_COUNT says otherwise). With KB_TRACE set, each problem
-//! is printed before it is run.
+//! kb_compare [count] [seed] [first index]: first the fixed problems and
+//! questions, whose answers are known, then all damaged ones, then that many
+//! generated ones of each (100,000 unless KB_COUNT says otherwise). The
+//! records that a question is made from are results of both engines, in turn.
+//! With KB_TRACE set, each problem is printed before it is run.
 
-use kb_compare::check::{Answers, Checker, Difference, Setting};
-use kb_compare::engines::decode;
-use kb_compare::fixed::faults;
+use kb_compare::check::{Checker, Difference, Setting};
+use kb_compare::engines::{decode, result_of};
+use kb_compare::fixed::{due, faults};
+use kb_compare::summary::Summary;
 use kb_compare::{Engine, ProvedEngine, RustEngine};
 use kb_engine::fixed::{self, Case};
-use kb_engine::generate::ranks::{ranks, Ranks};
+use kb_engine::generate::records::{self, exhaustive};
 use kb_engine::generate::{self, damage};
-use std::collections::BTreeMap;
+use kb_engine::questions::{self, Question};
 use std::process::ExitCode;
 use std::time::Instant;
 
@@ -36,50 +39,93 @@ fn hex(bytes: &[u8]) -> String {
 fn main() -> ExitCode {
     let count = argument(1, count_from_environment());
     let (seed, first) = (argument(2, 1), argument(3, 0));
-    let mut comparison = Comparison::default();
-    let mut checker = Checker::new(&ProvedEngine, &RustEngine);
+    let mut comparison = Comparison::new();
     let start = Instant::now();
-    let cases = fixed::cases();
-    for (case, number) in cases.iter().zip(0..) {
-        comparison.fixed(&mut checker, case, number);
-    }
-    let wrong = comparison.wrong;
-    println!("{} fixed cases, {wrong} wrong answers", cases.len());
-    for number in 0..damage::exhaustive_count() {
-        let problem = damage::exhaustive(number);
-        comparison.varied(&mut checker, &problem, number as u64, "all damage");
-    }
-    for index in first..first + count {
-        let problem = generate::problem(seed, index);
-        comparison.varied(&mut checker, &problem, index, generate::family(index));
-    }
-    comparison.print();
+    comparison.all_fixed();
+    comparison.all_problems(seed, first, count);
+    comparison.problems.print();
+    let asked = Instant::now();
+    comparison.all_questions(seed, first, count);
+    comparison.questions.print();
     println!(
-        "seed {seed}, from {first}, {:.1} s",
-        start.elapsed().as_secs_f64()
+        "seed {seed}, from {first}, {:.1} s, {:.1} s of them questions",
+        start.elapsed().as_secs_f64(),
+        asked.elapsed().as_secs_f64()
     );
-    if comparison.differences + comparison.wrong > 0 {
+    if comparison.differences() + comparison.wrong > 0 {
         return ExitCode::FAILURE;
     }
     ExitCode::SUCCESS
 }
 
-#[derive(Default)]
 struct Comparison {
-    problems: u64,
-    differences: usize,
+    checker: Checker<'static>,
+    problems: Summary,
+    questions: Summary,
     /// Answers to fixed cases that are not the ones due.
     wrong: usize,
-    seen: BTreeMap<String, u64>,
-    by_family: BTreeMap<&'static str, u64>,
-    trace: Option<bool>,
+    trace: bool,
 }
 
 impl Comparison {
+    fn new() -> Comparison {
+        Comparison {
+            checker: Checker::new(&ProvedEngine, &RustEngine),
+            problems: Summary::new("problems"),
+            questions: Summary::new("questions"),
+            wrong: 0,
+            trace: std::env::var_os("KB_TRACE").is_some(),
+        }
+    }
+
+    fn differences(&self) -> usize {
+        self.problems.differences + self.questions.differences
+    }
+
+    fn all_fixed(&mut self) {
+        let (cases, questions) = (fixed::cases(), questions::cases());
+        for (case, number) in cases.iter().zip(0..) {
+            self.fixed(case, number);
+        }
+        for (case, number) in questions.iter().zip(0..) {
+            self.fixed_question(case, number);
+        }
+        let (wrong, asked) = (self.wrong, questions.len());
+        println!(
+            "{} fixed cases, {asked} fixed questions, {wrong} wrong answers",
+            cases.len()
+        );
+    }
+
+    fn all_problems(&mut self, seed: u64, first: u64, count: u64) {
+        for number in 0..damage::exhaustive_count() {
+            let problem = damage::exhaustive(number);
+            self.varied(&problem, number as u64, "all damage");
+        }
+        for index in first..first + count {
+            let problem = generate::problem(seed, index);
+            self.varied(&problem, index, generate::family(index));
+        }
+    }
+
+    fn all_questions(&mut self, seed: u64, first: u64, count: u64) {
+        for (question, number) in exhaustive::all().zip(0..) {
+            self.question(&question, number, "all damage of records");
+        }
+        for index in first..first + count {
+            let writer: &dyn Engine = match index / records::SHARES % 2 {
+                0 => &ProvedEngine,
+                _ => &RustEngine,
+            };
+            let question = records::question(seed, index, &|problem| result_of(writer, problem));
+            self.question(&question, index, records::family(index));
+        }
+    }
+
     /// A case with known answers: no difference, and each engine gives them.
-    fn fixed(&mut self, checker: &mut Checker, case: &Case, number: u64) {
+    fn fixed(&mut self, case: &Case, number: u64) {
         let setting = Setting::whole(number);
-        self.one(checker, &case.problem, number, "fixed", &setting);
+        self.problem(&case.problem, number, "fixed", &setting);
         let engines: [(&str, &dyn Engine); 2] = [("proved", &ProvedEngine), ("rust", &RustEngine)];
         for (name, engine) in engines {
             for (call, answer) in faults(engine, case) {
@@ -90,39 +136,62 @@ impl Comparison {
         }
     }
 
-    /// A problem whose number varies how it is run.
-    fn varied(&mut self, checker: &mut Checker, problem: &[u8], number: u64, family: &'static str) {
-        self.one(checker, problem, number, family, &Setting::varied(number));
+    /// A question with a known answer, which both engines give.
+    fn fixed_question(&mut self, case: &questions::Case, number: u64) {
+        let answer = self.question(&case.question, number, "fixed questions");
+        if let Some(answer) = answer.filter(|answer| *answer != due(case)) {
+            self.wrong += 1;
+            println!("WRONG in decide of {}", case.name);
+            println!("  both {:?}", decode(answer));
+        }
     }
 
-    fn one(
-        &mut self,
-        checker: &mut Checker,
-        problem: &[u8],
-        number: u64,
-        family: &'static str,
-        setting: &Setting,
-    ) {
-        let trace = *self
-            .trace
-            .get_or_insert_with(|| std::env::var_os("KB_TRACE").is_some());
-        if trace {
+    /// A problem whose number varies how it is run.
+    fn varied(&mut self, problem: &[u8], number: u64, family: &'static str) {
+        self.problem(problem, number, family, &Setting::varied(number));
+    }
+
+    fn problem(&mut self, problem: &[u8], number: u64, family: &'static str, setting: &Setting) {
+        if self.trace {
             eprintln!("{family} {number} {}", hex(problem));
         }
-        self.problems += 1;
-        *self.by_family.entry(family).or_default() += 1;
-        match checker.problem(problem, setting) {
-            Ok(answers) => self.note(problem, &answers),
+        self.problems.begin(family);
+        match self.checker.problem(problem, setting) {
+            Ok(answers) => self.problems.note_problem(problem, &answers),
             Err(difference) => {
-                println!("DIFFERENT in {}", difference.call);
-                println!("  {family}, number {number}: {}", hex(problem));
-                self.differ(&difference);
+                self.problems.differences += 1;
+                let input = format!("{family}, number {number}: {}", hex(problem));
+                self.differ(&difference, &input);
             }
         }
     }
 
-    fn differ(&mut self, difference: &Difference) {
-        self.differences += 1;
+    /// The answer to a question, if it is the same twice.
+    fn question(&mut self, question: &Question, number: u64, family: &'static str) -> Option<u64> {
+        let (problem, record) = (&question.problem, &question.record);
+        if self.trace {
+            eprintln!("{family} {number} {} {}", hex(problem), hex(record));
+        }
+        self.questions.begin(family);
+        match self.checker.question(question) {
+            Ok(answer) => {
+                self.questions.note_decision(answer);
+                Some(answer)
+            }
+            Err(difference) => {
+                self.questions.differences += 1;
+                let (problem, record) = (hex(problem), hex(record));
+                let input = format!("{family}, number {number}: {problem}\n  record {record}");
+                self.differ(&difference, &input);
+                None
+            }
+        }
+    }
+
+    /// Prints a difference and where it was found.
+    fn differ(&mut self, difference: &Difference, input: &str) {
+        println!("DIFFERENT in {}", difference.call);
+        println!("  {input}");
         println!(
             "  proved {:?}, rust {:?}",
             decode(difference.left),
@@ -131,48 +200,10 @@ impl Comparison {
         if let Some(place) = difference.place {
             println!("  buffers differ from result byte {place}");
         }
-        if self.differences >= MOST_DIFFERENCES {
-            self.print();
+        if self.differences() >= MOST_DIFFERENCES {
+            self.problems.print();
+            self.questions.print();
             std::process::exit(1);
         }
-    }
-
-    fn note(&mut self, problem: &[u8], answers: &Answers) {
-        let complete = match (answers.end, decode(answers.complete)) {
-            (Some(end), _) => format!("complete: end {end:2}"),
-            (None, (_, number, _)) => format!("complete: refused {number:2}"),
-        };
-        let unify = match decode(answers.unify) {
-            (0, number, _) => format!("unify: refused {number:2}"),
-            (1, _, _) => "unify: written".to_string(),
-            (2, _, _) => "unify: none".to_string(),
-            (_, number, _) => format!("unify: {number}"),
-        };
-        let compare = match decode(answers.compare) {
-            (0, number, _) => format!("compare: refused {number:2}"),
-            (_, _, answer) => format!("compare: {answer}"),
-        };
-        let ranks = match ranks(problem) {
-            Some(Ranks::AllEqual) => "ranks: all equal",
-            Some(Ranks::SomeEqual) => "ranks: some equal",
-            Some(Ranks::Distinct) => "ranks: distinct",
-            None => "ranks: no table",
-        };
-        for key in [complete, unify, compare, ranks.to_string()] {
-            *self.seen.entry(key).or_default() += 1;
-        }
-    }
-
-    fn print(&self) {
-        for (family, count) in &self.by_family {
-            println!("{count:9}  {family}");
-        }
-        for (answer, count) in &self.seen {
-            println!("{count:9}  {answer}");
-        }
-        println!(
-            "{} problems, {} differences",
-            self.problems, self.differences
-        );
     }
 }

@@ -12,6 +12,12 @@ extern "C" {
     fn vb_unify(problem: *const u8, problem_len: usize, result: *mut u8, result_len: usize) -> u64;
     fn vb_compare(problem: *const u8, problem_len: usize) -> u64;
     fn vb_subterm(problem: *const u8, problem_len: usize, position: usize) -> u64;
+    fn vb_decide(
+        problem: *const u8,
+        problem_len: usize,
+        record: *const u8,
+        record_len: usize,
+    ) -> u64;
 }
 
 /// The proved library.
@@ -50,5 +56,17 @@ impl Engine for ProvedEngine {
     fn subterm(&self, problem: &[u8], position: usize) -> u64 {
         // SAFETY: the pointer comes with the length of a live slice.
         unsafe { vb_subterm(problem.as_ptr(), problem.len(), position) }
+    }
+
+    fn decide(&self, problem: &[u8], record: &[u8]) -> u64 {
+        // SAFETY: both pointers come with the lengths of live slices.
+        unsafe {
+            vb_decide(
+                problem.as_ptr(),
+                problem.len(),
+                record.as_ptr(),
+                record.len(),
+            )
+        }
     }
 }

@@ -2,9 +2,11 @@
 #![cfg(feature = "selfcheck")]
 
 use kb_compare::check::{Checker, Setting};
-use kb_compare::fixed::faults;
+use kb_compare::engines::{encode, result_of};
+use kb_compare::fixed::{due, faults};
 use kb_compare::{Engine, RustEngine};
-use kb_engine::{fixed, generate};
+use kb_engine::generate::records::{self, exhaustive};
+use kb_engine::{fixed, generate, questions};
 
 /// Call, answer and result to the answer given instead.
 type Fault = fn(&str, u64, &mut [u8]) -> u64;
@@ -30,6 +32,10 @@ impl Engine for Faulty {
     fn subterm(&self, problem: &[u8], position: usize) -> u64 {
         self.0("subterm", RustEngine.subterm(problem, position), &mut [])
     }
+
+    fn decide(&self, problem: &[u8], record: &[u8]) -> u64 {
+        self.0("decide", RustEngine.decide(problem, record), &mut [])
+    }
 }
 
 fn differences(fault: Fault) -> usize {
@@ -39,6 +45,28 @@ fn differences(fault: Fault) -> usize {
     problems
         .filter(|(i, p)| checker.problem(p, &Setting::varied(*i)).is_err())
         .count()
+}
+
+/// Questions on which the answers differ: generated, and of damaged records.
+fn different_decisions(fault: Fault) -> [usize; 2] {
+    let faulty = Faulty(fault);
+    let checker = Checker::new(&faulty, &RustEngine);
+    let complete = |problem: &[u8]| result_of(&RustEngine, problem);
+    let generated = (0..1000).map(|index| records::question(5, index, &complete));
+    let generated = generated.filter(|question| checker.question(question).is_err());
+    let damaged = exhaustive::all().step_by(7);
+    let damaged = damaged.filter(|question| checker.question(question).is_err());
+    [generated.count(), damaged.count()]
+}
+
+/// Fixed questions with a wrong answer.
+fn wrong_decisions(fault: Fault) -> usize {
+    let cases = questions::cases();
+    let wrong = cases.iter().filter(|case| {
+        let question = &case.question;
+        Faulty(fault).decide(&question.problem, &question.record) != due(case)
+    });
+    wrong.count()
 }
 
 /// Fixed cases with a wrong answer.
@@ -121,4 +149,79 @@ fn each_fault_is_found() {
         }
         answer
     });
+}
+
+/// Same for different and different for same.
+fn exchanged(_: &str, answer: u64, _: &mut [u8]) -> u64 {
+    match answer >> 48 {
+        1 => answer ^ 3,
+        _ => answer,
+    }
+}
+
+/// 21 for 22 and 22 for 21.
+fn other_stop(_: &str, answer: u64, _: &mut [u8]) -> u64 {
+    let (spent, large) = (encode(3, 21, 0), encode(3, 22, 0));
+    match answer {
+        _ if answer == spent => large,
+        _ if answer == large => spent,
+        _ => answer,
+    }
+}
+
+/// The place one byte on.
+fn next_place(_: &str, answer: u64, _: &mut [u8]) -> u64 {
+    match answer >> 48 {
+        0 => answer + 1,
+        _ => answer,
+    }
+}
+
+/// The refusal with the next number at the same place.
+fn next_number(_: &str, answer: u64, _: &mut [u8]) -> u64 {
+    match answer >> 48 {
+        0 => answer + encode(0, 1, 0),
+        _ => answer,
+    }
+}
+
+/// Same in place of different.
+fn never_different(_: &str, answer: u64, _: &mut [u8]) -> u64 {
+    match answer == encode(1, 0, 2) {
+        true => encode(1, 0, 1),
+        false => answer,
+    }
+}
+
+#[test]
+fn faults_in_decide_are_found() {
+    let none: Fault = |_, answer, _| answer;
+    assert_eq!(different_decisions(none), [0, 0]);
+    assert_eq!(wrong_decisions(none), 0);
+    let list: [(&str, Fault); 5] = [
+        ("same and different", exchanged),
+        ("21 and 22", other_stop),
+        ("place", next_place),
+        ("number", next_number),
+        ("never different", never_different),
+    ];
+    for (name, fault) in list {
+        let [generated, damaged] = different_decisions(fault);
+        assert!(
+            generated > 50 && damaged > 3,
+            "{name}: {generated}, {damaged}"
+        );
+        let wrong = wrong_decisions(fault);
+        assert!(wrong > 5, "{name}: {wrong}");
+    }
+}
+
+/// The problems of the other calls are asked of their results as well.
+#[test]
+fn faults_in_decide_are_found_on_problems() {
+    let found = differences(|call, answer, _| match (call, answer >> 48) {
+        ("decide", 1) => answer + 1,
+        _ => answer,
+    });
+    assert!(found > 20, "{found}");
 }

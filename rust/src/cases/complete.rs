@@ -192,6 +192,11 @@ fn too_large(cases: &mut Cases) {
     let right = theory.equations(&[&format!("k = {}", power("g", 7, "a")), "g(x) = t(x,x)"]);
     run(cases, "22: a right side's step", right);
     run(cases, "22: an input's step at the scan", large_input());
+    many_variables(cases);
+}
+
+/// Pairs of 16 and 17 variables.
+fn many_variables(cases: &mut Cases) {
     run(
         cases,
         "22: 17 variables",

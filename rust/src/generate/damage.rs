@@ -17,7 +17,8 @@ pub fn random(random: &mut Random) -> Vec<u8> {
     bytes
 }
 
-fn damage(bytes: &mut Vec<u8>, random: &mut Random) {
+/// One change: a cut, or a byte more, less or another.
+pub fn damage(bytes: &mut Vec<u8>, random: &mut Random) {
     let place = random.below(bytes.len());
     match random.below(6) {
         0 => bytes.truncate(place),

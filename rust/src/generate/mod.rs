@@ -4,13 +4,14 @@
 //! number of families chooses the family, the rest varies it. In a third of
 //! the problems symbols share a rank. Most budgets are small, so that many
 //! problems can be run. `damage::exhaustive` lists all truncations and
-//! single-byte changes of some problems.
+//! single-byte changes of some problems. `records` makes questions of records.
 
 pub mod damage;
 pub mod edges;
 pub mod limits;
 pub mod random;
 pub mod ranks;
+pub mod records;
 pub mod terms;
 pub mod theory;
 pub mod words;

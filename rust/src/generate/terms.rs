@@ -88,7 +88,7 @@ pub fn term_end(term: &[u8], mut place: usize, symbols: &Symbols) -> usize {
 }
 
 /// A copy with one random subterm replaced by a random small term.
-fn mutated(term: &[u8], random: &mut Random, symbols: &Symbols, variables: usize) -> Vec<u8> {
+pub fn mutated(term: &[u8], random: &mut Random, symbols: &Symbols, variables: usize) -> Vec<u8> {
     let place = random.below(term.len());
     let end = term_end(term, place, symbols);
     let mut out = term[..place].to_vec();

@@ -152,7 +152,8 @@ fn paper(random: &mut Random) -> (Symbols, Vec<Vec<u8>>) {
     (symbols, equations)
 }
 
-fn symbols_of(problem: &Problem) -> Symbols {
+/// The symbols of an accepted problem.
+pub fn symbols_of(problem: &Problem) -> Symbols {
     let contents = &problem.bytes[3..3 + problem.bytes[2] as usize];
     contents.chunks(2).map(|pair| (pair[0], pair[1])).collect()
 }

@@ -2,6 +2,7 @@
 #![allow(dead_code)]
 
 pub mod literal;
+pub mod literal_decide;
 pub mod literal_run;
 
 use kb_engine::fields::split_fields;
@@ -50,6 +51,15 @@ fn add_field(fields: &mut Fields, tag: u8, contents: &[u8]) {
         0x13 => fields.log.push(contents.to_vec()),
         0x14 => fields.pair = Some(contents.to_vec()),
         _ => panic!("unknown tag {tag:02x}"),
+    }
+}
+
+/// The result bytes of complete, none if it refuses.
+pub fn result_of(problem: &[u8]) -> Option<Vec<u8>> {
+    let mut result = vec![FILL; MIN_RESULT];
+    match kb_engine::complete(problem, &mut result) {
+        CompleteAnswer::Written(count) => Some(result[..count].to_vec()),
+        CompleteAnswer::Refused(_) => None,
     }
 }
 

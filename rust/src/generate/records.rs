@@ -1,0 +1,93 @@
+//! Questions by seed and index, for comparing engines: a problem with one
+//! equation, and a record.
+//!
+//! `question` is a function of its two numbers and of the results that the
+//! given engine writes. The index modulo the sum of the shares chooses the
+//! family, the rest varies it. `exhaustive` lists all truncations and
+//! single-byte changes of some records.
+
+mod asked;
+mod damage;
+pub mod exhaustive;
+mod growth;
+mod long;
+mod made;
+mod results;
+
+use super::random::Random;
+use super::terms::{assemble, Symbols};
+use crate::questions::Question;
+use asked::{budget, Asked, Pair};
+
+/// The result that an engine writes for a problem, none if it refuses.
+pub type Complete<'c> = &'c dyn Fn(&[u8]) -> Option<Vec<u8>>;
+
+/// What a question is asked about.
+struct Source {
+    symbols: Symbols,
+    /// Pairs of terms that may replace each other in the terms asked.
+    equal: Vec<Pair>,
+    record: Vec<u8>,
+}
+
+impl Source {
+    /// Terms over the symbols, and a budget.
+    fn ask(&self, random: &mut Random) -> Question {
+        let sides = Asked {
+            random,
+            symbols: &self.symbols,
+            equal: &self.equal,
+        }
+        .sides();
+        let budget = budget(random, &self.symbols, &sides, &self.record);
+        Question {
+            problem: assemble(&self.symbols, budget, &[sides]),
+            record: self.record.clone(),
+        }
+    }
+}
+
+type Family = fn(&mut Random, Complete) -> Question;
+
+/// Name, share and maker of each family; the long records are rare.
+const FAMILIES: [(&str, u64, Family); 10] = [
+    ("kept result", 16, results::kept),
+    ("unfinished rules", 6, results::unfinished),
+    ("other symbols", 5, results::other_symbols),
+    ("damaged problem", 2, results::damaged_problem),
+    ("damaged result", 10, damage::result),
+    ("made rules", 12, made::rules),
+    ("made fields", 4, made::fields),
+    ("growing rules", 4, growth::rules),
+    ("damaged rules", 4, damage::rules),
+    ("long record", 1, long::record),
+];
+
+/// Sum of the shares.
+pub const SHARES: u64 = 64;
+
+/// The name of the index's family, and its maker.
+fn of_index(index: u64) -> (&'static str, Family) {
+    let mut rest = index % SHARES;
+    for (name, share, family) in FAMILIES {
+        if rest < share {
+            return (name, family);
+        }
+        rest -= share;
+    }
+    unreachable!("the shares add up");
+}
+
+/// The name of the index's family.
+pub fn family(index: u64) -> &'static str {
+    of_index(index).0
+}
+
+/// Sets questions apart from the problems of the same numbers.
+const QUESTIONS: u64 = 0x5155_4553;
+
+/// The question of a seed and an index.
+pub fn question(seed: u64, index: u64, complete: Complete) -> Question {
+    let family = of_index(index).1;
+    family(&mut Random::new(seed ^ QUESTIONS, index), complete)
+}
