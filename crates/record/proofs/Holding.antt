@@ -3,7 +3,7 @@
 -- Read first: specs/Fields (renamed-pair, read-rule, read-forms), specs/Reader (HeldAt), reading/proofs/Standing, proofs/OneField.
 use mathlib.Core.Path.{_≡_, refl, ap, ap₂, sym, _∙_}
 use mathlib.Core.Bool.{Bool, true, false, _&&_}
-use mathlib.Core.List.{List, [], _∷_, _++_}
+use mathlib.Core.List.{List, [], _++_}
 use Prim.Native.Nat.{ℕ, _+_, _-_, _<_, _≤_}
 use native.Mathlib.Omega.{arith}
 use lib.Dec.{ltb, leb}
@@ -11,7 +11,7 @@ use lib.ListN.{length, take, drop, length-take, length-drop, drop-of-length-le}
 use lib.Seq.{take-take, take-at, drop-at, drop-drop}
 use borrow.Author.Tests.{lt-ltb, le-ltb, le-leb, lt-leb}
 use Rattle.terms.specs.Base.{number-from}
-use Rattle.terms.specs.Term.{Pair, size, term-bytes, renamed, same}
+use Rattle.terms.specs.Term.{Pair, term-bytes, renamed}
 use Rattle.terms.proofs.Shape.{Decides, dec-map, dec-and, dec-agree, same-dec}
 use Rattle.terms.proofs.Bytes.{length-bytes}
 use Rattle.terms.proofs.Lists.{take-drop}
@@ -21,7 +21,6 @@ use Rattle.reading.proofs.Standing.{PairStands, pair-stands}
 use Rattle.problem.specs.Problem.{Reading, ok, refused, _>>=_, Symbol, read-term, read-side, read-pair}
 use Rattle.problem.specs.Parser.{field-at}
 use Rattle.rewriting.specs.Overlap.{Rule}
-use Rattle.slots.specs.Slots.{Sides}
 use Rattle.record.specs.Fields.{demand, is-renamed, renamed-pair, read-rule, read-forms}
 use Rattle.record.specs.Reader.{Unread, part, HeldAt}
 use Rattle.record.proofs.OneField.{unread-is, unread-bind, demand-kept, demand-broken}

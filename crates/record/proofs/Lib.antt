@@ -1,5 +1,5 @@
 pub mod OneField
-pub mod Holding
 pub mod Walking
 pub mod Slotted
-pub mod Whole
+mod Holding
+mod Whole

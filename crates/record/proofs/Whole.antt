@@ -1,10 +1,10 @@
 -- The record as a whole: what may stand behind the log, what follows the first two fields, and `read-record` itself, a lemma for each return. Assumes
 -- nothing.
 -- Read first: specs/Record (read-record), specs/Reader (read-behind, IsBehind, IsRecord).
-use mathlib.Core.Path.{_≡_, refl, ap, sym, _∙_}
+use mathlib.Core.Path.{_≡_, refl, _∙_}
 use mathlib.Core.List.{List}
 use mathlib.Core.Option.{none}
-use Prim.Native.Nat.{ℕ, _+_, _<_, _≤_}
+use Prim.Native.Nat.{ℕ, _<_, _≤_}
 use native.Mathlib.Omega.{arith}
 use lib.ListN.{length, drop, length-drop}
 use borrow.Author.Tests.{lt-ltb, le-ltb, eq-eqb, ne-eqb}
@@ -12,11 +12,11 @@ use Rattle.terms.specs.Base.{if_then_else_}
 use Rattle.terms.specs.Term.{Pair}
 use Rattle.reading.specs.Answers.{symbols-of}
 use Rattle.reading.proofs.Reading.{bind-ok, bind-refused}
-use Rattle.problem.specs.Problem.{Reading, ok, refused, _>>=_, refuse-if}
+use Rattle.problem.specs.Problem.{ok, refused, _>>=_, refuse-if}
 use Rattle.rewriting.specs.Overlap.{Rule}
 use Rattle.record.specs.Fields.{one-field, fields-there, read-forms}
-use Rattle.record.specs.Record.{Record, read-end, read-units, read-rule-at, read-kind, nothing-behind, last-field, read-record}
-use Rattle.record.specs.Reader.{OneAt, OneBad, rules-at, InSlots, RulesAre, EntriesAre, IsNothing, IsLast, read-behind, IsBehind, IsRecord}
+use Rattle.record.specs.Record.{read-end, read-units, read-rule-at, read-kind, nothing-behind, last-field, read-record}
+use Rattle.record.specs.Reader.{OneAt, OneBad, rules-at, RulesAre, EntriesAre, IsNothing, IsLast, read-behind, IsBehind, IsRecord}
 use Rattle.record.specs.declared.Field.{Field}
 use Rattle.record.specs.declared.Field.the-variants.{Value, Bad}
 use Rattle.record.specs.declared.Record.{Record as Kept}
