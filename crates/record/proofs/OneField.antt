@@ -2,7 +2,7 @@
 -- entry. Assumes nothing.
 -- Read first: specs/Fields (one-field), specs/Record (read-end, read-units, read-kind), specs/Reader (OneAt, OneBad), problem/proofs/Fields.
 use mathlib.Core.Path.{_≡_, refl, ap, sym, subst, _∙_}
-use mathlib.Core.Bool.{Bool, true, false, _&&_}
+use mathlib.Core.Bool.{Bool, true, false, _&&_, and-false}
 use mathlib.Core.List.{List, [], _∷_}
 use Prim.Native.Nat.{ℕ, zero, suc, _+_, _-_, _<_, _≤_}
 use native.Mathlib.Nat.{add-zero, zero-add}
@@ -190,7 +190,7 @@ module _ (l : List ℕ) (at e : ℕ) (low : at + 3 ≤ e) (within : e ≤ length
     kind-low z = rw kind-is (demand-broken _ (rw (lt-leb 1 k (omega arith)) refl))
 
     pub kind-high : 4 < k → Unread (read-kind (field-at 0x13 l at e))
-    kind-high z = rw kind-is (demand-broken _ (rw (lt-leb k 4 z, le-leb 1 k (omega arith)) refl))
+    kind-high z = rw kind-is (demand-broken _ (rw (lt-leb k 4 z) (and-false (leb 1 k))))
 
     pub kind-fine : (k ≡ 0 → ⊥) → k ≤ 4 → read-kind (field-at 0x13 l at e) ≡ ok k
     kind-fine z y = kind-is ∙ demand-kept _ (rw (le-leb k 4 y, le-leb 1 k (omega (arith, z))) refl)

@@ -44,7 +44,7 @@ returns-3 : tie.Need-returns-3
 returns-3 c =
     let in-else1 : tie.Else1 = search depth 0 in
     let d = found (search depth 0) in
-    one-unread _ read-kind _ _ _ d (kind-high _ _ _ (d .1) (d .2) (in-else1 .if1 .left) _ refl (c .if3 .taken))
+    one-unread _ read-kind _ _ _ d (kind-high _ _ _ (d .1) (d .2) (in-else1 .if1 .left) _ refl (omega (arith, c .if3 .taken)))
 
 returns-4 : tie.Need-returns-4
 returns-4 c =

@@ -29,7 +29,7 @@ returns : tie.Need-returns Inv-loop μ-loop
 returns c =
     let at-loop : tie.At-loop Inv-loop μ-loop = search depth 0 in
     let s = at-loop .loop .inv in
-    (s .0, record { is = walk-full _ _ _ _ _ _ _ _ (s .3) (s .2 ∙ c .if1 .taken); within = s .3 .within })
+    (s .0, record { is = walk-full _ _ _ _ _ _ _ _ (s .3) (omega (arith, s .2, s .3 .few, c .if1 .taken)); within = s .3 .within })
 
 returns-2 : tie.Need-returns-2 Inv-loop μ-loop
 returns-2 c =

@@ -65,7 +65,8 @@ same-length-4 c = c .before .loop .inv .0
 returns : tie.Need-returns Inv-loop μ-loop
 returns c =
     let at-loop : tie.At-loop Inv-loop μ-loop = search depth 0 in
-    rules-full _ _ _ _ _ _ _ (at-loop .loop .inv .1) (c .if1 .taken)
+    let s = at-loop .loop .inv .1 in
+    rules-full _ _ _ _ _ _ _ s (omega (arith, s .slotted .few, c .if1 .taken))
 
 returns-2 : tie.Need-returns-2 Inv-loop μ-loop
 returns-2 c =

@@ -54,11 +54,10 @@ returns-2 c =
     let d = found (search depth 0) in
     let h = rw (at-middle .middle .given .1) at (at-renamed-pair .renamed-pair .ensures) in
     one-unread _ (read-rule _ _) _ _ _ d
-    (rule-low _ _ _ _ _ (d .2) (in-else1 .if1 .left) _ (at-number .number .ensures .0) _ _ (h .1) (c .if2 .taken))
+    (rule-low _ _ _ _ _ (d .2) (in-else1 .if1 .left) _ (at-number .number .ensures .0) _ _ (h .1) (omega (arith, c .if2 .taken)))
 
 returns-3 : tie.Need-returns-3
 returns-3 c =
-    let in-else2 : tie.Else2 = search depth 0 in
     let at-middle : tie.After-middle = search depth 0 in
     let at-renamed-pair : tie.After-renamed-pair = search depth 0 in
     let at-number : tie.After-number = search depth 0 in
@@ -66,7 +65,7 @@ returns-3 c =
     let d = found (search depth 0) in
     let h = rw (at-middle .middle .given .1) at (at-renamed-pair .renamed-pair .ensures) in
     one-unread _ (read-rule _ _) _ _ _ d
-    (rule-high _ _ _ _ _ (d .2) (in-else1 .if1 .left) _ (at-number .number .ensures .0) _ _ (h .1) (in-else2 .if2 .left) (c .if3 .taken))
+    (rule-high _ _ _ _ _ (d .2) (in-else1 .if1 .left) _ (at-number .number .ensures .0) _ _ (h .1) (omega (arith, c .if3 .taken)))
 
 returns-4 : tie.Need-returns-4
 returns-4 c =

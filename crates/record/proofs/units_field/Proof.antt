@@ -42,7 +42,7 @@ returns-2 c =
     let in-else1 : tie.Else1 = search depth 0 in
     let d = found (search depth 0) in
     one-unread _ read-units _ _ _ d
-    (units-large _ _ _ (d .1) (d .2) (in-else1 .if1 .left) _ (at-number .number .ensures .0) (c .if2 .taken))
+    (units-large _ _ _ (d .1) (d .2) (in-else1 .if1 .left) _ (at-number .number .ensures .0) (omega (arith, c .if2 .taken)))
 
 returns-3 : tie.Need-returns-3
 returns-3 c =
