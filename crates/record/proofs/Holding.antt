@@ -2,7 +2,7 @@
 -- nothing.
 -- Read first: specs/Fields (renamed-pair, read-rule, read-forms), specs/Reader (HeldAt), reading/proofs/Standing, proofs/OneField.
 use mathlib.Core.Path.{_≡_, refl, ap, sym, _∙_}
-use mathlib.Core.Bool.{Bool, true, false, _&&_}
+use mathlib.Core.Bool.{Bool, true, false, _&&_, and-false}
 use mathlib.Core.List.{List, [], _++_}
 use Prim.Native.Nat.{ℕ, _+_, _-_, _<_, _≤_}
 use native.Mathlib.Omega.{arith}
@@ -117,8 +117,8 @@ module _ (tab l : List ℕ) (at before e : ℕ) (within : e ≤ length l) where
       pub rule-low : n ≤ before → Unread rule-read
       rule-low k = rw rule-then (demand-broken _ (rw (le-ltb before n k) refl))
 
-      pub rule-high : before < n → 512 < n → Unread rule-read
-      rule-high j k = rw rule-then (demand-broken _ (rw (lt-ltb before n j, lt-leb n 512 k) refl))
+      pub rule-high : 512 < n → Unread rule-read
+      rule-high k = rw rule-then (demand-broken _ (rw (lt-leb n 512 k) (and-false (ltb before n))))
 
       pub rule-fine : before < n → n ≤ 512 → rule-read ≡ ok (record { number = n; sides = p })
       rule-fine j k = rule-then ∙ demand-kept _ (rw (lt-ltb before n j, le-leb n 512 k) refl)

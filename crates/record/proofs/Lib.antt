@@ -4,7 +4,7 @@ pub mod Back
 pub mod RoundTrip
 pub mod Computes
 pub mod OneField
-pub mod Holding
-mod Walking
-mod Slotted
+pub mod Walking
+pub mod Slotted
+mod Holding
 mod Whole

@@ -2,7 +2,7 @@
 -- entry. Assumes nothing.
 -- Read first: specs/Fields (one-field), specs/Record (read-end, read-units, read-kind), specs/Reader (OneAt, OneBad), problem/proofs/Fields.
 use mathlib.Core.Path.{_≡_, refl, ap, sym, subst, _∙_}
-use mathlib.Core.Bool.{Bool, true, false, _&&_}
+use mathlib.Core.Bool.{Bool, true, false, _&&_, and-false}
 use mathlib.Core.List.{List, [], _∷_}
 use Prim.Native.Nat.{ℕ, zero, suc, _+_, _-_, _<_, _≤_}
 use native.Mathlib.Nat.{add-zero, zero-add}
@@ -22,7 +22,7 @@ use Rattle.record.specs.Fields.{or-refuse, demand, one-field}
 use Rattle.record.specs.Record.{listed-end, read-end, read-units, read-kind}
 use Rattle.record.specs.Reader.{Unread, OneAt, OneBad}
 
--- what is refused stays refused, and what a field must keep
+-- what is refused stays refused; what a field must keep is kept, or it is refused
 pub unread-is : {A : Type 0} {m : Reading A} {n p : ℕ} → m ≡ refused n p → Unread m
 unfolding Unread
 unread-is e = rw e tt
@@ -45,6 +45,7 @@ pub demand-broken : {A : Type 0} {b : Bool} (f : Unit {0} → Reading A) → b �
 unfolding demand refuse-if _>>=_ Unread
 demand-broken f e = rw e tt
 
+-- where a field's end is said in another way
 pub one-ends : {A : Type 0} {tag : ℕ} {read : ReadField → Reading A} {l : List ℕ} {at : ℕ} {a : A} {e d : ℕ} → e ≡ d → OneAt tag read l at a e →
     OneAt tag read l at a d
 one-ends {tag = tag} {read = read} {l = l} {at = at} {a = a} q o = subst (OneAt tag read l at a) q o
@@ -79,7 +80,8 @@ module _ {A B : Type 0} (n tag : ℕ) (read : ReadField → Reading A) (g : ℕ 
   abbrev kept-of : {C : Type 0} → (ReadField → Reading C) → ReadField → Reading (ReadPart C)
   kept-of read f = read f >>= λ c. ok (record { part = c; end = f .end; rest = f .rest })
 
-  of-field : (f : ReadField) → f .first ≡ at → (r : Reading A) → read f ≡ r → or-refuse n at (kept-of with-place f) ≡ (or-refuse n at (kept-of read f) >>= put-place)
+  of-field : (f : ReadField) → f .first ≡ at → (r : Reading A) → read f ≡ r →
+      or-refuse n at (kept-of with-place f) ≡ (or-refuse n at (kept-of read f) >>= put-place)
   unfolding or-refuse _>>=_
   of-field f h (ok a) e = rw (e, h) refl
   of-field f h (refused m p) e = rw e refl
@@ -188,7 +190,7 @@ module _ (l : List ℕ) (at e : ℕ) (low : at + 3 ≤ e) (within : e ≤ length
     kind-low z = rw kind-is (demand-broken _ (rw (lt-leb 1 k (omega arith)) refl))
 
     pub kind-high : 4 < k → Unread (read-kind (field-at 0x13 l at e))
-    kind-high z = rw kind-is (demand-broken _ (rw (lt-leb k 4 z, le-leb 1 k (omega arith)) refl))
+    kind-high z = rw kind-is (demand-broken _ (rw (lt-leb k 4 z) (and-false (leb 1 k))))
 
     pub kind-fine : (k ≡ 0 → ⊥) → k ≤ 4 → read-kind (field-at 0x13 l at e) ≡ ok k
     kind-fine z y = kind-is ∙ demand-kept _ (rw (le-leb k 4 y, le-leb 1 k (omega (arith, z))) refl)

@@ -23,12 +23,12 @@ use Rattle.record.proofs.OneField.{one-placed}
 use Rattle.record.proofs.Walking.{Walked, WalkBad, WalkEnds, walk-start, walk-full, walk-none, walk-other, walk-bad, walk-more}
 
 -- the place behind a rule's field, and behind those of rules one behind the other
-abbrev behind-rule : ℕ → Rule → ℕ
+abbrev pub behind-rule : ℕ → Rule → ℕ
 behind-rule at r = at + 5 + size (r .sides .left) + size (r .sides .right)
 
 unfoldable pub behind-rules : ℕ → List Rule → ℕ
 behind-rules at [] = at
-behind-rules at (r ∷ rules) = behind-rules (at + 5 + size (r .sides .left) + size (r .sides .right)) rules
+behind-rules at (r ∷ rules) = behind-rules (behind-rule at r) rules
 
 pub rules-at-append : (at : ℕ) (rules more : List Rule) → rules-at at (rules ++ more) ≡ rules-at at rules ++ rules-at (behind-rules at rules) more
 unfolding rules-at behind-rules

@@ -31,6 +31,7 @@ unfolding prepend _>>=_
 prepend-one done a (ok p) = ap (λ l. ok (record { part = l; end = p .end; rest = p .rest })) (sym (append-assoc done (a ∷ []) (p .part)))
 prepend-one done a (refused n p) = refl
 
+-- at i no byte is left, another tag stands there, or a field of this tag does
 module _ {A : Type 0} (tag : ℕ) (read : Option A → ReadField → Reading A) where
   none-at : (n more : ℕ) (before : Option A) (i : ℕ) → fields-there n tag read more before i [] ≡ ok (record { part = []; end = i; rest = [] })
   unfolding fields-there
@@ -51,8 +52,8 @@ module _ {A : Type 0} (tag : ℕ) (read : Option A → ReadField → Reading A) 
   one-at n more before i b m t = rw (eq-eqb b tag t) refl
 
 -- The fields from `at` on, at most so many: these were read, the last of them is what the next one is told, and the next one stands at i.
-pub record Walked {A : Type 0} (tag : ℕ) (read : Option A → ReadField → Reading A) (most : ℕ) (l : List ℕ) (at : ℕ) (done : List A) (before : Option A) (i : ℕ)
-    : Type 0 where
+pub record Walked {A : Type 0} (tag : ℕ) (read : Option A → ReadField → Reading A) (most : ℕ) (l : List ℕ) (at : ℕ) (done : List A)
+    (before : Option A) (i : ℕ) : Type 0 where
   pub few : length done ≤ most
   pub within : i ≤ length l
   pub is : (n : ℕ) → fields-there n tag read most none at (drop at l) ≡ prepend done (fields-there n tag read (most - length done) before i (drop i l))
@@ -72,7 +73,8 @@ module _ {A : Type 0} (tag : ℕ) (read : Option A → ReadField → Reading A) 
 
   module _ (done : List A) (before : Option A) (i : ℕ) (W : Walked tag read most l at done before i) where
     -- no field is there: no more may come, no byte is left, or another tag stands there
-    ended : ((n : ℕ) → fields-there n tag read (most - length done) before i (drop i l) ≡ ok (record { part = []; end = i; rest = drop i l })) → WalkEnds done i
+    ended : ((n : ℕ) → fields-there n tag read (most - length done) before i (drop i l) ≡ ok (record { part = []; end = i; rest = drop i l })) →
+        WalkEnds done i
     unfolding prepend
     ended h n = W .is n ∙ rw (h n, append-nil done) refl
 

@@ -1,43 +1,36 @@
-use Rattle.record.proofs.Walking.{Walked, walk-start, walk-full, walk-none, walk-other, walk-bad, walk-more}
-use Rattle.record.specs.Record.{read-kind}
-use native.Mathlib.Omega.{arith}
-use Prim.Native.Nat.{ℕ, _-_, _≤_}
-use lib.ListN.{length, length-append}
-use mathlib.Core.Option.{Option, none, some}
-use mathlib.Core.List.{List, [], _∷_, _++_}
+-- `read_entries`: the invariant is that the entries before i are read, each of this kind; the bytes to come fall. Assumes nothing.
+-- Read first: specs/Reader (IsEntries), proofs/Walking (Walked).
 use mathlib.Core.Path.{_≡_, refl, _∙_}
+use mathlib.Core.List.{List, [], _∷_, _++_}
+use mathlib.Core.Option.{Option, none, some}
+use lib.ListN.{length, length-append}
+use Prim.Native.Nat.{ℕ, _-_}
+use native.Mathlib.Omega.{arith}
 use borrow.Author.Needs.{needs}
+use Rattle.limits.specs.Limits.{most-entries}
+use Rattle.record.specs.Record.{read-kind}
+use Rattle.record.proofs.Walking.{Walked, walk-start, walk-full, walk-none, walk-other, walk-bad, walk-more}
 use Rattle.record.proofs.read_entries.Statement.{statement}
 use Rattle.record.proofs.read_entries.Tie as tie
-use Rattle.record.proofs.read_entries.Reads as reads
-use Rattle.record.proofs.read_entries.Lts as lts
-use Rattle.record.proofs.entry_field.Reads as entry-field-reads
 
 abbrev Inv-loop : tie.InvT-loop
 Inv-loop kept at count₀ i₀ count i =
-    (kinds : List ℕ) × (last : Option ℕ) × (length kinds ≡ count) × Walked 0x13 (λ _ f. read-kind f) 512 kept at kinds last i
+    (kinds : List ℕ) × (last : Option ℕ) × (length kinds ≡ count) × Walked 0x13 (λ _ f. read-kind f) most-entries kept at kinds last i
 
 abbrev μ-loop : tie.MeasureT-loop
 μ-loop kept at count₀ i₀ count i = length kept - i
 
--- src/lib.rt:248:5
 loop-holds : tie.Need-loop-holds Inv-loop μ-loop
 loop-holds c =
     let entry : tie.Start Inv-loop μ-loop = search depth 0 in
     ([], none, refl, walk-start _ _ _ _ _ (entry .pre))
 
--- src/lib.rt:250:13
 returns : tie.Need-returns Inv-loop μ-loop
 returns c =
     let at-loop : tie.At-loop Inv-loop μ-loop = search depth 0 in
     let s = at-loop .loop .inv in
-    (s .0, record { is = walk-full _ _ _ _ _ _ _ _ (s .3) (s .2 ∙ c .if1 .taken); within = s .3 .within })
+    (s .0, record { is = walk-full _ _ _ _ _ _ _ _ (s .3) (omega (arith, s .2, s .3 .few, c .if1 .taken)); within = s .3 .within })
 
--- src/lib.rt:252:12
-shared-slice-read-if2 : tie.Need-shared-slice-read-if2 Inv-loop μ-loop
-shared-slice-read-if2 c = search needs
-
--- src/lib.rt:253:13
 returns-2 : tie.Need-returns-2 Inv-loop μ-loop
 returns-2 c =
     let in-loop : tie.In-loop Inv-loop μ-loop = search depth 0 in
@@ -45,15 +38,6 @@ returns-2 c =
     let s = at-loop .loop .inv in
     (s .0, record { is = walk-other _ _ _ _ _ _ _ _ (s .3) (in-loop .loop-test .taken) (c .if2 .taken); within = s .3 .within })
 
--- src/lib.rt:255:15
-entry-field-requires : tie.Need-entry-field-requires Inv-loop μ-loop
-entry-field-requires c κs = search needs
-
--- src/lib.rt:256:24
-enum-known-place : tie.Need-enum-known-place Inv-loop μ-loop
-enum-known-place c = search needs
-
--- src/lib.rt:257:17
 returns-3 : tie.Need-returns-3 Inv-loop μ-loop
 returns-3 c =
     let at-place : tie.After-place Inv-loop μ-loop = search depth 0 in
@@ -63,22 +47,15 @@ returns-3 c =
     let in-loop : tie.In-loop Inv-loop μ-loop = search depth 0 in
     let at-loop : tie.At-loop Inv-loop μ-loop = search depth 0 in
     let s = at-loop .loop .inv in
-    let k = s .2 in
-    walk-bad _ _ _ _ _ _ _ _ (s .3) (in-loop .loop-test .taken) (λ e. in-else1 .if1 .left (omega arith)) (in-else2 .if2 .left) _
+    walk-bad _ _ _ _ _ _ _ _ (s .3) (in-loop .loop-test .taken) (λ e. in-else1 .if1 .left (omega (arith, s .2))) (in-else2 .if2 .left) _
     (rw (at-place .place .given .1) at (at-entry-field .entry-field .ensures))
 
--- src/lib.rt:259:26
-enum-known-end : tie.Need-enum-known-end Inv-loop μ-loop
-enum-known-end c = search needs
-
--- src/lib.rt:260:17
 add-count : tie.Need-add-count Inv-loop μ-loop
 add-count c =
     let at-loop : tie.At-loop Inv-loop μ-loop = search depth 0 in
     let s = at-loop .loop .inv in
     omega (arith, s .2, s .3 .few)
 
--- src/lib.rt:248:5
 loop-less : tie.Need-loop-less Inv-loop μ-loop
 loop-less c =
     let at-end : tie.After-end Inv-loop μ-loop = search depth 0 in
@@ -86,7 +63,6 @@ loop-less c =
     let f = rw (at-end .end .given .1) at (at-entry-field .entry-field .ensures) in
     omega (arith, f .1 .low, f .1 .within)
 
--- src/lib.rt:248:5
 loop-again : tie.Need-loop-again Inv-loop μ-loop
 loop-again c =
     let at-end : tie.After-end Inv-loop μ-loop = search depth 0 in
@@ -96,36 +72,20 @@ loop-again c =
     let in-loop : tie.In-loop Inv-loop μ-loop = search depth 0 in
     let at-loop : tie.At-loop Inv-loop μ-loop = search depth 0 in
     let s = at-loop .loop .inv in
-    let k = s .2 in
     let f = rw (at-end .end .given .1) at (at-entry-field .entry-field .ensures) in (
       s .0 ++ (f .0 ∷ []),
       some (f .0),
-      length-append (s .0) (f .0 ∷ []) ∙ omega arith,
-      walk-more _ _ _ _ _ _ _ _ (s .3) (in-loop .loop-test .taken) (λ e. in-else1 .if1 .left (omega arith)) (in-else2 .if2 .left) _ _ (f .1),
+      length-append (s .0) (f .0 ∷ []) ∙ omega (arith, s .2),
+      walk-more _ _ _ _ _ _ _ _ (s .3) (in-loop .loop-test .taken) (λ e. in-else1 .if1 .left (omega (arith, s .2))) (in-else2 .if2 .left) _ _ (f .1),
     )
 
--- src/lib.rt:242:1
 returns-4 : tie.Need-returns-4 Inv-loop μ-loop
 returns-4 c =
-    let at-loop : tie.At-loop Inv-loop μ-loop = search depth 0 in
-    let s = at-loop .loop .inv in
+    let s = c .before .loop .inv in
     (s .0, record { is = walk-none _ _ _ _ _ _ _ _ (s .3) (c .loop-test .left); within = s .3 .within })
 
 pub read-entries-spec : {M : Type 1} → statement M
 read-entries-spec =
-    tie.close
-    (tie.spec
-    Inv-loop
-    μ-loop
-    loop-holds
-    returns
-    shared-slice-read-if2
-    returns-2
-    entry-field-requires
-    enum-known-place
-    returns-3
-    enum-known-end
-    add-count
-    loop-less
-    loop-again
-    returns-4)
+    tie.close (tie.spec
+    Inv-loop μ-loop loop-holds returns (λ c. search needs) returns-2 (λ c κs. search needs) (λ c. search needs) returns-3 (λ c. search needs)
+    add-count loop-less loop-again returns-4)
