@@ -1,4 +1,5 @@
-/* Asks each call about one problem: x + (0 + s(y)) and s(z) + (0 + x), instance 8 of document 01.
+/* Asks each call about one problem: x + (0 + s(y)) and s(z) + (0 + x), instance 8 of document 01; and of the kept result of another one,
+ * 0 + x = x, whether 0 + (0 + x) and 0 + x are the same.
  *
  *   rt staticlib capi
  *   gcc -Iinclude examples/calls.c target/staticlib/libcapi.a -o calls
@@ -10,6 +11,16 @@ static const uint8_t problem[] = {
     0x01, 0x00, 0x06, 0x00, 0x00, 0x01, 0x02, 0x02, 0x01,                                                   /* 0, s, + */
     0x02, 0x00, 0x04, 0x00, 0x00, 0x00, 0x09,                                                               /* the budget, 9 */
     0x03, 0x00, 0x0c, 0x02, 0x80, 0x02, 0x00, 0x01, 0x81, 0x02, 0x01, 0x82, 0x02, 0x00, 0x80,               /* the two sides */
+};
+
+static const uint8_t theory[] = {
+    0x01, 0x00, 0x06, 0x00, 0x00, 0x01, 0x02, 0x02, 0x01, 0x02, 0x00, 0x04, 0x00, 0x00, 0x00, 0x09,         /* the same symbols and budget */
+    0x03, 0x00, 0x04, 0x02, 0x00, 0x80, 0x80,                                                               /* 0 + x = x */
+};
+
+static const uint8_t question[] = {
+    0x01, 0x00, 0x06, 0x00, 0x00, 0x01, 0x02, 0x02, 0x01, 0x02, 0x00, 0x04, 0x00, 0x00, 0x00, 0x09,         /* the same symbols and budget */
+    0x03, 0x00, 0x08, 0x02, 0x00, 0x02, 0x00, 0x80, 0x02, 0x00, 0x80,                                       /* 0 + (0 + x) and 0 + x */
 };
 
 static void print_bytes(const uint8_t *bytes, size_t count) {
@@ -37,5 +48,11 @@ int main(void) {
 
     uint64_t refused = vb_unify(problem, sizeof problem, result, 16383);
     printf("short buffer: kind %u, number %u, value %u\n", vb_kind(refused), vb_number(refused), vb_value(refused));
+
+    uint64_t kept = vb_complete(theory, sizeof theory, result, sizeof result);
+    uint64_t decided = vb_decide(question, sizeof question, result, vb_value(kept));
+    printf("decide: kind %u, number %u, value %u\n", vb_kind(decided), vb_number(decided), vb_value(decided));
+    uint64_t cut = vb_decide(question, sizeof question, result, vb_value(kept) - 1);
+    printf("cut record: kind %u, number %u, value %u\n", vb_kind(cut), vb_number(cut), vb_value(cut));
     return 0;
 }

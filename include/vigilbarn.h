@@ -1,11 +1,11 @@
 /* The proved calls, from C. Each takes a problem: `problem_bytes` bytes at `problem` (docs/FORMAT.md). It reads no others,
- * changes none of them, keeps no pointer, and calls nothing of C.
+ * changes none of them, keeps no pointer, and calls nothing of C. `vb_decide` is lent a record beside it, of which the same holds.
  *
  * A pointer must be valid for as many bytes as its length says, and a result buffer may not overlap the problem.
  *
  * An answer is one number: a kind in the bits from 48 up, the number of a refusal or an end (docs/FORMAT.md) in bits 32 to 47, and a value in bits 0 to
- * 31. No part is ever cut off: numbers are at most 22, a refusal's place at most 8,192, counts at most 13,715 (proved: crates/capi/proofs/Unpacked and
- * Refusals).
+ * 31. No part is ever cut off: numbers are at most 22, a refusal's place at most 8,192 (of vb_decide 16,384), counts at most 13,715 (proved:
+ * crates/capi/proofs/Unpacked, Refusals and RecordRefusals).
  */
 #ifndef VIGILBARN_H
 #define VIGILBARN_H
@@ -17,7 +17,7 @@
 extern "C" {
 #endif
 
-/* The parts of the answers of vb_complete, vb_compare and vb_unify. */
+/* The parts of the answers of vb_complete, vb_compare, vb_unify and vb_decide. */
 static inline unsigned vb_kind(uint64_t answer) { return (unsigned)(answer >> 48); }
 static inline unsigned vb_number(uint64_t answer) { return (unsigned)((answer >> 32) & 0xffff); }
 static inline uint32_t vb_value(uint64_t answer) { return (uint32_t)answer; }
@@ -41,6 +41,15 @@ uint64_t vb_compare(const uint8_t *problem, size_t problem_bytes);
  * kind 3: it is over 120 nodes; number 22. The result is left as it was.
  * A result buffer under 16,384 bytes is refused with number 1 at place 0. */
 uint64_t vb_unify(const uint8_t *problem, size_t problem_bytes, uint8_t *result, size_t result_bytes);
+
+/* Whether the two sides of the problem's one equation are the same by the rules of a record, the bytes of a kept result (docs/FORMAT.md). Nothing is
+ * written.
+ * kind 0: refused; number 2 to 12 but not 7, value the place in the problem; or number 13, 14 or 15, value the place in the record.
+ * kind 1: value 1 (same) or 2 (different).
+ * kind 3: number 21 (the problem's budget is spent) or 22 (a term is over 120 nodes).
+ * For a record that vb_complete wrote with end 0 for a problem with the same symbol field, kind 1 has the value 1 exactly if that problem's equations
+ * lead from one side to the other, and 2 exactly if they do not. For any other record the answer speaks of the record's rules only. */
+uint64_t vb_decide(const uint8_t *problem, size_t problem_bytes, const uint8_t *record, size_t record_bytes);
 
 /* The part of the problem's bytes that is the subterm at a position of the left side of its one equation.
  * 0: refused. Else bits 32 to 63 are the place of the part's first byte, and bits 0 to 31 how many bytes it has, which is above 0. */

@@ -115,7 +115,8 @@ pub unify-unpacks : (problem : List ℕ) (buffer : ℕ) →
 unfolding unify-code unify-returns end-number
 unify-unpacks problem buffer = go (unify-call problem buffer) refl (unify-within problem buffer)
   where
-    go : (c : Reading CommonInstance) → unify-call problem buffer ≡ c → RefusesWithin 12 8192 c → UnpacksReturned (unify-code (unify-returns c)) (unify-returns c)
+    go : (c : Reading CommonInstance) → unify-call problem buffer ≡ c → RefusesWithin 12 8192 c →
+        UnpacksReturned (unify-code (unify-returns c)) (unify-returns c)
     go (ok (instance bytes)) q h = code-unpacks 1 0 (length bytes) (omega arith) (omega (arith, unify-few problem buffer bytes q))
     go (ok no-instance) q h = code-unpacks 2 0 0 (omega arith) (omega arith)
     go (ok instance-too-large) q h = code-unpacks 3 22 0 (omega arith) (omega arith)

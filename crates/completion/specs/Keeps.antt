@@ -26,7 +26,7 @@ pub record PairKeeps (Σ : List Symbol) (e : Pair) : Type 0 where
   pub variables-few : Every (λ x. x < most-variables) (pair-variables e)
   pub unchanged : renamed e ≡ e
 
--- a rule whose number is above that of the rule before: "rule numbers 1 to 512"; its left side is above its right [9.11, 11.4, 16.11]
+-- a rule whose number is above that of the rule before: "rule numbers 1 to 512"; its left side is above its right [9.12, 11.4, 16.11]
 pub record RuleKeeps (Σ : List Symbol) (before : ℕ) (r : Rule) : Type 0 where
   pub low : before < r .number
   pub high : r .number ≤ most-number

@@ -1,9 +1,9 @@
--- `all_above`: the rules from slot k on, whose fields begin at a place, decide the answer; a lemma for each step and each return. Assumes nothing.
--- Read first: specs/Asking (AllAbove), specs/Decide (all-above), record/specs/Reader (rules-at).
+-- `not_above`: the rules from slot k on, whose fields begin at a place, decide the answer; a lemma for each step and each return. Assumes nothing.
+-- Read first: specs/Asking (FirstNotAbove), specs/Decide (all-above), record/specs/Reader (rules-at).
 use mathlib.Core.Path.{_≡_, refl, sym, _∙_, ap}
 use mathlib.Core.Bool.{Bool, true, false}
 use mathlib.Core.List.{List, [], _∷_, append-nil}
-use Prim.Native.Nat.{ℕ, suc, _+_, _<_, _≤_}
+use Prim.Native.Nat.{ℕ, zero, suc, _+_, _<_, _≤_}
 use native.Mathlib.Omega.{arith}
 use lib.ListN.{length}
 use Rattle.terms.specs.Term.{Term, size, term-bytes}
@@ -19,8 +19,7 @@ use Rattle.completion.proofs.Ranks.{ranks-are}
 use Rattle.slots.specs.Slots.{slot, left-of, right-of, AllFrom, PairAt, Stored}
 use Rattle.record.specs.Reader.{rules-at}
 use Rattle.decide.specs.Decide.{all-above}
-use Rattle.decide.specs.Asking.{above-told, AllAbove}
-use Rattle.decide.specs.declared.Above.the-variants.{All, Not}
+use Rattle.decide.specs.Asking.{above-told, FirstNotAbove}
 
 module _ (tab slots : List ℕ) (count : ℕ) where
   -- whatever rules stand in the slots from k on, and fields begin at a place, the answer is r
@@ -65,11 +64,12 @@ module _ (tab slots : List ℕ) (count : ℕ) where
             let s : Stored tab slots (k + 1) (sides-of rs) = rw (← n) (st .1) in
             rw (here q (st .0) ∙ i, e) (f rs s (omega arith))
 
-  pub ends-not : (place k : ℕ) → Passed place k → From place k (refused 15 place) → AllAbove tab slots count (Not place)
+  pub ends-not : (place k : ℕ) → 11 ≤ place → Passed place k → From place k (refused 15 place) → FirstNotAbove tab slots count place
   unfolding above-told
-  ends-not place k P f = record { is = λ rs st ct. P .rest _ f rs st (omega arith) }
+  ends-not zero k low P f = absurd (omega arith)
+  ends-not (suc p) k low P f = record { is = λ rs st ct. P .rest _ f rs st (omega arith) }
 
-  pub ends-all : (place k : ℕ) → Passed place k → count ≤ k → AllAbove tab slots count All
+  pub ends-all : (place k : ℕ) → Passed place k → count ≤ k → FirstNotAbove tab slots count 0
   unfolding above-told rules-at all-above
   ends-all place k P h = record { is = λ rs st ct. P .rest _ none rs st (omega arith) }
     where

@@ -3,7 +3,7 @@
 use mathlib.Core.Path.{_≡_, refl, sym, _∙_, ap}
 use mathlib.Core.Bool.{not}
 use mathlib.Core.List.{List, [], _∷_}
-use Prim.Native.Nat.{ℕ, _+_, _-_, _≤_}
+use Prim.Native.Nat.{ℕ, zero, suc, _+_, _-_, _≤_}
 use native.Mathlib.Omega.{arith}
 use lib.Dec.{eqb}
 use lib.ListN.{length, take, drop}
@@ -25,8 +25,7 @@ use Rattle.record.specs.Record.{Record, rules-of, read-record}
 use Rattle.record.specs.Reader.{rules-at, InSlots}
 use Rattle.decide.specs.Decide.{all-above, Question, read-question, Answer, answer, decide-call}
 use Rattle.decide.specs.Answers.{decided-told}
-use Rattle.decide.specs.Asking.{above-told, AllAbove, FormsCompared, ask-call, Asks}
-use Rattle.decide.specs.declared.Above.the-variants.{All, Not}
+use Rattle.decide.specs.Asking.{above-told, FirstNotAbove, FormsCompared, ask-call, Asks}
 use Rattle.decide.specs.declared.Decided.{Decided}
 use Rattle.decide.specs.declared.Decided.the-variants.{Refused}
 
@@ -50,19 +49,24 @@ module _ (tab kept : List ℕ) (budget : ℕ) where
 
     module _ (z : end ≡ 0) where
       -- behind 14
-      behind : (e : Pair) → ask-call (symbols-of tab) e budget kept ≡ (all-above (symbols-of tab) (rules-at 11 rs) >>= λ _. ok (answer (normalise-pair rs e budget)))
+      behind : (e : Pair) → ask-call (symbols-of tab) e budget kept ≡
+          (all-above (symbols-of tab) (rules-at 11 rs) >>= λ _. ok (answer (normalise-pair rs e budget)))
       unfolding ask-call _>>=_ refuse-if
       behind e = bind-ok _ h ∙ rw (eq-eqb end 0 z, rules-back 11 rs) refl
 
-      pub rule-refused : {slots : List ℕ} {count : ℕ} → InSlots tab slots count rs → (left right : List ℕ) (p : ℕ) → AllAbove tab slots count (Not p) → Asks tab left right budget kept (Refused 15 p)
+      pub rule-refused : {slots : List ℕ} {count : ℕ} → InSlots tab slots count rs → (left right : List ℕ) (p : ℕ) → (p ≡ 0 → ⊥) →
+          FirstNotAbove tab slots count p → Asks tab left right budget kept (Refused 15 p)
       unfolding decided-told above-told
-      rule-refused I left right p A = record { is = λ e S. sym (behind e ∙ bind-refused _ (A .is rs (I .stored) (I .counted))) }
+      rule-refused I left right zero n A = absurd (n refl)
+      rule-refused I left right (suc p) n A = record { is = λ e S. sym (behind e ∙ bind-refused _ (A .is rs (I .stored) (I .counted))) }
 
-      pub forms-asked : {slots left right : List ℕ} {count : ℕ} {d : Decided} → InSlots tab slots count rs → AllAbove tab slots count All →
+      pub forms-asked : {slots left right : List ℕ} {count p : ℕ} {d : Decided} → InSlots tab slots count rs → p ≡ 0 → FirstNotAbove tab slots count p →
           FormsCompared tab slots count left right budget d → Asks tab left right budget kept d
       unfolding above-told
-      forms-asked I A F =
-          record { is = λ e S. F .is rs (I .stored) (I .counted) e S ∙ sym (behind e ∙ bind-ok _ (A .is rs (I .stored) (I .counted))) }
+      forms-asked I n A F = record {
+        is = λ e S.
+            F .is rs (I .stored) (I .counted) e S ∙ sym (behind e ∙ bind-ok _ (A .is rs (I .stored) (I .counted) ∙ ap above-told n));
+      }
 
 -- what is done with the question may be done behind its tests
 regroup-tests : {B C D E : Type 0} (b : Reading B) (c : Reading C) (d : D) (g : D → E) →

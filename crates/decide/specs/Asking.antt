@@ -3,7 +3,7 @@
 use mathlib.Core.Path.{_≡_}
 use mathlib.Core.Bool.{not}
 use mathlib.Core.List.{List}
-use Prim.Native.Nat.{ℕ}
+use Prim.Native.Nat.{ℕ, zero, suc}
 use lib.Dec.{eqb}
 use lib.ListN.{length}
 use Rattle.limits.specs.Limits.{most-apart}
@@ -19,16 +19,14 @@ use Rattle.record.specs.Record.{rules-of, read-record}
 use Rattle.record.specs.Reader.{rules-at}
 use Rattle.decide.specs.Decide.{all-above, Answer, answer}
 use Rattle.decide.specs.Answers.{decided-told}
-use Rattle.decide.specs.declared.Above.{Above}
-use Rattle.decide.specs.declared.Above.the-variants.{All, Not}
 use Rattle.decide.specs.declared.Decided.{Decided}
 
--- `all_above`: 15, of rules whose fields begin at 11, one behind the other
-unfoldable pub above-told : Above → Reading (Unit {0})
-above-told All = ok tt
-above-told (Not place) = refused not-above place
+-- `not_above`: 15, of rules whose fields begin at 11, one behind the other
+unfoldable pub above-told : ℕ → Reading (Unit {0})
+above-told zero = ok tt
+above-told (suc p) = refused not-above (suc p)
 
-pub record AllAbove (tab slots : List ℕ) (count : ℕ) (r : Above) : Type 0 where
+pub record FirstNotAbove (tab slots : List ℕ) (count r : ℕ) : Type 0 where
   pub is : (rs : List Rule) → Stored tab slots 0 (sides-of rs) → count ≡ length rs → all-above (symbols-of tab) (rules-at 11 rs) ≡ above-told r
 
 -- the right side normalised, where the left one's normal form is known

@@ -7,7 +7,7 @@ ghost use Rattle.reading.specs.Answers.{Table};
 ghost use Rattle.slots.specs.Slots.{Layout};
 ghost use Rattle.decide.specs.Decide.{decide-call};
 ghost use Rattle.decide.specs.Answers.{decided-told, AboutRules, AboutEquations, NotRefused};
-ghost use Rattle.decide.specs.Asking.{AllAbove, RightCompared, FormsCompared, Asks};
+ghost use Rattle.decide.specs.Asking.{FirstNotAbove, RightCompared, FormsCompared, Asks};
 use limits::NODES;
 use normaliser::Form;
 
@@ -35,18 +35,12 @@ pub enum Decided {
     Refused { number: u8, place: usize },
 }
 
-pub enum Above {
-    // Each left side is above its right side.
-    All,
-    // The first byte of the field of the first rule for which this is not so.
-    Not(usize),
-}
-
-// The rules in the slots, whose fields begin at `record::RULES_AT`, one behind the other.
-fn all_above(rules: &[u8], count: usize, table: &[u8]) -> Above
+// Of the rules in the slots, whose fields begin at `record::RULES_AT`, one behind the other: the first byte of the field of the first one whose left
+// side is not above its right side; 0 where there is none.
+fn not_above(rules: &[u8], count: usize, table: &[u8]) -> usize
     requires { ⌜ Table (now table) ⌝ }
     requires { ⌜ Layout (now rules) count × (count ≤ most-rules) ⌝ }
-    ensures { λ r. ⌜ AllAbove (now (table .entry)) (now (rules .entry)) count r ⌝ }
+    ensures { λ r. ⌜ FirstNotAbove (now (table .entry)) (now (rules .entry)) count r ⌝ }
 {
     let mut place = record::RULES_AT;
     let mut k: usize = 0;
@@ -57,10 +51,10 @@ fn all_above(rules: &[u8], count: usize, table: &[u8]) -> Above
             place += record::RULE_HEAD + left.len() + right.len();
             k += 1;
         } else {
-            return Above::Not(place);
+            return place;
         }
     }
-    Above::All
+    0
 }
 
 // The second term normalised, and compared with the first's normal form.
@@ -128,19 +122,20 @@ fn ask(table: &[u8], left: &[u8], right: &[u8], budget: u32, kept: &[u8]) -> Dec
             place,
         },
         record::Record::Fine { end, count } => {
+            let falls = not_above(&rules, count, table);
             if end != 0 {
                 return Decided::Refused {
                     number: NOT_COMPLETE,
                     place: 0,
                 };
             }
-            match all_above(&rules, count, table) {
-                Above::Not(place) => Decided::Refused {
+            if falls != 0 {
+                return Decided::Refused {
                     number: NOT_ABOVE,
-                    place,
-                },
-                Above::All => compare_forms(left, right, &rules, count, table, budget),
+                    place: falls,
+                };
             }
+            compare_forms(left, right, &rules, count, table, budget)
         }
     }
 }

@@ -93,7 +93,8 @@ module _ {tab rules : List ℕ} {count : ℕ} {t out out′ : List ℕ} {units :
         room = bare-room e (omega arith);
         answer = λ rs st ct o l x mk wl wx bl bx.
             normal-form hr g _ (hr .answer rs st ct x wx bx) λ y k q z by wy.
-            on (found-is e) (λ next. forms-agree rs o next units l x y k q (same-by tab l y wl wy bl by true (λ _. b) (λ _. refl)) ∙ ap next (z ∙ sym (units-is e)));
+            let s = same-by tab l y wl wy bl by true (λ _. b) (λ _. refl) in
+            on (found-is e) (λ next. forms-agree rs o next units l x y k q s ∙ ap next (z ∙ sym (units-is e)));
       }
 
       pub right-differs : {one′ : List ℕ} {w : Walk} (b : Bool) → b ≡ false → (first ≡ take (n - 0) out′ → b ≡ true) →
@@ -104,7 +105,8 @@ module _ {tab rules : List ℕ} {count : ℕ} {t out out′ : List ℕ} {units :
         answer = λ rs st ct o l x mk wl wx bl bx.
             normal-form hr g _ (hr .answer rs st ct x wx bx) λ y k q z by wy.
             let c : Candidate = record { origin = o; sides = record { left = l; right = y } } in
-            found c (found-is e) (λ next. forms-differ rs o next units l x y k q (same-by tab l y wl wy bl by false (λ z. absurd (zero≢one (cc))) (λ z. sym differs ∙ agrees z)) ∙ ap (done c) (z ∙ sym (units-is e)))
+            let s = same-by tab l y wl wy bl by false (λ z. absurd (zero≢one (cc))) (λ z. sym differs ∙ agrees z) in
+            found c (found-is e) (λ next. forms-differ rs o next units l x y k q s ∙ ap (done c) (z ∙ sym (units-is e)))
             (record { sides = pair-put put (record { left-wf = wl; right-wf = wy; left-bytes = bl; right-bytes = by }); from = put .mark ∙ mk });
       }
 
