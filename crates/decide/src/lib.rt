@@ -122,13 +122,13 @@ fn ask(table: &[u8], left: &[u8], right: &[u8], budget: u32, kept: &[u8]) -> Dec
             place,
         },
         record::Record::Fine { end, count } => {
-            let falls = not_above(&rules, count, table);
             if end != 0 {
                 return Decided::Refused {
                     number: NOT_COMPLETE,
                     place: 0,
                 };
             }
+            let falls = not_above(&rules, count, table);
             if falls != 0 {
                 return Decided::Refused {
                     number: NOT_ABOVE,

@@ -70,5 +70,5 @@ returns-4 c =
 pub ask-spec : {M : Type 1} → statement M
 ask-spec =
     tie.close (tie.spec
-    (λ c. search needs) (λ c κs. search needs) (λ c. search needs) (λ c. search needs) (λ c. search needs) not-above-requires returns returns-2
+    (λ c. search needs) (λ c κs. search needs) (λ c. search needs) (λ c. search needs) returns (λ c. search needs) not-above-requires returns-2
     (λ c. search needs) compare-forms-requires returns-3 returns-4)
