@@ -21,7 +21,6 @@ use Rattle.completion.proofs.Stopped.{run-neither}
 use Rattle.completion.proofs.Kept.{run-limits, neither-fits}
 use Rattle.completion.proofs.Widths.{FieldFits, flat, flat-bytes, flat-cons, pair-bytes-length, pair-bytes-fit, rule-field-fits, entry-length}
 use Rattle.completion.proofs.Widths.{entry-field-fits}
-pub use Rattle.completion.proofs.Widths.{origin-bytes-length}
 
 rules-fit : (n made : ℕ) → n ≤ 16 → (rules : List Rule) → Every (RuleFits n made) rules → Every (FieldFits 242) (map rule-field rules)
 rules-fit n made l rules h = every-mapped rule-field (every-map (rule-field-fits n made l) h)

@@ -1,7 +1,7 @@
 -- What was written is read back, whatever stands behind it: one field, fields of one tag, and two sides that keep the limits. Assumes nothing.
 -- Read first: specs/Fields, reading/proofs/Fields (field-back), reading/proofs/Reading (read-back), completion/specs/Keeps.
 use mathlib.Core.Path.{_≡_, refl, sym, ap, _∙_}
-use mathlib.Core.Bool.{Bool, true, false}
+use mathlib.Core.Bool.{true, false}
 use mathlib.Core.List.{List, [], _∷_, _++_, flatMap, append-assoc, append-nil}
 use mathlib.Core.Option.{Option, some}
 use Prim.Native.Nat.{ℕ, zero, suc, _+_, _≤_, _<_}
@@ -20,13 +20,9 @@ use Rattle.problem.proofs.Reading.{read-back}
 use Rattle.completion.specs.Calls.{pair-bytes}
 use Rattle.completion.specs.Keeps.{PairKeeps}
 use Rattle.completion.proofs.Limits.{HeldTo, HeldPair, keeps-held}
-use Rattle.record.specs.Fields.{or-refuse, demand, one-field, fields-there, renamed-pair}
+use Rattle.record.specs.Fields.{or-refuse, one-field, fields-there, renamed-pair}
+use Rattle.record.proofs.OneField.{demand-true}
 use Rattle.record.proofs.Parts.{renamed-dec}
-
--- what holds may be demanded
-pub demand-true : (b : Bool) → b ≡ true → demand b ≡ ok tt
-unfolding demand refuse-if
-demand-true b e = rw e refl
 
 -- a field at a place, with what stands behind it, as it is read
 abbrev pub placed : ℕ → Field → List ℕ → ReadField

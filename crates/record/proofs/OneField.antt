@@ -37,9 +37,12 @@ unfolding Unread or-refuse
 or-refused n at (ok a) u = absurd u
 or-refused n at (refused m p) u = refl
 
+pub demand-true : (b : Bool) → b ≡ true → demand b ≡ ok tt
+unfolding demand refuse-if
+demand-true b e = rw e refl
+
 pub demand-kept : {A : Type 0} {b : Bool} (f : Unit {0} → Reading A) → b ≡ true → (demand b >>= f) ≡ f tt
-unfolding demand refuse-if _>>=_
-demand-kept f e = rw e refl
+demand-kept f e = bind-ok f (demand-true _ e)
 
 pub demand-broken : {A : Type 0} {b : Bool} (f : Unit {0} → Reading A) → b ≡ false → Unread (demand b >>= f)
 unfolding demand refuse-if _>>=_ Unread

@@ -5,7 +5,7 @@ use mathlib.Core.Path.{_≡_, refl, sym, ap, subst, _∙_}
 use mathlib.Core.Bool.{true, false, _&&_}
 use mathlib.Core.List.{List, [], _∷_, _++_, map, flatMap, append-assoc, append-nil}
 use mathlib.Core.Option.{Option, none, some}
-use Prim.Native.Nat.{ℕ, suc, _+_, _≤_, _<_}
+use Prim.Native.Nat.{ℕ, _+_, _≤_, _<_}
 use native.Mathlib.Omega.{arith}
 use lib.Dec.{eqb, leb}
 use lib.ListN.{length, getD, length-map}
@@ -30,7 +30,9 @@ use Rattle.record.specs.Fields.{one-field, fields-there, read-rule, read
 use Rattle.record.specs.Record.{RuleAt, listed-end, read-end, read-units, number-before, read-rule-at, read-kind, nothing-behind, last-field}
 use Rattle.record.specs.Record.{read-record}
 use Rattle.record.specs.Reader.{rules-at}
-use Rattle.record.proofs.Back.{demand-true, placed, one-back, end-of, OtherTag, Backs, none-back, one-more, there-back, pair-back}
+use Rattle.record.proofs.OneField.{demand-true}
+use Rattle.record.proofs.Slotted.{length-rules-at}
+use Rattle.record.proofs.Back.{placed, one-back, end-of, OtherTag, Backs, none-back, one-more, there-back, pair-back}
 
 -- 10 and 11
 end-fits : (e : End) → (listed-end (end-number e) ≡ true) × (end-number e < 256)
@@ -138,11 +140,6 @@ module _ (Σ : List Symbol) (few : length Σ ≤ most-symbols) where
       one-more {f = rule-field r} refl (omega (arith, rule-length r, h .0 .sides .left-small, h .0 .sides .right-small)) (rule-at-back before r (h .0) at)
       (subst (λ n. Backs 0x12 (read-rule-at Σ) n (some here) (map rule-field rules) (rules-at next rules)) place (rules-at-back next (some here) rules (h .1)))
 
-  rules-at-length : (at : ℕ) (rules : List Rule) → length (rules-at at rules) ≡ length rules
-  unfolding rules-at
-  rules-at-length at [] = refl
-  rules-at-length at (r ∷ rules) = ap suc (rules-at-length _ rules)
-
   last-none : (end at : ℕ) → eqb end 20 ≡ false → last-field Σ end at [] ≡ ok tt
   unfolding last-field nothing-behind if_then_else_ refuse-if
   last-none end at h = rw h refl
@@ -203,7 +200,7 @@ module _ (Σ : List Symbol) (few : length Σ ≤ most-symbols) where
     unfolding number-before
     back-12 =
         there-back wrong-record 0x12 (read-rule-at Σ) (rules-at-back 11 none (f .state .rules) (k .rules-keep)) most-rules
-        (omega (arith, rules-at-length 11 (f .state .rules), k .rules-few)) from-log (log-tag (f .state .log) (f .end))
+        (omega (arith, length-rules-at 11 (f .state .rules), k .rules-few)) from-log (log-tag (f .state .log) (f .end))
 
     back-13 : (at : ℕ) → fields-there wrong-record 0x13 (λ _ f. read-kind f) most-entries none at from-log ≡ ok
         (record { part = kinds-of (f .state .log); end = end-of at (map entry-field (f .state .log)); rest = from-forms (f .end) })

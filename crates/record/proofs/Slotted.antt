@@ -5,7 +5,6 @@ use mathlib.Core.List.{List, [], _∷_, _++_, map-append}
 use mathlib.Core.Option.{Option, none, some}
 use Prim.Native.Nat.{ℕ, suc, _+_, _*_, _<_, _≤_}
 use native.Mathlib.Omega.{arith}
-use native.Mathlib.Decide.{ℕ-discrete}
 use lib.ListN.{length, drop, getD, length-append, length-map}
 use Rattle.limits.specs.Limits.{most-rules}
 use Rattle.terms.specs.Term.{Pair, size}
@@ -13,9 +12,9 @@ use Rattle.reading.specs.Answers.{symbols-of}
 use Rattle.reading.proofs.Reading.{bind-ok, bind-refused}
 use Rattle.problem.specs.Problem.{ok, _>>=_}
 use Rattle.rewriting.specs.Overlap.{Rule, sides-of}
-use Rattle.slots.specs.Slots.{slot-width, slot, Short, Layout, PairAt, Stored, OnlySlot, PutSides}
-use Rattle.slots.proofs.Listing.{all-none, all-one, all-join, stored-moved}
-use Rattle.slots.proofs.Layouts.{short-moved, pair-put}
+use Rattle.slots.specs.Slots.{slot-width, PairAt, Stored, PutSides}
+use Rattle.slots.proofs.Listing.{all-none, stored-next}
+use Rattle.slots.proofs.Layouts.{pair-put, layout-put, layout-more}
 use Rattle.record.specs.Fields.{one-field, read-rule}
 use Rattle.record.specs.Record.{RuleAt, number-before, read-rule-at}
 use Rattle.record.specs.Reader.{part, OneAt, OneBad, RuleIs, rules-at, InSlots, RulesAre}
@@ -59,23 +58,6 @@ module _ (tab l : List ℕ) (at : ℕ) (before : Option RuleAt) where
   pub rule-at-one : (r : Rule) (e : ℕ) → OneAt 0x12 (read-rule (symbols-of tab) (number-before before)) l at r e →
       OneAt 0x12 (read-rule-at (symbols-of tab) before) l at (record { first = at; rule = r }) e
   rule-at-one r e O = record { is = λ n. rule-placed n ∙ bind-ok _ (O .is n); low = O .low; within = O .within }
-
--- one more slot was put, behind `count` others
-module _ (slots slots′ : List ℕ) (count : ℕ) (o : OnlySlot slots count slots′) where
-  pub layout-next : slot-width * (count + 1) ≤ length slots → Layout slots count → Short (slot slots′ count) → Layout slots′ (count + 1)
-  layout-next room y s = record { room = omega (arith, o .same); short = λ k h. go k h (ℕ-discrete k count) }
-    where
-      go : (k : ℕ) → k < count + 1 → Dec (k ≡ count) → Short (slot slots′ k)
-      go k h (yes e) = subst (λ z. Short (slot slots′ z)) (sym e) s
-      go k h (no e) = short-moved slots slots′ k k (o .others k e) (y .short k (omega (arith, e)))
-
-  pub stored-next : (tab : List ℕ) (ps : List Pair) (p : Pair) → length ps ≡ count → Stored tab slots 0 ps → PairAt 16 tab slots′ count p →
-      Stored tab slots′ 0 (ps ++ (p ∷ []))
-  stored-next tab ps p n h here =
-      let e : count ≡ 0 + length ps = omega arith in
-      all-join (PairAt 16 tab slots′) 0 ps (p ∷ [])
-      (stored-moved tab slots slots′ 0 0 ps (λ i j. o .others (0 + i) (λ q. omega arith)) h)
-      (all-one (PairAt 16 tab slots′) (0 + length ps) p (subst (λ z. PairAt 16 tab slots′ z p) e here))
 
 -- The rules whose fields stand from `at` to i are read, and their sides are in the first `count` slots. The next number is to be above that of the last.
 pub record RulesSoFar (tab l : List ℕ) (at : ℕ) (slots : List ℕ) (count before i : ℕ) : Type 0 where
@@ -157,8 +139,8 @@ module _ (tab l : List ℕ) (at : ℕ) (slots : List ℕ) where
                 counted = sym (length-append (s .rules) (rule ∷ []) ∙ omega (arith, k .counted));
                 few = omega (arith, f, k .few);
                 stored = subst (Stored tab slots′ 0) (sym (map-append (λ (r : Rule). r .sides) (s .rules) (rule ∷ [])))
-                    (stored-next slots slots′ count (P .only) tab (sides-of (s .rules)) p c (k .stored) (pair-put P (R .held .sides)));
-                layout = layout-next slots slots′ count (P .only) full (k .layout) (P .short);
+                    (stored-next tab slots slots′ count (P .only) (sides-of (s .rules)) p c (k .stored) (pair-put P (R .held .sides)));
+                layout = layout-more (layout-put (k .layout) (P .only) (P .short)) (omega (arith, P .only .same)) (P .short);
               }
 
           pub rules-more : RulesSoFar tab l at slots′ (count + 1) number e

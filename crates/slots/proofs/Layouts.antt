@@ -31,6 +31,14 @@ layout-put {slots} {slots′} {n} {k} y o s = let r = y .room in record { room =
     go i h (yes e) = subst (λ z. Short (slot slots′ z)) (sym e) s
     go i h (no e) = short-moved slots slots′ i i (o .others i e) (y .short i h)
 
+-- one slot more is short
+pub layout-more : {slots : List ℕ} {n : ℕ} → Layout slots n → slot-width * (n + 1) ≤ length slots → Short (slot slots n) → Layout slots (n + 1)
+layout-more {slots} {n} y r s = record { room = r; short = λ i h. go i h (ℕ-discrete i n) }
+  where
+    go : (i : ℕ) → i < n + 1 → Dec (i ≡ n) → Short (slot slots i)
+    go i h (yes e) = subst (λ z. Short (slot slots z)) (sym e) s
+    go i h (no e) = y .short i (omega (arith, e))
+
 -- one slot, and one copied from a list
 pub layout-one : {one : List ℕ} → slot-width ≤ length one → Short (slot one 0) → Layout one 1
 layout-one {one} r s = record { room = omega arith; short = λ k h. let e : 0 ≡ k = omega arith in subst (λ z. Short (slot one z)) e s }

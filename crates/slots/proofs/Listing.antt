@@ -6,7 +6,7 @@ use Prim.Native.Nat.{ℕ, zero, suc, _+_, _<_}
 use native.Mathlib.Omega.{arith}
 use lib.ListN.{length, getD}
 use Rattle.terms.specs.Term.{Pair}
-use Rattle.slots.specs.Slots.{slot, left-of, right-of, mark-of, Sides, PairAt, Marked, MarkedAt, AllFrom, Stored, Holds}
+use Rattle.slots.specs.Slots.{slot, left-of, right-of, mark-of, Sides, PairAt, Marked, MarkedAt, AllFrom, Stored, Holds, OnlySlot}
 
 module _ {A : Type 0} (R : ℕ → A → Type 0) where
   pub all-split : (k : ℕ) (xs ys : List A) → AllFrom R k (xs ++ ys) → AllFrom R k xs × AllFrom R (k + length xs) ys
@@ -92,3 +92,12 @@ module _ (tab slots slots′ : List ℕ) (j k : ℕ) where
 -- the pairs without their marks
 pub stored-of : (tab slots : List ℕ) (k : ℕ) (ms : List Marked) → Holds tab slots k ms → Stored tab slots k (map (λ (m : Marked). m .sides) ms)
 stored-of tab slots k ms h = all-map (MarkedAt tab slots) (PairAt 16 tab slots) (λ (m : Marked). m .sides) (λ i m r. r .pair) k ms h
+
+-- one more pair stands behind `count` others
+pub stored-next : (tab slots slots′ : List ℕ) (count : ℕ) → OnlySlot slots count slots′ → (ps : List Pair) (p : Pair) → length ps ≡ count →
+    Stored tab slots 0 ps → PairAt 16 tab slots′ count p → Stored tab slots′ 0 (ps ++ (p ∷ []))
+stored-next tab slots slots′ count o ps p n h here =
+    let e : count ≡ 0 + length ps = omega arith in
+    all-join (PairAt 16 tab slots′) 0 ps (p ∷ [])
+    (stored-moved tab slots slots′ 0 0 ps (λ i j. o .others (0 + i) (λ q. omega arith)) h)
+    (all-one (PairAt 16 tab slots′) (0 + length ps) p (subst (λ z. PairAt 16 tab slots′ z p) e here))

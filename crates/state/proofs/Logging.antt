@@ -14,7 +14,7 @@ use Rattle.fields.proofs.Appending.{patched-behind}
 use Rattle.fields.proofs.Patching.{front-more}
 use Rattle.completion.specs.Turn.{Origin, Entry, State as RunState}
 use Rattle.completion.specs.Calls.{origin-bytes}
-use Rattle.completion.proofs.Result.{origin-bytes-length}
+use Rattle.completion.proofs.Widths.{origin-bytes-length}
 use Rattle.state.specs.declared.State.{State}
 use Rattle.state.specs.Run.{logged-width, logged, FineBut, Represents}
 use Rattle.state.specs.Steps.{with-entry, Logs}

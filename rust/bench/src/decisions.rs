@@ -1,5 +1,5 @@
-//! The questions of the benchmark: some rewriting, a record that is long to
-//! read, and much rewriting.
+//! The questions of the benchmark: some rewriting; a record that is long to
+//! read, refused behind it or with its rules compared; and much rewriting.
 
 use crate::cases::{case, Call, Case};
 use kb_compare::engines::result_of;
@@ -7,6 +7,7 @@ use kb_compare::RustEngine;
 use kb_engine::kept::Kept;
 use kb_engine::notation::Theory;
 use kb_engine::questions::counted;
+use kb_engine::run::END_COMPLETE;
 use kb_engine::theories::{countdown, group_rules, GROUP};
 use kb_engine::{MAX_BUDGET, MAX_LOG, MAX_RULES};
 
@@ -15,6 +16,8 @@ const PRODUCTS: &str = "*(i(*(*(x,y),*(z,w))),*(*(*(x,y),*(z,w)),*(i(*(v,u)),*(v
                         = *(i(u),*(*(e,i(i(x))),i(*(y,i(y)))))";
 /// Ranks ascend; f and g make the sides of the long rules.
 const LONG: &str = "c/0/0 s/1/1 g/2/2 f/2/3";
+/// A record with this end is read and then refused.
+const OTHER_END: u8 = 24;
 /// Counters from here pay 1,000,000 units, with no term over 120 nodes.
 const COUNTED: usize = 16;
 
@@ -23,7 +26,16 @@ pub fn all() -> Vec<Case> {
     let no_step = Theory::new(LONG).equation("s(g(x,c)) = s(g(x,c))");
     vec![
         asked("decide, ten rules", groups, ten_rules()),
-        asked("decide, read 13,000 bytes", no_step, long_record()),
+        asked(
+            "decide, read 13,000 bytes",
+            no_step.clone(),
+            long_record(OTHER_END),
+        ),
+        asked(
+            "decide, 13,000 bytes, 32 rules",
+            no_step,
+            long_record(END_COMPLETE),
+        ),
         asked("decide, 1,000,000 units", counted(COUNTED), counters()),
     ]
 }
@@ -42,10 +54,11 @@ fn ten_rules() -> Vec<u8> {
 }
 
 /// As many entries and rules as a record can have, 120 nodes on each side.
-fn long_record() -> Vec<u8> {
+fn long_record(end: u8) -> Vec<u8> {
     let rule = |k| format!("{} = {}", comb("f", k), comb("g", k));
     let rules = (0..MAX_RULES).fold(Theory::new(LONG), |theory, k| theory.equation(&rule(k)));
     Kept {
+        end,
         entries: vec![vec![4, 0, 1, 0, 2, 3, 0, 0]; MAX_LOG],
         ..Kept::of_theory(&rules)
     }
