@@ -117,11 +117,11 @@ fn ask(table: &[u8], left: &[u8], right: &[u8], budget: u32, kept: &[u8]) -> Dec
 {
     let mut rules = [0u8; slots::ROOM];
     match record::read(kept, table, &mut rules) {
-        record::Record::Bad(place) => Decided::Refused {
+        record::RecordFound::Bad(place) => Decided::Refused {
             number: WRONG_RECORD,
             place,
         },
-        record::Record::Fine { end, count } => {
+        record::RecordFound::Fine { end, count } => {
             if end != 0 {
                 return Decided::Refused {
                     number: NOT_COMPLETE,

@@ -1,6 +1,6 @@
 -- Two sides that fill a field's bytes, renamed as a pair: `renamed_pair`; then a rule's field and the forms' field, which hold such a pair. Assumes
 -- nothing.
--- Read first: specs/Fields (renamed-pair, read-rule, read-forms), specs/Reader (HeldAt), reading/proofs/Standing, proofs/OneField.
+-- Read first: specs/Fields (renamed-pair, read-rule, read-forms), specs/Reader (RenamedPairAt), reading/proofs/Standing, proofs/OneField.
 use mathlib.Core.Path.{_≡_, refl, ap, sym, _∙_}
 use mathlib.Core.Bool.{Bool, true, false, _&&_, and-false}
 use mathlib.Core.List.{List, [], _++_}
@@ -22,7 +22,7 @@ use Rattle.problem.specs.Problem.{Reading, ok, refused, _>>=_, Symbol, read-ter
 use Rattle.problem.specs.Parser.{field-at}
 use Rattle.rewriting.specs.Overlap.{Rule}
 use Rattle.record.specs.Fields.{demand, is-renamed, renamed-pair, read-rule, read-forms}
-use Rattle.record.specs.Reader.{Unread, part, HeldAt}
+use Rattle.record.specs.Reader.{Unread, part, RenamedPairAt}
 use Rattle.record.proofs.Parts.{renamed-dec}
 use Rattle.record.proofs.OneField.{unread-is, unread-bind, demand-kept, demand-broken}
 
@@ -60,7 +60,7 @@ module _ (tab l : List ℕ) (at end : ℕ) (T : Table tab) (m : ℕ) (p : Pair) 
     unfolding renamed-pair
     pair-other h = rw (bind-ok _ (P .read)) (demand-broken _ (sym test-is ∙ h))
 
-    pub pair-renamed : r ≡ true → HeldAt tab l at end m p
+    pub pair-renamed : r ≡ true → RenamedPairAt tab l at end m p
     unfolding renamed-pair
     pair-renamed h = record {
       read = bind-ok _ (P .read) ∙ demand-kept _ (sym test-is ∙ h);
@@ -110,7 +110,7 @@ module _ (tab l : List ℕ) (at before e : ℕ) (within : e ≤ length l) where
     pub rule-unheld : Unread (renamed-pair (symbols-of tab) (at + 5) (between l (at + 5) e)) → Unread rule-read
     rule-unheld u = rw rule-is (unread-bind (renamed-pair (symbols-of tab) (at + 5) (between l (at + 5) e)) _ u)
 
-    module _ (m : ℕ) (p : Pair) (H : HeldAt tab l (at + 5) e m p) where
+    module _ (m : ℕ) (p : Pair) (H : RenamedPairAt tab l (at + 5) e m p) where
       rule-then : rule-read ≡ (demand (ltb before n && leb n 512) >>= λ _. ok (record { number = n; sides = p }))
       rule-then = rule-is ∙ bind-ok _ (H .read)
 
@@ -124,7 +124,7 @@ module _ (tab l : List ℕ) (at before e : ℕ) (within : e ≤ length l) where
       rule-fine j k = rule-then ∙ demand-kept _ (rw (lt-ltb before n j, le-leb n 512 k) refl)
 
 -- both sides that are held fit in a slot
-module _ (tab l : List ℕ) (at end m : ℕ) (p : Pair) (H : HeldAt tab l at end m p) where
+module _ (tab l : List ℕ) (at end m : ℕ) (p : Pair) (H : RenamedPairAt tab l at end m p) where
   pub held-short : (length (part l at m) ≤ 120) × (length (part l m end) ≤ 120)
   held-short = (
     omega (arith, length-take (m - at) (drop at l), H .middle, H .left-small),

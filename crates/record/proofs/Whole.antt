@@ -17,10 +17,10 @@ use Rattle.rewriting.specs.Overlap.{Rule}
 use Rattle.record.specs.Fields.{one-field, fields-there, read-forms}
 use Rattle.record.specs.Record.{read-end, read-units, read-rule-at, read-kind, nothing-behind, last-field, read-record}
 use Rattle.record.specs.Reader.{OneAt, OneBad, rules-at, RulesAre, EntriesAre, IsNothing, IsLast, read-behind, IsBehind, IsRecord}
-use Rattle.record.specs.declared.Field.{Field}
-use Rattle.record.specs.declared.Field.the-variants.{Value, Bad}
-use Rattle.record.specs.declared.Record.{Record as Kept}
-use Rattle.record.specs.declared.Record.the-variants.{Fine, Bad as BadRecord}
+use Rattle.record.specs.declared.Outcome.{Outcome}
+use Rattle.record.specs.declared.Outcome.the-variants.{Value, Bad}
+use Rattle.record.specs.declared.RecordFound.{RecordFound}
+use Rattle.record.specs.declared.RecordFound.the-variants.{Fine, Bad as BadRecord}
 
 -- `nothing_behind`
 module _ (l : List ℕ) (at : ℕ) where
@@ -35,11 +35,11 @@ module _ (l : List ℕ) (at : ℕ) where
 -- `last_field`
 module _ (tab l : List ℕ) (end at : ℕ) where
   -- as what is due at e is answered
-  as-nothing : (e : ℕ) → last-field (symbols-of tab) end at (drop at l) ≡ nothing-behind e (drop e l) → (r : Field) → IsNothing l e r → IsLast tab l end at r
+  as-nothing : (e : ℕ) → last-field (symbols-of tab) end at (drop at l) ≡ nothing-behind e (drop e l) → (r : Outcome) → IsNothing l e r → IsLast tab l end at r
   as-nothing e q (Value v) h = q ∙ h
   as-nothing e q (Bad p) h = q ∙ h
 
-  pub last-without : (end ≡ 20 → ⊥) → (r : Field) → IsNothing l at r → IsLast tab l end at r
+  pub last-without : (end ≡ 20 → ⊥) → (r : Outcome) → IsNothing l at r → IsLast tab l end at r
   unfolding last-field if_then_else_
   last-without h = as-nothing at (rw (ne-eqb end 20 h) refl)
 
@@ -52,7 +52,7 @@ module _ (tab l : List ℕ) (end at : ℕ) where
     pub last-bad : (p : ℕ) → OneBad 0x14 (read-forms (symbols-of tab)) l at p → last-field (symbols-of tab) end at (drop at l) ≡ refused 13 p
     last-bad p B = last-is ∙ bind-refused _ (B 13)
 
-    pub last-forms : (forms : Pair) (e : ℕ) → OneAt 0x14 (read-forms (symbols-of tab)) l at forms e → (r : Field) → IsNothing l e r → IsLast tab l end at r
+    pub last-forms : (forms : Pair) (e : ℕ) → OneAt 0x14 (read-forms (symbols-of tab)) l at forms e → (r : Outcome) → IsNothing l e r → IsLast tab l end at r
     last-forms forms e O = as-nothing e (last-is ∙ bind-ok _ (O .is 13))
 
 -- `read_behind`
@@ -99,12 +99,12 @@ module _ (tab l : List ℕ) where
       pub record-units-bad : (p : ℕ) → OneBad 0x11 read-units l 4 p → read-record (symbols-of tab) l ≡ refused 13 p
       record-units-bad p B = record-is ∙ bind-ok _ (E .is 13) ∙ bind-refused _ (B 13)
 
-      pub record-behind : (units : ℕ) → OneAt 0x11 read-units l 4 units 11 → (slots : List ℕ) (r : Kept) → IsBehind tab l end slots r → IsRecord tab l slots r
+      pub record-behind : (units : ℕ) → OneAt 0x11 read-units l 4 units 11 → (slots : List ℕ) (r : RecordFound) → IsBehind tab l end slots r → IsRecord tab l slots r
       record-behind units U slots r = go r
         where
           is : read-record (symbols-of tab) l ≡ read-behind (symbols-of tab) end units 11 (drop 11 l)
           is = record-is ∙ bind-ok _ (E .is 13) ∙ bind-ok _ (U .is 13)
 
-          go : (r : Kept) → IsBehind tab l end slots r → IsRecord tab l slots r
+          go : (r : RecordFound) → IsBehind tab l end slots r → IsRecord tab l slots r
           go (Fine e count) B = (units, B .1, is ∙ B .2 units ∙ rw (B .0) refl, B .3)
           go (BadRecord p) B = is ∙ B units

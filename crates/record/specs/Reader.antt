@@ -15,16 +15,16 @@ use Rattle.rewriting.specs.Overlap.{Rule, sides-of}
 use Rattle.slots.specs.Slots.{Sides, Stored, Layout}
 use Rattle.record.specs.Fields.{one-field, fields-there, renamed-pair, read-rule, read-forms}
 use Rattle.record.specs.Record.{RuleAt, Record, read-end, read-units, read-rule-at, read-kind, nothing-behind, last-field, read-record}
-use Rattle.record.specs.declared.Field.{Field}
-use Rattle.record.specs.declared.Field.the-variants.{Value, Bad}
-use Rattle.record.specs.declared.Held.{Held}
-use Rattle.record.specs.declared.Held.the-variants.{Filled, Bad as BadPair}
-use Rattle.record.specs.declared.Rule.{Rule as RuleFound}
-use Rattle.record.specs.declared.Rule.the-variants.{At, Bad as BadRule}
-use Rattle.record.specs.declared.Rules.{Rules}
-use Rattle.record.specs.declared.Rules.the-variants.{Fine as FineRules, Bad as BadRules}
-use Rattle.record.specs.declared.Record.{Record as Kept}
-use Rattle.record.specs.declared.Record.the-variants.{Fine, Bad as BadRecord}
+use Rattle.record.specs.declared.Outcome.{Outcome}
+use Rattle.record.specs.declared.Outcome.the-variants.{Value, Bad}
+use Rattle.record.specs.declared.PairFound.{PairFound}
+use Rattle.record.specs.declared.PairFound.the-variants.{Filled, Bad as BadPair}
+use Rattle.record.specs.declared.RuleFound.{RuleFound}
+use Rattle.record.specs.declared.RuleFound.the-variants.{At, Bad as BadRule}
+use Rattle.record.specs.declared.RulesFound.{RulesFound}
+use Rattle.record.specs.declared.RulesFound.the-variants.{Fine as FineRules, Bad as BadRules}
+use Rattle.record.specs.declared.RecordFound.{RecordFound}
+use Rattle.record.specs.declared.RecordFound.the-variants.{Fine, Bad as BadRecord}
 
 -- refused, with whatever number and place
 unfoldable pub Unread : {A : Type 0} → Reading A → Type 0
@@ -46,24 +46,24 @@ abbrev pub OneBad : {A : Type 0} → ℕ → (ReadField → Reading A) → List 
 OneBad tag read l at p = (n : ℕ) → one-field n tag read at (drop at l) ≡ refused n p
 
 -- `end_field`, `units_field`, `entry_field`, `forms_field`: the end, the units, and twice the place behind the field
-abbrev pub IsEnd : List ℕ → Field → Type 0
+abbrev pub IsEnd : List ℕ → Outcome → Type 0
 IsEnd l (Value end) = OneAt 0x10 read-end l 0 end 4
 IsEnd l (Bad p) = OneBad 0x10 read-end l 0 p
 
-abbrev pub IsUnits : List ℕ → ℕ → Field → Type 0
+abbrev pub IsUnits : List ℕ → ℕ → Outcome → Type 0
 IsUnits l at (Value units) = OneAt 0x11 read-units l at units (at + 7)
 IsUnits l at (Bad p) = OneBad 0x11 read-units l at p
 
-abbrev pub IsEntry : List ℕ → ℕ → Field → Type 0
+abbrev pub IsEntry : List ℕ → ℕ → Outcome → Type 0
 IsEntry l at (Value e) = (kind : ℕ) × OneAt 0x13 read-kind l at kind e
 IsEntry l at (Bad p) = OneBad 0x13 read-kind l at p
 
-abbrev pub IsForms : List ℕ → List ℕ → ℕ → Field → Type 0
+abbrev pub IsForms : List ℕ → List ℕ → ℕ → Outcome → Type 0
 IsForms tab l at (Value e) = (forms : Pair) × OneAt 0x14 (read-forms (symbols-of tab)) l at forms e
 IsForms tab l at (Bad p) = OneBad 0x14 (read-forms (symbols-of tab)) l at p
 
 -- `renamed_pair`: the left side ends at m, where the right one begins
-pub record HeldAt (tab l : List ℕ) (at end m : ℕ) (p : Pair) : Type 0 where
+pub record RenamedPairAt (tab l : List ℕ) (at end m : ℕ) (p : Pair) : Type 0 where
   pub read : renamed-pair (symbols-of tab) at (between l at end) ≡ ok p
   pub sides : Sides most-variables tab (part l at m) (part l m end) p
   pub middle : m ≡ at + size (p .left)
@@ -71,14 +71,14 @@ pub record HeldAt (tab l : List ℕ) (at end m : ℕ) (p : Pair) : Type 0 where
   pub left-small : size (p .left) ≤ most-nodes
   pub right-small : size (p .right) ≤ most-nodes
 
-abbrev pub IsHeld : List ℕ → List ℕ → ℕ → ℕ → Held → Type 0
-IsHeld tab l at end (Filled m) = (p : Pair) × HeldAt tab l at end m p
-IsHeld tab l at end BadPair = Unread (renamed-pair (symbols-of tab) at (between l at end))
+abbrev pub IsPairFound : List ℕ → List ℕ → ℕ → ℕ → PairFound → Type 0
+IsPairFound tab l at end (Filled m) = (p : Pair) × RenamedPairAt tab l at end m p
+IsPairFound tab l at end BadPair = Unread (renamed-pair (symbols-of tab) at (between l at end))
 
 -- `rule_field`: its number, its sides, and where it ends
 pub record RuleIs (tab l : List ℕ) (at before number m e : ℕ) (p : Pair) : Type 0 where
   pub one : OneAt 0x12 (read-rule (symbols-of tab) before) l at (record { number = number; sides = p }) e
-  pub held : HeldAt tab l (at + 5) e m p
+  pub held : RenamedPairAt tab l (at + 5) e m p
 
 abbrev pub IsRule : List ℕ → List ℕ → ℕ → ℕ → RuleFound → Type 0
 IsRule tab l at before (At number m e) = (p : Pair) × RuleIs tab l at before number m e p
@@ -102,7 +102,7 @@ pub record RulesAre (tab l : List ℕ) (at e : ℕ) (rules : List Rule) : Type 0
       (record { part = rules-at at rules; end = e; rest = drop e l })
   pub within : e ≤ length l
 
-abbrev pub IsRules : List ℕ → List ℕ → ℕ → List ℕ → Rules → Type 0
+abbrev pub IsRules : List ℕ → List ℕ → ℕ → List ℕ → RulesFound → Type 0
 IsRules tab l at slots (FineRules count e) = (rules : List Rule) × RulesAre tab l at e rules × InSlots tab slots count rules
 IsRules tab l at slots (BadRules p) = (n : ℕ) → fields-there n 0x12 (read-rule-at (symbols-of tab)) most-rules none at (drop at l) ≡ refused n p
 
@@ -111,16 +111,16 @@ pub record EntriesAre (l : List ℕ) (at e : ℕ) (kinds : List ℕ) : Type 0 wh
   pub is : (n : ℕ) → fields-there n 0x13 (λ _ f. read-kind f) most-entries none at (drop at l) ≡ ok (record { part = kinds; end = e; rest = drop e l })
   pub within : e ≤ length l
 
-abbrev pub IsEntries : List ℕ → ℕ → Field → Type 0
+abbrev pub IsEntries : List ℕ → ℕ → Outcome → Type 0
 IsEntries l at (Value e) = (kinds : List ℕ) × EntriesAre l at e kinds
 IsEntries l at (Bad p) = (n : ℕ) → fields-there n 0x13 (λ _ f. read-kind f) most-entries none at (drop at l) ≡ refused n p
 
 -- `nothing_behind`, `last_field`
-abbrev pub IsNothing : List ℕ → ℕ → Field → Type 0
+abbrev pub IsNothing : List ℕ → ℕ → Outcome → Type 0
 IsNothing l at (Value e) = nothing-behind at (drop at l) ≡ ok tt
 IsNothing l at (Bad p) = nothing-behind at (drop at l) ≡ refused wrong-record p
 
-abbrev pub IsLast : List ℕ → List ℕ → ℕ → ℕ → Field → Type 0
+abbrev pub IsLast : List ℕ → List ℕ → ℕ → ℕ → Outcome → Type 0
 IsLast tab l end at (Value e) = last-field (symbols-of tab) end at (drop at l) ≡ ok tt
 IsLast tab l end at (Bad p) = last-field (symbols-of tab) end at (drop at l) ≡ refused wrong-record p
 
@@ -133,14 +133,14 @@ read-behind Σ end units at bytes = do
   ok (record { end = end; units = units; rules = rules .part })
 
 -- `read_behind`, `read`: the rules' fields begin at 11
-abbrev pub IsBehind : List ℕ → List ℕ → ℕ → List ℕ → Kept → Type 0
+abbrev pub IsBehind : List ℕ → List ℕ → ℕ → List ℕ → RecordFound → Type 0
 IsBehind tab l end slots (Fine e count) =
     (e ≡ end) × (rules : List Rule)
     × ((units : ℕ) → read-behind (symbols-of tab) end units 11 (drop 11 l) ≡ ok (record { end = end; units = units; rules = rules-at 11 rules }))
     × InSlots tab slots count rules
 IsBehind tab l end slots (BadRecord p) = (units : ℕ) → read-behind (symbols-of tab) end units 11 (drop 11 l) ≡ refused wrong-record p
 
-abbrev pub IsRecord : List ℕ → List ℕ → List ℕ → Kept → Type 0
+abbrev pub IsRecord : List ℕ → List ℕ → List ℕ → RecordFound → Type 0
 IsRecord tab l slots (Fine end count) =
     (units : ℕ) × (rules : List Rule)
     × (read-record (symbols-of tab) l ≡ ok (record { end = end; units = units; rules = rules-at 11 rules }))

@@ -7,7 +7,7 @@ ghost use Rattle.limits.specs.Limits.{most-rules, most-record};
 ghost use Rattle.reading.specs.Answers.{Table};
 ghost use Rattle.slots.specs.Slots.{slot-width};
 ghost use Rattle.record.specs.Record.{listed-end};
-ghost use Rattle.record.specs.Reader.{IsEnd, IsUnits, IsEntry, IsForms, IsHeld, IsRule, IsRules, IsEntries, IsNothing, IsLast, IsBehind};
+ghost use Rattle.record.specs.Reader.{IsEnd, IsUnits, IsEntry, IsForms, IsPairFound, IsRule, IsRules, IsEntries, IsNothing, IsLast, IsBehind};
 ghost use Rattle.record.specs.Reader.{IsRecord};
 use limits::FIELD_HEAD;
 
@@ -33,7 +33,7 @@ pub const RULES_AT: usize = UNITS_AT + FIELD_HEAD + 4;
 // A rule's field before its left side: the field's head, and the rule's number.
 pub const RULE_HEAD: usize = FIELD_HEAD + 2;
 
-pub enum Field {
+pub enum Outcome {
     // A number, or the place behind what was read.
     Value(usize),
     // The first byte of a bad field, or the end where one is due.
@@ -54,75 +54,75 @@ fn listed(end: usize) -> bool
 }
 
 // Field 10, which stands first: the end.
-fn end_field(kept: &[u8]) -> Field
+fn end_field(kept: &[u8]) -> Outcome
     ensures { λ r. ⌜ IsEnd (now (kept .entry)) r ⌝ }
 {
     match problem::due(kept, 0, END) {
         problem::Read::Refused {
             number: _,
             place: _,
-        } => Field::Bad(0),
+        } => Outcome::Bad(0),
         problem::Read::Value(e) => {
             if e != UNITS_AT {
-                return Field::Bad(0);
+                return Outcome::Bad(0);
             }
             let end = terms::wide(kept[FIELD_HEAD]);
             if listed(end) {
-                return Field::Value(end);
+                return Outcome::Value(end);
             }
-            Field::Bad(0)
+            Outcome::Bad(0)
         }
     }
 }
 
 // Field 11: the units.
-fn units_field(kept: &[u8], at: usize) -> Field
+fn units_field(kept: &[u8], at: usize) -> Outcome
     ensures { λ r. ⌜ IsUnits (now (kept .entry)) at r ⌝ }
 {
     match problem::due(kept, at, UNITS) {
         problem::Read::Refused {
             number: _,
             place: _,
-        } => Field::Bad(at),
+        } => Outcome::Bad(at),
         problem::Read::Value(e) => {
             let start = at + FIELD_HEAD;
             if e - start != 4 {
-                return Field::Bad(at);
+                return Outcome::Bad(at);
             }
             let units = reading::number(kept, start, 4);
             if units > limits::BUDGET {
-                return Field::Bad(at);
+                return Outcome::Bad(at);
             }
-            Field::Value(units)
+            Outcome::Value(units)
         }
     }
 }
 
-pub enum Held {
+pub enum PairFound {
     // Where the right side begins.
     Filled(usize),
     Bad,
 }
 
 // Two sides, renamed as a pair, which fill the bytes from a place to an end.
-fn renamed_pair(kept: &[u8], table: &[u8], at: usize, end: usize) -> Held
+fn renamed_pair(kept: &[u8], table: &[u8], at: usize, end: usize) -> PairFound
     requires { ⌜ Table (now table) ⌝ }
     requires { ⌜ (at ≤ end) × (end ≤ length (now kept)) × (length (now kept) ≤ most-record) ⌝ }
-    ensures { λ r. ⌜ IsHeld (now (table .entry)) (now (kept .entry)) at end r ⌝ }
+    ensures { λ r. ⌜ IsPairFound (now (table .entry)) (now (kept .entry)) at end r ⌝ }
 {
     match reading::pair_at(kept, table, at, end) {
-        reading::Pair::Wrong(_) => Held::Bad,
-        reading::Pair::Large(_) => Held::Bad,
+        reading::Pair::Wrong(_) => PairFound::Bad,
+        reading::Pair::Large(_) => PairFound::Bad,
         reading::Pair::Filled(middle) => {
             if reading::is_renamed(kept, at, end) {
-                return Held::Filled(middle);
+                return PairFound::Filled(middle);
             }
-            Held::Bad
+            PairFound::Bad
         }
     }
 }
 
-pub enum Rule {
+pub enum RuleFound {
     // Where the right side begins, and where the field ends.
     At {
         number: usize,
@@ -133,7 +133,7 @@ pub enum Rule {
 }
 
 // Field 12: a rule whose number is above that of the rule before.
-pub fn rule_field(kept: &[u8], table: &[u8], at: usize, before: usize) -> Rule
+pub fn rule_field(kept: &[u8], table: &[u8], at: usize, before: usize) -> RuleFound
     requires { ⌜ Table (now table) ⌝ }
     requires { ⌜ length (now kept) ≤ most-record ⌝ }
     ensures { λ r. ⌜ IsRule (now (table .entry)) (now (kept .entry)) at before r ⌝ }
@@ -142,23 +142,23 @@ pub fn rule_field(kept: &[u8], table: &[u8], at: usize, before: usize) -> Rule
         problem::Read::Refused {
             number: _,
             place: _,
-        } => Rule::Bad,
+        } => RuleFound::Bad,
         problem::Read::Value(end) => {
             let start = at + RULE_HEAD;
             if end < start {
-                return Rule::Bad;
+                return RuleFound::Bad;
             }
             let number = reading::number(kept, at + FIELD_HEAD, 2);
             match renamed_pair(kept, table, start, end) {
-                Held::Bad => Rule::Bad,
-                Held::Filled(middle) => {
+                PairFound::Bad => RuleFound::Bad,
+                PairFound::Filled(middle) => {
                     if number <= before {
-                        return Rule::Bad;
+                        return RuleFound::Bad;
                     }
                     if number > limits::NUMBERS {
-                        return Rule::Bad;
+                        return RuleFound::Bad;
                     }
-                    Rule::At {
+                    RuleFound::At {
                         number,
                         middle,
                         end,
@@ -169,7 +169,7 @@ pub fn rule_field(kept: &[u8], table: &[u8], at: usize, before: usize) -> Rule
     }
 }
 
-pub enum Rules {
+pub enum RulesFound {
     // So many, and the place behind them.
     Fine { count: usize, end: usize },
     // The first byte of a bad field.
@@ -177,7 +177,7 @@ pub enum Rules {
 }
 
 // The rules' fields from a place on, at most 32: their sides into slots.
-fn read_rules(kept: &[u8], table: &[u8], at: usize, slots: &mut [u8]) -> Rules
+fn read_rules(kept: &[u8], table: &[u8], at: usize, slots: &mut [u8]) -> RulesFound
     requires { ⌜ Table (now table) ⌝ }
     requires { ⌜ (at ≤ length (now kept)) × (length (now kept) ≤ most-record) ⌝ }
     requires { ⌜ slot-width * most-rules ≤ length (now slots) ⌝ }
@@ -188,16 +188,16 @@ fn read_rules(kept: &[u8], table: &[u8], at: usize, slots: &mut [u8]) -> Rules
     let mut i = at;
     while i < kept.len() {
         if count == limits::RULES {
-            return Rules::Fine { count, end: i };
+            return RulesFound::Fine { count, end: i };
         }
         if kept[i] != RULE {
-            return Rules::Fine { count, end: i };
+            return RulesFound::Fine { count, end: i };
         }
         match rule_field(kept, table, i, before) {
-            Rule::Bad => {
-                return Rules::Bad(i);
+            RuleFound::Bad => {
+                return RulesFound::Bad(i);
             }
-            Rule::At {
+            RuleFound::At {
                 number,
                 middle,
                 end,
@@ -210,36 +210,36 @@ fn read_rules(kept: &[u8], table: &[u8], at: usize, slots: &mut [u8]) -> Rules
             }
         }
     }
-    Rules::Fine { count, end: i }
+    RulesFound::Fine { count, end: i }
 }
 
 // Field 13: the place behind it. Only its length and its kind are read.
-pub fn entry_field(kept: &[u8], at: usize) -> Field
+pub fn entry_field(kept: &[u8], at: usize) -> Outcome
     ensures { λ r. ⌜ IsEntry (now (kept .entry)) at r ⌝ }
 {
     match problem::due(kept, at, ENTRY) {
         problem::Read::Refused {
             number: _,
             place: _,
-        } => Field::Bad(at),
+        } => Outcome::Bad(at),
         problem::Read::Value(e) => {
             if e - at != limits::ENTRY {
-                return Field::Bad(at);
+                return Outcome::Bad(at);
             }
             let kind = kept[at + FIELD_HEAD];
             if kind == 0 {
-                return Field::Bad(at);
+                return Outcome::Bad(at);
             }
             if kind > slots::origins::OVERLAPPING {
-                return Field::Bad(at);
+                return Outcome::Bad(at);
             }
-            Field::Value(e)
+            Outcome::Value(e)
         }
     }
 }
 
 // The log's fields from a place on, at most 512: the place behind them.
-fn read_entries(kept: &[u8], at: usize) -> Field
+fn read_entries(kept: &[u8], at: usize) -> Outcome
     requires { ⌜ at ≤ length (now kept) ⌝ }
     ensures { λ r. ⌜ IsEntries (now (kept .entry)) at r ⌝ }
 {
@@ -247,26 +247,26 @@ fn read_entries(kept: &[u8], at: usize) -> Field
     let mut i = at;
     while i < kept.len() {
         if count == limits::ENTRIES {
-            return Field::Value(i);
+            return Outcome::Value(i);
         }
         if kept[i] != ENTRY {
-            return Field::Value(i);
+            return Outcome::Value(i);
         }
         match entry_field(kept, i) {
-            Field::Bad(place) => {
-                return Field::Bad(place);
+            Outcome::Bad(place) => {
+                return Outcome::Bad(place);
             }
-            Field::Value(end) => {
+            Outcome::Value(end) => {
                 count += 1;
                 i = end;
             }
         }
     }
-    Field::Value(i)
+    Outcome::Value(i)
 }
 
 // Field 14: the place behind it.
-fn forms_field(kept: &[u8], table: &[u8], at: usize) -> Field
+fn forms_field(kept: &[u8], table: &[u8], at: usize) -> Outcome
     requires { ⌜ Table (now table) ⌝ }
     requires { ⌜ length (now kept) ≤ most-record ⌝ }
     ensures { λ r. ⌜ IsForms (now (table .entry)) (now (kept .entry)) at r ⌝ }
@@ -275,26 +275,26 @@ fn forms_field(kept: &[u8], table: &[u8], at: usize) -> Field
         problem::Read::Refused {
             number: _,
             place: _,
-        } => Field::Bad(at),
+        } => Outcome::Bad(at),
         problem::Read::Value(e) => match renamed_pair(kept, table, at + FIELD_HEAD, e) {
-            Held::Bad => Field::Bad(at),
-            Held::Filled(_) => Field::Value(e),
+            PairFound::Bad => Outcome::Bad(at),
+            PairFound::Filled(_) => Outcome::Value(e),
         },
     }
 }
 
 // The place is the last: no byte stands there.
-fn nothing_behind(kept: &[u8], at: usize) -> Field
+fn nothing_behind(kept: &[u8], at: usize) -> Outcome
     ensures { λ r. ⌜ IsNothing (now (kept .entry)) at r ⌝ }
 {
     if at < kept.len() {
-        return Field::Bad(at);
+        return Outcome::Bad(at);
     }
-    Field::Value(at)
+    Outcome::Value(at)
 }
 
 // What is due behind the log: with end 20 the forms, and nothing else.
-fn last_field(kept: &[u8], table: &[u8], end: usize, at: usize) -> Field
+fn last_field(kept: &[u8], table: &[u8], end: usize, at: usize) -> Outcome
     requires { ⌜ Table (now table) ⌝ }
     requires { ⌜ length (now kept) ≤ most-record ⌝ }
     ensures { λ r. ⌜ IsLast (now (table .entry)) (now (kept .entry)) end at r ⌝ }
@@ -303,12 +303,12 @@ fn last_field(kept: &[u8], table: &[u8], end: usize, at: usize) -> Field
         return nothing_behind(kept, at);
     }
     match forms_field(kept, table, at) {
-        Field::Bad(place) => Field::Bad(place),
-        Field::Value(e) => nothing_behind(kept, e),
+        Outcome::Bad(place) => Outcome::Bad(place),
+        Outcome::Value(e) => nothing_behind(kept, e),
     }
 }
 
-pub enum Record {
+pub enum RecordFound {
     // Its end, and how many rules it has.
     Fine { end: usize, count: usize },
     // The first byte of the first bad field, or the end where a field is due.
@@ -316,38 +316,38 @@ pub enum Record {
 }
 
 // The record behind its first two fields.
-fn read_behind(kept: &[u8], table: &[u8], end: usize, slots: &mut [u8]) -> Record
+fn read_behind(kept: &[u8], table: &[u8], end: usize, slots: &mut [u8]) -> RecordFound
     requires { ⌜ Table (now table) ⌝ }
     requires { ⌜ (11 ≤ length (now kept)) × (length (now kept) ≤ most-record) ⌝ }
     requires { ⌜ slot-width * most-rules ≤ length (now slots) ⌝ }
     ensures { λ r. ⌜ IsBehind (now (table .entry)) (now (kept .entry)) end (now (slots .exit)) r ⌝ }
 {
     match read_rules(kept, table, RULES_AT, slots) {
-        Rules::Bad(place) => Record::Bad(place),
-        Rules::Fine { count, end: log } => match read_entries(kept, log) {
-            Field::Bad(place) => Record::Bad(place),
-            Field::Value(behind) => match last_field(kept, table, end, behind) {
-                Field::Bad(place) => Record::Bad(place),
-                Field::Value(_) => Record::Fine { end, count },
+        RulesFound::Bad(place) => RecordFound::Bad(place),
+        RulesFound::Fine { count, end: log } => match read_entries(kept, log) {
+            Outcome::Bad(place) => RecordFound::Bad(place),
+            Outcome::Value(behind) => match last_field(kept, table, end, behind) {
+                Outcome::Bad(place) => RecordFound::Bad(place),
+                Outcome::Value(_) => RecordFound::Fine { end, count },
             },
         },
     }
 }
 
 // The record: its end and the number of its rules, whose sides go into slots.
-pub fn read(kept: &[u8], table: &[u8], slots: &mut [u8]) -> Record
+pub fn read(kept: &[u8], table: &[u8], slots: &mut [u8]) -> RecordFound
     requires { ⌜ Table (now table) ⌝ }
     requires { ⌜ slot-width * most-rules ≤ length (now slots) ⌝ }
     ensures { λ r. ⌜ IsRecord (now (table .entry)) (now (kept .entry)) (now (slots .exit)) r ⌝ }
 {
     if kept.len() > limits::RECORD {
-        return Record::Bad(limits::RECORD);
+        return RecordFound::Bad(limits::RECORD);
     }
     match end_field(kept) {
-        Field::Bad(place) => Record::Bad(place),
-        Field::Value(end) => match units_field(kept, UNITS_AT) {
-            Field::Bad(place) => Record::Bad(place),
-            Field::Value(_) => read_behind(kept, table, end, slots),
+        Outcome::Bad(place) => RecordFound::Bad(place),
+        Outcome::Value(end) => match units_field(kept, UNITS_AT) {
+            Outcome::Bad(place) => RecordFound::Bad(place),
+            Outcome::Value(_) => read_behind(kept, table, end, slots),
         },
     }
 }

@@ -4,7 +4,7 @@ use Rattle.decide.proofs.Questions.{record-refused, end-refused, rule-r
 use mathlib.Core.Path.{subst}
 use native.Mathlib.Omega.{arith}
 use Rattle.record.specs.Reader.{IsRecord}
-use Rattle.record.specs.declared.Record.the-variants.{Fine}
+use Rattle.record.specs.declared.RecordFound.the-variants.{Fine}
 use borrow.Author.Needs.{needs}
 use Rattle.decide.proofs.ask.Statement.{statement}
 use Rattle.decide.proofs.ask.Tie as tie

@@ -3,7 +3,7 @@
 use mathlib.Core.Path.{refl}
 use borrow.Author.Needs.{needs}
 use Rattle.record.specs.Reader.{IsRules}
-use Rattle.record.specs.declared.Rules.the-variants.{Fine}
+use Rattle.record.specs.declared.RulesFound.the-variants.{Fine}
 use Rattle.record.proofs.Whole.{behind-rules-bad, behind-entries-bad, behind-last-bad, behind-fine}
 use Rattle.record.proofs.read_behind.Statement.{statement}
 use Rattle.record.proofs.read_behind.Tie as tie

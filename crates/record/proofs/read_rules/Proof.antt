@@ -6,7 +6,7 @@ use Prim.Native.Nat.{_-_}
 use native.Mathlib.Omega.{arith}
 use borrow.Author.Needs.{needs}
 use Rattle.record.specs.Reader.{IsRule}
-use Rattle.record.specs.declared.Rule.the-variants.{At}
+use Rattle.record.specs.declared.RuleFound.the-variants.{At}
 use Rattle.record.proofs.Holding.{held-short}
 use Rattle.record.proofs.Slotted.{RulesSoFar, rules-start, rules-full, rules-none, rules-other, rules-bad, rules-more}
 use Rattle.record.proofs.read_rules.Statement.{statement}

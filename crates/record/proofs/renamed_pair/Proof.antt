@@ -1,5 +1,5 @@
 -- `renamed_pair`: what `pair_at` answers, and whether the pair is renamed. Assumes nothing.
--- Read first: specs/Reader (IsHeld), proofs/Holding.
+-- Read first: specs/Reader (IsPairFound), proofs/Holding.
 use borrow.Author.Needs.{needs}
 use Rattle.record.proofs.Holding.{pair-refused, pair-other, pair-renamed}
 use Rattle.record.proofs.renamed_pair.Statement.{statement}
