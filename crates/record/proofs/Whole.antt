@@ -99,7 +99,8 @@ module _ (tab l : List ℕ) where
       pub record-units-bad : (p : ℕ) → OneBad 0x11 read-units l 4 p → read-record (symbols-of tab) l ≡ refused 13 p
       record-units-bad p B = record-is ∙ bind-ok _ (E .is 13) ∙ bind-refused _ (B 13)
 
-      pub record-behind : (units : ℕ) → OneAt 0x11 read-units l 4 units 11 → (slots : List ℕ) (r : RecordFound) → IsBehind tab l end slots r → IsRecord tab l slots r
+      pub record-behind : (units : ℕ) → OneAt 0x11 read-units l 4 units 11 → (slots : List ℕ) (r : RecordFound) →
+          IsBehind tab l end slots r → IsRecord tab l slots r
       record-behind units U slots r = go r
         where
           is : read-record (symbols-of tab) l ≡ read-behind (symbols-of tab) end units 11 (drop 11 l)

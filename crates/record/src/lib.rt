@@ -22,8 +22,13 @@ const ENTRY: u8 = 0x13;
 
 const FORMS: u8 = 0x14;
 
-// The end of a run that could orient no side: field 14 is due with it alone.
+// The end with which alone field 14 is due: neither side above.
 const NEITHER: usize = 20;
+
+// The ends of a run that is not complete: from neither side above to a full log.
+const FIRST_STOP: usize = 20;
+
+const LAST_STOP: usize = 24;
 
 // Where the units' field and the first rule's begin: the fields before them have one length only.
 const UNITS_AT: usize = FIELD_HEAD + 1;
@@ -47,10 +52,10 @@ fn listed(end: usize) -> bool
     if end == 0 {
         return true;
     }
-    if end < 20 {
+    if end < FIRST_STOP {
         return false;
     }
-    end <= 24
+    end <= LAST_STOP
 }
 
 // Field 10, which stands first: the end.
@@ -101,6 +106,7 @@ fn units_field(kept: &[u8], at: usize) -> Outcome
 pub enum PairFound {
     // Where the right side begins.
     Filled(usize),
+    // They are not so.
     Bad,
 }
 
@@ -129,6 +135,7 @@ pub enum RuleFound {
         middle: usize,
         end: usize,
     },
+    // The field is bad.
     Bad,
 }
 
