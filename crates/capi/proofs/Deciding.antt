@@ -6,7 +6,7 @@ use mathlib.Core.Logic.{_↔_, _⊎_, inl, inr}
 use Prim.Native.Nat.{ℕ}
 use native.Mathlib.Omega.{arith}
 use Rattle.problem.specs.Problem.{Reading, ok, refused}
-use Rattle.decide.specs.Decide.{Answer, are-same, are-different, ended, decide-call}
+use Rattle.decide.specs.Decide.{Answer, are-same, are-different, numbered, decide-call}
 use Rattle.decide.specs.Answers.{Leads, AboutEquations}
 use Rattle.capi.specs.Codes.{decide-code, kind-in, value-in, CodeDecides}
 use Rattle.capi.proofs.Unpacked.{UnpacksDecided, decide-unpacks}
@@ -24,7 +24,7 @@ unpacked-exactly A r (ok are-same) u h k =
 unpacked-exactly A r (ok are-different) u h k =
     let e = h (inr refl) in
     ((λ z. absurd (omega (arith, u .value-is)), λ a. absurd (e .1 .0 refl a)), (λ _. e .1 .0 refl, λ _. u .value-is))
-unpacked-exactly A r (ok (ended e)) u h k = absurd (omega (arith, u .kind-is))
+unpacked-exactly A r (ok (numbered n)) u h k = absurd (omega (arith, u .kind-is))
 unpacked-exactly A r (refused n at) u h k = absurd (omega (arith, u .kind-is))
 
 pub code-decides : (problem kept : List ℕ) (d : Reading Answer) (r : ℕ) → d ≡ decide-call problem kept → AboutEquations problem kept d →

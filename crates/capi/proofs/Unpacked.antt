@@ -3,6 +3,7 @@
 use mathlib.Core.Path.{_≡_, refl, ap}
 use mathlib.Core.Bool.{Bool, true, false}
 use mathlib.Core.List.{List}
+use mathlib.Core.Logic.{⊎-elim}
 use mathlib.Core.Option.{Option, none, some}
 use Prim.Native.Nat.{ℕ, _+_, _<_, _≤_}
 use native.Mathlib.Omega.{arith}
@@ -16,7 +17,7 @@ use Rattle.terms.proofs.Limits.{length-field-bytes, renamed-left-size}
 use Rattle.terms.proofs.Positions.{subterm-below}
 use Rattle.order.specs.Order.{comparison}
 use Rattle.unify.specs.Unify.{Binding, under, mgu}
-use Rattle.rewriting.specs.Rewrite.{End, complete, neither-above, spent, too-large, rules-full, log-full, end-number}
+use Rattle.rewriting.specs.Rewrite.{end-number}
 use Rattle.problem.specs.Problem.{Reading, ok, refused, rank-of}
 use Rattle.problem.proofs.Reading.{from-bind, ok-injective}
 use Rattle.completion.specs.Calls.{Single, parse-single, complete-call, compare-call, unify-call, CommonInstance, instance, no-instance, instance-too-large}
@@ -24,7 +25,8 @@ use Rattle.completion.specs.Calls.{unified, Part, part-of, subterm-part}
 use Rattle.completion.proofs.Accepts.{single-fits}
 use Rattle.completion.proofs.Capacity.{complete-writes}
 use Rattle.complete.specs.Answer.{counted}
-use Rattle.decide.specs.Decide.{Answer, are-same, are-different, ended, decide-call}
+use Rattle.decide.specs.Decide.{Answer, are-same, are-different, numbered, decide-call}
+use Rattle.decide.proofs.Right.{about-rules}
 use Rattle.calls.specs.Answers.{Returned, bytes-written, none-common, number-only, number-and-place, unify-returns}
 use Rattle.calls.proofs.Comparing.{comparison-range}
 use Rattle.capi.specs.Codes.{code, answer-code, unify-code, decide-code, part-code, kind-in, number-in, value-in, start-in}
@@ -126,27 +128,19 @@ unify-unpacks problem buffer = go (unify-call problem buffer) refl (unify-within
 abbrev pub UnpacksDecided : ℕ → Reading Answer → Type 0
 UnpacksDecided r (ok are-same) = Unpacks r 1 0 1
 UnpacksDecided r (ok are-different) = Unpacks r 1 0 2
-UnpacksDecided r (ok (ended e)) = Unpacks r 3 (end-number e) 0
+UnpacksDecided r (ok (numbered n)) = Unpacks r 3 n 0
 UnpacksDecided r (refused number place) = Unpacks r 0 number place
-
-ended-few : (e : End) → end-number e < 65_536
-unfolding end-number
-ended-few complete = omega arith
-ended-few (neither-above p) = omega arith
-ended-few spent = omega arith
-ended-few too-large = omega arith
-ended-few rules-full = omega arith
-ended-few log-full = omega arith
 
 pub decide-unpacks : (problem kept : List ℕ) → UnpacksDecided (decide-code (decide-call problem kept)) (decide-call problem kept)
 unfolding decide-code
-decide-unpacks problem kept = go (decide-call problem kept) (decide-within problem kept)
+decide-unpacks problem kept = go (decide-call problem kept) refl (decide-within problem kept)
   where
-    go : (c : Reading Answer) → RefusesWithin 15 16_384 c → UnpacksDecided (decide-code c) c
-    go (ok are-same) h = code-unpacks 1 0 1 (omega arith) (omega arith)
-    go (ok are-different) h = code-unpacks 1 0 2 (omega arith) (omega arith)
-    go (ok (ended e)) h = code-unpacks 3 (end-number e) 0 (ended-few e) (omega arith)
-    go (refused n at) (was-refused _ _ a b) = code-unpacks 0 n at (omega (arith, refusal-few 15 n a)) (omega arith)
+    go : (c : Reading Answer) → decide-call problem kept ≡ c → RefusesWithin 15 16_384 c → UnpacksDecided (decide-code c) c
+    go (ok are-same) q h = code-unpacks 1 0 1 (omega arith) (omega arith)
+    go (ok are-different) q h = code-unpacks 1 0 2 (omega arith) (omega arith)
+    go (ok (numbered n)) q h =
+        code-unpacks 3 n 0 (⊎-elim (λ e. omega arith) (λ e. omega arith) (about-rules problem kept .numbers n q)) (omega arith)
+    go (refused n at) q (was-refused _ _ a b) = code-unpacks 0 n at (omega (arith, refusal-few 15 n a)) (omega arith)
 
 -- subterm
 subterm-few : (t : Term) (p : ℕ) (u : Term) → subterm-at t p ≡ some u → size u ≤ size t

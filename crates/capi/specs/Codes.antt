@@ -6,10 +6,9 @@ use mathlib.Core.Logic.{_↔_}
 use Prim.Native.Nat.{ℕ, _+_, _*_, _/_, _%_}
 use lib.ListN.{take}
 use Rattle.problem.specs.Problem.{Reading, ok, refused, Problem}
-use Rattle.rewriting.specs.Rewrite.{end-number}
 use Rattle.completion.specs.Calls.{Part, Single, parse-single}
 use Rattle.completion.specs.Promise.{Delivers}
-use Rattle.decide.specs.Decide.{Answer, are-same, are-different, ended}
+use Rattle.decide.specs.Decide.{Answer, are-same, are-different, numbered}
 use Rattle.decide.specs.Answers.{EngineWrote, Leads}
 use Rattle.calls.specs.Answers.{Returned, bytes-written, none-common, number-only, number-and-place}
 
@@ -35,7 +34,7 @@ unify-code (number-and-place n at) = code 0 n at
 unfoldable pub decide-code : Reading Answer → ℕ
 decide-code (ok are-same) = code 1 0 1
 decide-code (ok are-different) = code 1 0 2
-decide-code (ok (ended e)) = code 3 (end-number e) 0
+decide-code (ok (numbered n)) = code 3 n 0
 decide-code (refused n at) = code 0 n at
 
 -- subterm: the part's first byte times 2 ^ 32, and how many bytes it has [15.4]

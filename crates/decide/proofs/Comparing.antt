@@ -10,14 +10,14 @@ use Rattle.terms.specs.Term.{Term, Pair, same}
 use Rattle.terms.proofs.Shape.{zero≢one}
 use Rattle.problem.specs.Problem.{ok}
 use Rattle.rewriting.specs.Overlap.{Rule}
-use Rattle.rewriting.specs.Rewrite.{End, done, stop, return, and-then, _>>=_, normalise, normalise-pair}
+use Rattle.rewriting.specs.Rewrite.{End, end-number, done, stop, return, and-then, _>>=_, normalise, normalise-pair}
 use Rattle.normaliser.specs.Settled.{Normalised}
 use Rattle.normaliser.proofs.Stopping.{Stopped, Stopping, no-unit, no-room}
 use Rattle.normaliser.proofs.Outcomes.{no-form, normal-form, same-by}
 use Rattle.normaliser.specs.declared.Reached.{Reached}
 use Rattle.normaliser.specs.declared.Form.{Form}
 use Rattle.normaliser.specs.declared.Form.the-variants.{Normal as NormalForm, Spent as SpentForm, TooLarge as TooLargeForm}
-use Rattle.decide.specs.Decide.{are-same, are-different, ended, answer}
+use Rattle.decide.specs.Decide.{are-same, are-different, numbered, answer}
 use Rattle.decide.specs.Answers.{decided-told}
 use Rattle.decide.specs.Asking.{with-left, RightCompared, FormsCompared}
 use Rattle.decide.specs.declared.Decided.{Decided}
@@ -29,14 +29,14 @@ ending (NormalForm n) = TooLarge
 ending SpentForm = Spent
 ending TooLargeForm = TooLarge
 
-ending-told : (x : End) (f : Form) → Stopping x f → decided-told (ending f) ≡ ok (ended x)
-unfolding decided-told
+ending-told : (x : End) (f : Form) → Stopping x f → decided-told (ending f) ≡ ok (numbered (end-number x))
+unfolding decided-told end-number
 ending-told x f (no-unit i h) = rw (h, i) refl
 ending-told x f (no-room i h) = rw (h, i) refl
 
 -- what the definition answers, by what the sides come to
 module _ (rs : List Rule) (u : ℕ) where
-  right-stops : (l t : Term) (x : End) (v : ℕ) → normalise rs t u ≡ stop x v → answer (with-left rs l t u) ≡ ended x
+  right-stops : (l t : Term) (x : End) (v : ℕ) → normalise rs t u ≡ stop x v → answer (with-left rs l t u) ≡ numbered (end-number x)
   unfolding with-left _>>=_ and-then answer
   right-stops l t x v q = rw q refl
 
@@ -44,7 +44,7 @@ module _ (rs : List Rule) (u : ℕ) where
   unfolding with-left _>>=_ and-then return answer
   right-is l t y v q = rw q refl
 
-  left-stops : (e : Pair) (x : End) (v : ℕ) → normalise rs (e .left) u ≡ stop x v → answer (normalise-pair rs e u) ≡ ended x
+  left-stops : (e : Pair) (x : End) (v : ℕ) → normalise rs (e .left) u ≡ stop x v → answer (normalise-pair rs e u) ≡ numbered (end-number x)
   unfolding normalise-pair _>>=_ and-then answer
   left-stops e x v q = rw q refl
 

@@ -6,11 +6,10 @@ use Prim.Native.Nat.{ℕ}
 use Rattle.terms.specs.Base.{number-bytes, count-from}
 use Rattle.terms.specs.Term.{Term}
 use Rattle.problem.specs.Problem.{Reading, ok, refused}
-use Rattle.rewriting.specs.Rewrite.{spent, too-large}
 use Rattle.completion.specs.Calls.{complete-call}
 use Rattle.completion.proofs.Instances.{group, e, x, i, _≈_, field, problem}
 use Rattle.record.proofs.Computes.{record-computes}
-use Rattle.decide.specs.Decide.{all-above, read-question, Answer, are-same, are-different, ended, answer, decide-call}
+use Rattle.decide.specs.Decide.{all-above, read-question, Answer, are-same, are-different, numbered, answer, decide-call}
 
 -- the parts of what complete writes for i(i(x)) = x
 abbrev end-0 : List ℕ
@@ -66,11 +65,11 @@ pub answers :
     × (ask 1 (i (i (i x))) (i x) kept ≡ ok are-same)
     × (ask 1 (i x) x kept ≡ ok are-different)
     -- a unit due and the budget spent, on the right side too
-    × (ask 0 (i (i x)) x kept ≡ ok (ended spent))
-    × (ask 1 (i (i x)) (i (i x)) kept ≡ ok (ended spent))
+    × (ask 0 (i (i x)) x kept ≡ ok (numbered 21))
+    × (ask 1 (i (i x)) (i (i x)) kept ≡ ok (numbered 21))
     × (ask 2 (i (i x)) (i (i x)) kept ≡ ok are-same)
     -- i(x) to x*x: i seven times over e grows past 120 nodes
-    × (ask 100 (i (i (i (i (i (i (i e))))))) e (start ++ number-bytes 10 0x12_0007_00010180028080) ≡ ok (ended too-large))
+    × (ask 100 (i (i (i (i (i (i (i e))))))) e (start ++ number-bytes 10 0x12_0007_00010180028080) ≡ ok (numbered 22))
     -- a side of 120 nodes; 32 rules; 512 entries
     × (read (start ++ tower 119) ≡ ok are-same)
     × (read (start ++ rules 32) ≡ ok are-same)

@@ -18,7 +18,7 @@ use Rattle.rewriting.proofs.Holds.{Holds, Form, Forms, NormalEnd, reached-star,
 use Rattle.completion.specs.Delivery.{Last}
 use Rattle.completion.proofs.Words.{word-normal}
 use Rattle.completion.proofs.OverRules.{OverRules, star-word}
-use Rattle.decide.specs.Decide.{Question, read-question, Answer, are-same, are-different, ended, answer, decide-call}
+use Rattle.decide.specs.Decide.{Question, read-question, Answer, are-same, are-different, numbered, answer, decide-call}
 use Rattle.decide.specs.Answers.{OneLast, TwoLasts, AboutRules}
 use Rattle.decide.proofs.Asked.{Asked, asked}
 
@@ -26,14 +26,14 @@ use Rattle.decide.proofs.Asked.{Asked, asked}
 unfoldable pub Told : Question → Answer → Type 0
 Told q are-same = OneLast q
 Told q are-different = TwoLasts q
-Told q (ended e) = (end-number e ≡ 21) ⊎ (end-number e ≡ 22)
+Told q (numbered n) = (n ≡ 21) ⊎ (n ≡ 22)
 
 -- a normal form of a term over the symbols is its last term
 form-last : (Σ : List Symbol) (rules : List Rule) → OverRules Σ rules → (s t : Term) → Over Σ s → Form rules s t → Last Σ rules s t
 unfolding Last
 form-last Σ rules good s t o f = (star-word Σ rules good (reached-star (f .reached)) o, word-normal Σ rules t (step-none rules t (f .normal)))
 
-end-told : (q : Question) (e : End) → NormalEnd e → Told q (ended e)
+end-told : (q : Question) (e : End) → NormalEnd e → Told q (numbered (end-number e))
 unfolding Told end-number
 end-told q complete h = absurd h
 end-told q (neither-above p) h = absurd h
@@ -89,5 +89,5 @@ module _ (problem kept : List ℕ) where
       record {
         same = λ q e h. question-told q are-same e h;
         different = λ q e h. question-told q are-different e h;
-        ends = λ e h. answered problem kept (ended e) h .is-told;
+        numbers = λ n h. answered problem kept (numbered n) h .is-told;
       }

@@ -7,20 +7,20 @@ use Prim.Native.Nat.{ℕ}
 use Rattle.terms.specs.Term.{Term}
 use Rattle.reading.specs.Stops.{wrong-record, not-complete, not-above}
 use Rattle.problem.specs.Problem.{Reading, ok, refused, Problem, parse}
-use Rattle.rewriting.specs.Rewrite.{End, end-number, complete, spent, too-large}
+use Rattle.rewriting.specs.Rewrite.{complete}
 use Rattle.completion.specs.Turn.{run}
 use Rattle.completion.specs.Delivery.{Replacement, Many, Last}
 use Rattle.completion.specs.Calls.{complete-call, Single, parse-single}
-use Rattle.decide.specs.Decide.{Question, read-question, Answer, are-same, are-different, ended}
+use Rattle.decide.specs.Decide.{Question, read-question, Answer, are-same, are-different, numbered}
 use Rattle.decide.specs.declared.Decided.{Decided}
 use Rattle.decide.specs.declared.Decided.the-variants.{Same, Different, Spent, TooLarge, Refused}
 
--- "answers same, different, 21 or 22", or the refusal's number and place; 21 and 22 are the numbers of these ends [18.12, 18.13]
+-- "answers same, different, 21 or 22", or the refusal's number and place [18.12, 18.13]
 unfoldable pub decided-told : Decided → Reading Answer
 decided-told Same = ok are-same
 decided-told Different = ok are-different
-decided-told Spent = ok (ended spent)
-decided-told TooLarge = ok (ended too-large)
+decided-told Spent = ok (numbered 21)
+decided-told TooLarge = ok (numbered 22)
 decided-told (Refused number place) = refused number place
 
 -- both terms have one last term by the record's rules
@@ -41,7 +41,7 @@ pub record TwoLasts (q : Question) : Type 0 where
 pub record AboutRules (problem kept : List ℕ) (r : Reading Answer) : Type 0 where
   pub same : (q : Question) → read-question problem kept ≡ ok q → r ≡ ok are-same → OneLast q
   pub different : (q : Question) → read-question problem kept ≡ ok q → r ≡ ok are-different → TwoLasts q
-  pub ends : (e : End) → r ≡ ok (ended e) → (end-number e ≡ 21) ⊎ (end-number e ≡ 22)
+  pub numbers : (n : ℕ) → r ≡ ok (numbered n) → (n ≡ 21) ⊎ (n ≡ 22)
 
 -- "a record that the engine wrote" for the problem P, whose bytes are these: complete left it in a result buffer of some length [18.15]
 pub record EngineWrote (given : List ℕ) (P : Problem) (kept : List ℕ) : Type 0 where

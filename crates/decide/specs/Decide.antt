@@ -11,7 +11,7 @@ use Rattle.order.specs.Order.{above}
 use Rattle.reading.specs.Stops.{not-complete, not-above}
 use Rattle.problem.specs.Problem.{Reading, ok, _>>=_, refuse-if, Symbol, rank-of}
 use Rattle.rewriting.specs.Overlap.{Rule}
-use Rattle.rewriting.specs.Rewrite.{End, Paid, done, stop, normalise-pair}
+use Rattle.rewriting.specs.Rewrite.{Paid, done, stop, end-number, normalise-pair}
 use Rattle.completion.specs.Calls.{parse-single}
 use Rattle.record.specs.Record.{RuleAt, rules-of, read-record}
 
@@ -39,15 +39,15 @@ read-question problem kept = do
   _ ← all-above (S .symbols) (r .rules)
   ok (record { symbols = S .symbols; budget = S .budget; sides = S .equation .sides; rules = rules-of (r .rules) })
 
--- "answers same, different, 21 or 22": an end is that of normalising, and has its number by `end-number` [18.12, 18.13]
+-- "answers same, different, 21 or 22": a number is that of the end with which normalising stops [18.12, 18.13]
 pub data Answer : Type 0 where
   are-same : Answer
   are-different : Answer
-  ended : End → Answer
+  numbered : ℕ → Answer
 
 unfoldable pub answer : Paid Pair → Answer
 answer (done forms left) = if same (forms .left) (forms .right) then are-same else are-different
-answer (stop e left) = ended e
+answer (stop e left) = numbered (end-number e)
 
 -- "It normalises left, then right, with one unit a step." [18.12]
 unfoldable pub decide-call : List ℕ → List ℕ → Reading Answer
