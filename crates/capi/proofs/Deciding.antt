@@ -31,6 +31,6 @@ pub code-decides : (problem kept : List ℕ) (d : Reading Answer) (r : ℕ) → 
     r ≡ decide-code (decide-call problem kept) → CodeDecides problem kept r
 unfolding Exactly
 code-decides problem kept d r t A q = record {
-  exactly = λ given P S w s e k.
-      unpacked-exactly (Leads P S) r d (rw (q, t) (decide-unpacks problem kept)) (A .exactly given P S w s e) k;
+  exactly = λ w k.
+      unpacked-exactly (Leads (w .theory) (w .asked)) r d (rw (q, t) (decide-unpacks problem kept)) (A .exactly w) k;
 }

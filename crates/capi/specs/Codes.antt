@@ -5,8 +5,8 @@ use mathlib.Core.List.{List}
 use mathlib.Core.Logic.{_↔_}
 use Prim.Native.Nat.{ℕ, _+_, _*_, _/_, _%_}
 use lib.ListN.{take}
-use Rattle.problem.specs.Problem.{Reading, ok, refused, Problem}
-use Rattle.completion.specs.Calls.{Part, Single, parse-single}
+use Rattle.problem.specs.Problem.{Reading, ok, refused}
+use Rattle.completion.specs.Calls.{Part}
 use Rattle.completion.specs.Promise.{Delivers}
 use Rattle.decide.specs.Decide.{Answer, are-same, are-different, numbered}
 use Rattle.decide.specs.Answers.{EngineWrote, Leads}
@@ -63,5 +63,5 @@ CodeDelivers problem result r = kind-in r ≡ 1 → Delivers problem (take (valu
 -- What decide's answer is right about, for C: of a record that complete wrote for a problem with the same symbol field, where the kind is 1, the value
 -- is 1 exactly if that problem's equations lead from one side to the other, and 2 exactly if they do not. [15.7]
 pub record CodeDecides (problem kept : List ℕ) (r : ℕ) : Type 0 where
-  pub exactly : (given : List ℕ) (P : Problem) (S : Single) → EngineWrote given P kept → parse-single problem ≡ ok S → P .symbols ≡ S .symbols →
-      kind-in r ≡ 1 → ((value-in r ≡ 1) ↔ Leads P S) × ((value-in r ≡ 2) ↔ (Leads P S → ⊥))
+  pub exactly : (w : EngineWrote problem kept) → kind-in r ≡ 1 →
+      ((value-in r ≡ 1) ↔ Leads (w .theory) (w .asked)) × ((value-in r ≡ 2) ↔ (Leads (w .theory) (w .asked) → ⊥))

@@ -16,7 +16,7 @@ use Rattle.problem.proofs.Reading.{from-bind, ok-injective, no-ok}
 use Rattle.rewriting.specs.Overlap.{Rule}
 use Rattle.rewriting.specs.Rewrite.{End, complete, neither-above, spent, too-large, rules-full, log-full, end-number, normalise-pair}
 use Rattle.completion.specs.Turn.{run}
-use Rattle.completion.specs.Calls.{result-bytes, complete-call, Single, parse-single}
+use Rattle.completion.specs.Calls.{result-bytes, complete-call, Single}
 use Rattle.completion.specs.Keeps.{RulesKeep}
 use Rattle.completion.specs.Delivery.{Replacement, Many, Last}
 use Rattle.completion.specs.Decides.{Decides}
@@ -47,11 +47,16 @@ unfolding all-above rules-at RulesKeep _>>=_ refuse-if
 keep-above Σ at before [] h = refl
 keep-above Σ at before (r ∷ rules) h = rw (h .0 .down) (keep-above Σ _ (r .number) rules (h .1))
 
-module _ (problem kept given : List ℕ) (P : Problem) (S : Single) (w : EngineWrote given P kept) (is-single : parse-single problem ≡ ok S)
-    (same-symbols : P .symbols ≡ S .symbols) where
+module _ (problem kept : List ℕ) (w : EngineWrote problem kept) where
+  abbrev P : Problem
+  P = w .theory
+
+  abbrev S : Single
+  S = w .asked
+
   promise : Promise P kept
   unfolding Delivers
-  promise = promised given (w .buffer) kept (w .written) P (w .parsed)
+  promise = promised (w .given) (w .buffer) kept (w .written) P (w .is-theory)
 
   -- the equations lead from one side to the other
   abbrev Led : List Symbol → Pair → Type 0
@@ -59,10 +64,10 @@ module _ (problem kept given : List ℕ) (P : Problem) (S : Single) (w : EngineW
 
   module _ (q : Question) (k : Asked problem kept q) where
     single-is : k .single ≡ S
-    single-is = ok-injective (sym (k .is-single) ∙ is-single)
+    single-is = ok-injective (sym (k .is-single) ∙ w .is-asked)
 
     asked-symbols : q .symbols ≡ P .symbols
-    asked-symbols = k .symbols-are ∙ ap (λ (S : Single). S .symbols) single-is ∙ sym same-symbols
+    asked-symbols = k .symbols-are ∙ ap (λ (S : Single). S .symbols) single-is ∙ sym (w .same-symbols)
 
     asked-sides : q .sides ≡ S .equation .sides
     asked-sides = k .sides-are ∙ ap (λ (S : Single). S .equation .sides) single-is
@@ -111,27 +116,27 @@ module _ (problem kept given : List ℕ) (P : Problem) (S : Single) (w : EngineW
   kept-is =
       from-bind _ _ kept (w .written) λ _ _ e.
       from-bind _ _ kept e λ Q b e.
-      sym (ok-injective e) ∙ ap (λ (Q : Problem). result-bytes (run Q)) (ok-injective (sym b ∙ w .parsed))
+      sym (ok-injective e) ∙ ap (λ (Q : Problem). result-bytes (run Q)) (ok-injective (sym b ∙ w .is-theory))
 
   abbrev rules-left : List RuleAt
   rules-left = rules-at 11 (run P .state .rules)
 
   record-read : read-record (S .symbols) kept ≡ ok (record { end = end-number (run P .end); units = run P .units; rules = rules-left })
   record-read =
-      ap₂ read-record (sym same-symbols) kept-is
-      ∙ record-back (P .symbols) (accepts given P (w .parsed) .symbols-few) (run P) (promise .keeps)
+      ap₂ read-record (sym (w .same-symbols)) kept-is
+      ∙ record-back (P .symbols) (accepts (w .given) P (w .is-theory) .symbols-few) (run P) (promise .keeps)
 
   above-passed : all-above (S .symbols) rules-left ≡ ok tt
-  above-passed = ap (λ Σ. all-above Σ rules-left) (sym same-symbols) ∙ keep-above (P .symbols) 11 0 (run P .state .rules) (promise .keeps .rules-keep)
+  above-passed = ap (λ Σ. all-above Σ rules-left) (sym (w .same-symbols)) ∙ keep-above (P .symbols) 11 0 (run P .state .rules) (promise .keeps .rules-keep)
 
   when-complete : eqb (end-number (run P .end)) 0 ≡ true →
       decide-call problem kept ≡ ok (answer (normalise-pair (rules-of rules-left) (S .equation .sides) (S .budget)))
   unfolding decide-call read-question _>>=_ refuse-if
-  when-complete z = rw is-single (rw record-read (rw z (rw above-passed refl)))
+  when-complete z = rw (w .is-asked) (rw record-read (rw z (rw above-passed refl)))
 
   when-not : eqb (end-number (run P .end)) 0 ≡ false → decide-call problem kept ≡ refused not-complete 0
   unfolding decide-call read-question _>>=_ refuse-if
-  when-not z = rw is-single (rw record-read (rw z refl))
+  when-not z = rw (w .is-asked) (rw record-read (rw z refl))
 
   -- 13 and 15 are not given, and 14 as the run's end says
   record ByEnd (r : Reading Answer) : Type 0 where
@@ -156,14 +161,10 @@ module _ (problem kept given : List ℕ) (P : Problem) (S : Single) (w : EngineW
   engine-end = by-end _ refl (zero-end (run P .end))
 
 pub about-equations : (problem kept : List ℕ) → AboutEquations problem kept (decide-call problem kept)
-about-equations problem kept = record { exactly = λ given P S w p e. equations-exactly problem kept given P S w p e }
+about-equations problem kept = record { exactly = λ w. equations-exactly problem kept w }
 
 pub not-refused : (problem kept : List ℕ) → NotRefused problem kept (decide-call problem kept)
-not-refused problem kept =
-    record {
-      never = λ given P S w p e. engine-end problem kept given P S w p e .never;
-      unfinished = λ given P S w p e. engine-end problem kept given P S w p e .unfinished;
-    }
+not-refused problem kept = record { never = λ w. engine-end problem kept w .never; unfinished = λ w. engine-end problem kept w .unfinished }
 
 -- What `decide` promises of an answer that is the definition's.
 pub laws : (problem kept : List ℕ) (r : Reading Answer) → r ≡ decide-call problem kept →

@@ -43,25 +43,29 @@ pub record AboutRules (problem kept : List ℕ) (r : Reading Answer) : Type 0 wh
   pub different : (q : Question) → read-question problem kept ≡ ok q → r ≡ ok are-different → TwoLasts q
   pub numbers : (n : ℕ) → r ≡ ok (numbered n) → (n ≡ 21) ⊎ (n ≡ 22)
 
--- "a record that the engine wrote" for the problem P, whose bytes are these: complete left it in a result buffer of some length [18.15]
-pub record EngineWrote (given : List ℕ) (P : Problem) (kept : List ℕ) : Type 0 where
-  pub parsed : parse given ≡ ok P
+-- "a record that the engine wrote .. for the same symbol field": complete left it in a result buffer of some length for a problem, `given`, that has the
+-- symbols of the asked one [18.15]
+pub record EngineWrote (problem kept : List ℕ) : Type 0 where
+  pub given : List ℕ
   pub buffer : ℕ
   pub written : complete-call given buffer ≡ ok kept
+  pub theory : Problem
+  pub is-theory : parse given ≡ ok theory
+  pub asked : Single
+  pub is-asked : parse-single problem ≡ ok asked
+  pub same-symbols : theory .symbols ≡ asked .symbols
 
--- the buyer's equations lead from one side of the asked equation to the other
+-- "the buyer's equations" lead from one side of the asked equation to the other
 abbrev pub Leads : Problem → Single → Type 0
 Leads P S = Many (Replacement (P .symbols) (P .equations)) (S .equation .sides .left) (S .equation .sides .right)
 
 -- "For a record that the engine wrote with end 0 for the same symbol field, "same" and "different" are right about the buyer's equations." That the
 -- end is 0 need not be said: with another one the answer is 14. [18.15]
 pub record AboutEquations (problem kept : List ℕ) (r : Reading Answer) : Type 0 where
-  pub exactly : (given : List ℕ) (P : Problem) (S : Single) → EngineWrote given P kept → parse-single problem ≡ ok S → P .symbols ≡ S .symbols →
-      (r ≡ ok are-same) ⊎ (r ≡ ok are-different) → ((r ≡ ok are-same) ↔ Leads P S) × ((r ≡ ok are-different) ↔ (Leads P S → ⊥))
+  pub exactly : (w : EngineWrote problem kept) → (r ≡ ok are-same) ⊎ (r ≡ ok are-different) →
+      ((r ≡ ok are-same) ↔ Leads (w .theory) (w .asked)) × ((r ≡ ok are-different) ↔ (Leads (w .theory) (w .asked) → ⊥))
 
--- A record that complete wrote for the same symbol field is not refused with 13 or 15, and with 14 exactly if the run did not end with 0. [18.16]
+-- Such a record is not refused with 13 or 15, and with 14 exactly if the run did not end with 0. [18.16]
 pub record NotRefused (problem kept : List ℕ) (r : Reading Answer) : Type 0 where
-  pub never : (given : List ℕ) (P : Problem) (S : Single) → EngineWrote given P kept → parse-single problem ≡ ok S → P .symbols ≡ S .symbols →
-      (place : ℕ) → (r ≡ refused wrong-record place → ⊥) × (r ≡ refused not-above place → ⊥)
-  pub unfinished : (given : List ℕ) (P : Problem) (S : Single) → EngineWrote given P kept → parse-single problem ≡ ok S → P .symbols ≡ S .symbols →
-      (r ≡ refused not-complete 0) ↔ (run P .end ≡ complete → ⊥)
+  pub never : EngineWrote problem kept → (place : ℕ) → (r ≡ refused wrong-record place → ⊥) × (r ≡ refused not-above place → ⊥)
+  pub unfinished : (w : EngineWrote problem kept) → (r ≡ refused not-complete 0) ↔ (run (w .theory) .end ≡ complete → ⊥)
