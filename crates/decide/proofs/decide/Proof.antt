@@ -1,7 +1,9 @@
 -- `decide`: the problem is refused, or the rest is `ask`; the laws of the answer are those of the definition's. Assumes nothing.
 -- Read first: specs/Answers, proofs/Questions, proofs/Answering (laws).
 use mathlib.Core.Path.{subst}
+use Prim.Native.Nat.{ℕ, _≤_}
 use native.Mathlib.Omega.{arith}
+use lib.ListN.{length}
 use Rattle.only_equation.specs.Places.{IsSides}
 use Rattle.only_equation.specs.declared.Equation.the-variants.{At}
 use Rattle.only_equation.proofs.Singles.{in-order}
@@ -19,39 +21,27 @@ sides-of-table-end at = search depth 0
 abbrev entry-of-sides : tie.After-sides → tie.Start
 entry-of-sides at = search depth 0
 
--- the equation that was found, and the order of its places
+-- the equation that was found: the table's end, and where its sides begin and end
+abbrev table-end : tie.After-table-end → ℕ
+table-end at = at .table-end .given .0 .0
+
+abbrev left : tie.After-table-end → ℕ
+left at = at .table-end .given .0 .1 .0
+
+abbrev right : tie.After-table-end → ℕ
+right at = at .table-end .given .0 .1 .1 .0
+
+abbrev end : tie.After-table-end → ℕ
+end at = at .table-end .given .0 .1 .1 .1 .0
 
 found : (at : tie.After-table-end) → IsSides (entry-of-sides (sides-of-table-end at) .args .problem .now)
-    (At (at .table-end .given .0 .0) (at .table-end .given .0 .1 .0) (at .table-end .given .0 .1 .1 .0) (at .table-end .given .0 .1 .1 .1 .0)
-    (at .table-end .given .0 .1 .1 .1 .1 .0))
+    (At (table-end at) (left at) (right at) (end at) (at .table-end .given .0 .1 .1 .1 .1 .0))
 found at = subst (IsSides _) (at .table-end .given .1) (sides-of-table-end at .sides .ensures)
 
-sub-ask : tie.Need-sub-ask
-sub-ask c = let at-table-end : tie.After-table-end = search depth 0 in omega (arith, in-order _ _ _ _ _ _ (found at-table-end .1))
-
-part-ask-start : tie.Need-part-ask-start
-part-ask-start c = let at-table-end : tie.After-table-end = search depth 0 in omega (arith, in-order _ _ _ _ _ _ (found at-table-end .1))
-
-part-ask-end : tie.Need-part-ask-end
-part-ask-end c = let at-table-end : tie.After-table-end = search depth 0 in omega (arith, in-order _ _ _ _ _ _ (found at-table-end .1))
-
-sub-ask-2 : tie.Need-sub-ask-2
-sub-ask-2 c = let at-table-end : tie.After-table-end = search depth 0 in omega (arith, in-order _ _ _ _ _ _ (found at-table-end .1))
-
-part-ask-start-2 : tie.Need-part-ask-start-2
-part-ask-start-2 c = let at-table-end : tie.After-table-end = search depth 0 in omega (arith, in-order _ _ _ _ _ _ (found at-table-end .1))
-
-part-ask-end-2 : tie.Need-part-ask-end-2
-part-ask-end-2 c = let at-table-end : tie.After-table-end = search depth 0 in omega (arith, in-order _ _ _ _ _ _ (found at-table-end .1))
-
-sub-ask-3 : tie.Need-sub-ask-3
-sub-ask-3 c = let at-table-end : tie.After-table-end = search depth 0 in omega (arith, in-order _ _ _ _ _ _ (found at-table-end .1))
-
-part-ask-start-3 : tie.Need-part-ask-start-3
-part-ask-start-3 c = let at-table-end : tie.After-table-end = search depth 0 in omega (arith, in-order _ _ _ _ _ _ (found at-table-end .1))
-
-part-ask-end-3 : tie.Need-part-ask-end-3
-part-ask-end-3 c = let at-table-end : tie.After-table-end = search depth 0 in omega (arith, in-order _ _ _ _ _ _ (found at-table-end .1))
+-- the parts that are lent stand in the problem, one behind the other
+order : (at : tie.After-table-end) → (3 ≤ table-end at) × (table-end at ≤ length (entry-of-sides (sides-of-table-end at) .args .problem .now))
+    × (left at ≤ right at) × (right at ≤ end at) × (end at ≤ length (entry-of-sides (sides-of-table-end at) .args .problem .now))
+order at = let o = in-order _ _ _ _ _ _ (found at .1) in (o .0, o .1, o .2, o .3, o .4)
 
 cast-ask : tie.Need-cast-ask
 cast-ask c =
@@ -83,5 +73,8 @@ returns-2 c =
 pub decide-spec : {M : Type 1} → statement M
 decide-spec =
     tie.close (tie.spec
-    (λ c κs. search needs) (λ c. search needs) (λ c. search needs) sub-ask part-ask-start part-ask-end sub-ask-2 part-ask-start-2 part-ask-end-2
-    sub-ask-3 part-ask-start-3 part-ask-end-3 cast-ask ask-requires returns returns-2)
+    (λ c κs. search needs) (λ c. search needs) (λ c. search needs)
+    (λ c. omega (arith, order (search depth 0))) (λ c. omega (arith, order (search depth 0))) (λ c. omega (arith, order (search depth 0)))
+    (λ c. omega (arith, order (search depth 0))) (λ c. omega (arith, order (search depth 0))) (λ c. omega (arith, order (search depth 0)))
+    (λ c. omega (arith, order (search depth 0))) (λ c. omega (arith, order (search depth 0))) (λ c. omega (arith, order (search depth 0)))
+    cast-ask ask-requires returns returns-2)
