@@ -1,0 +1,165 @@
+-- The term that is handed back is not above the other, and it is empty exactly if the lent bytes are refused. Assumes nothing.
+-- Read first: specs/Lower, proofs/Wholes.
+use mathlib.Core.Path.{_≡_, refl, ap, sym, _∙_}
+use mathlib.Core.Bool.{Bool, true, false, false≢true, not, _||_}
+use mathlib.Core.List.{List, [], _∷_}
+use mathlib.Core.Option.{Option, none, some}
+use Prim.Native.Nat.{ℕ, _≤_}
+use native.Mathlib.Omega.{arith}
+use lib.Dec.{eqb}
+use lib.ListN.{length}
+use denote.Ref.{RefT}
+use borrow.Author.Tests.{ne-eqb}
+use Rattle.terms.specs.Base.{if_then_else_, is-some}
+use Rattle.terms.specs.Term.{Term}
+use Rattle.order.specs.Order.{above}
+use Rattle.order.specs.Walk.{IsAbove}
+use Rattle.order.proofs.Decide.{above-dec}
+use Rattle.order.proofs.Trans.{above-trans}
+use Rattle.order.proofs.WellFounded.{above-irrefl}
+use Rattle.reading.specs.Answers.{symbols-of, Table}
+use Rattle.reading.proofs.Reading.{from-bind, no-ok}
+use Rattle.problem.specs.Problem.{ok, Symbol, rank-of, read-term, read-side}
+use Rattle.problem.proofs.Ranks.{ranks-are}
+use Rattle.lower.specs.Lower.{whole-table, whole-term, lower-of, lower-over, which, bytes-of, lower-call, place-of, lower-refused}
+use Rattle.lower.specs.declared.Which.{Which}
+use Rattle.lower.specs.declared.Which.the-variants.{First, Second, Neither}
+use Rattle.lower.proofs.Wholes.{from-whole, alone}
+
+-- `lower_over`
+module _ (Σ : List Symbol) where
+  pub no-first : (o p : Option Term) → false ≡ is-some o → Neither ≡ lower-of Σ o p
+  unfolding lower-of is-some
+  no-first none p h = refl
+  no-first (some x) p h = absurd (false≢true h)
+
+  pub no-second : (o p : Option Term) → false ≡ is-some p → Neither ≡ lower-of Σ o p
+  unfolding lower-of is-some
+  no-second none p h = refl
+  no-second (some x) none h = refl
+  no-second (some x) (some y) h = absurd (false≢true h)
+
+module _ (tab : List ℕ) (T : Table tab) where
+  pub few : (t : List ℕ) → true ≡ is-some (whole-term (symbols-of tab) t) → length t ≤ 65_536
+  unfolding is-some
+  few t h = go (whole-term (symbols-of tab) t) refl
+    where
+      go : (o : Option Term) → whole-term (symbols-of tab) t ≡ o → length t ≤ 65_536
+      go none e = absurd (false≢true (sym (h ∙ ap is-some e)))
+      go (some x) e = omega (arith, alone tab T t x e .short)
+
+  -- both are whole terms: the order decides
+  module _ (f g : List ℕ) (h : true ≡ is-some (whole-term (symbols-of tab) f)) (k : true ≡ is-some (whole-term (symbols-of tab) g)) where
+    abbrev Lower : Which
+    Lower = lower-of (symbols-of tab) (whole-term (symbols-of tab) f) (whole-term (symbols-of tab) g)
+
+    both : (b : Bool) → IsAbove tab f g b → (if b then Second else First) ≡ Lower
+    unfolding lower-of is-some
+    both b a = go (whole-term (symbols-of tab) f) refl (whole-term (symbols-of tab) g) refl
+      where
+        go : (o : Option Term) → whole-term (symbols-of tab) f ≡ o → (p : Option Term) → whole-term (symbols-of tab) g ≡ p →
+            (if b then Second else First) ≡ Lower
+        go none e p q = absurd (false≢true (sym (h ∙ ap is-some e)))
+        go (some x) e none q = absurd (false≢true (sym (k ∙ ap is-some q)))
+        go (some x) e (some y) q =
+            let z : b ≡ above (rank-of (symbols-of tab)) x y =
+            a x y (alone tab T f x e .starts) (alone tab T g y q .starts) ∙ ap (λ (r : ℕ → ℕ). above r x y) (sym (ranks-are tab T)) in
+            rw (e, q, z) refl
+
+    pub second-lower : IsAbove tab f g true → Second ≡ Lower
+    unfolding if_then_else_
+    second-lower a = both true a
+
+    pub first-lower : IsAbove tab f g false → First ≡ Lower
+    unfolding if_then_else_
+    first-lower a = both false a
+
+-- no two terms are above each other
+never-both : (rank : ℕ → ℕ) (s t : Term) → above rank s t ≡ true → (b : Bool) → above rank t s ≡ b → b ≡ false
+never-both rank s t e false h = refl
+never-both rank s t e true h = absurd (above-irrefl rank (above-trans rank (above-dec rank s t .0 e) (above-dec rank t s .0 h)))
+
+-- "the lower": the one that is handed back is not above the other
+abbrev pub NotAbove : List Symbol → Term → Term → Which → Type 0
+NotAbove Σ s t First = above (rank-of Σ) s t ≡ false
+NotAbove Σ s t Second = above (rank-of Σ) t s ≡ false
+NotAbove Σ s t Neither = ⊥
+
+pub not-above : (Σ : List Symbol) (s t : Term) → NotAbove Σ s t (lower-of Σ (some s) (some t))
+unfolding lower-of if_then_else_
+not-above Σ s t = go (above (rank-of Σ) s t) refl
+  where
+    go : (b : Bool) → above (rank-of Σ) s t ≡ b → NotAbove Σ s t (lower-of Σ (some s) (some t))
+    go true e = rw (e, lower-of) (never-both (rank-of Σ) s t e _ refl)
+    go false e = rw (e, lower-of) e
+
+-- a term has at least a byte
+some-bytes : (Σ : List Symbol) (t : List ℕ) (x : Term) → whole-term Σ t ≡ some x → eqb (length t) 0 ≡ false
+unfolding read-side read-term
+some-bytes Σ [] x h = absurd (let r = from-whole _ x h in from-bind _ _ _ (r .read) λ p e _. no-ok e)
+some-bytes Σ (b ∷ t) x h = ne-eqb (length (b ∷ t)) 0 (λ z. absurd (omega arith))
+
+-- "The part is empty exactly if" the lent bytes are refused.
+module _ (first second : List ℕ) where
+  abbrev Refused-over : List Symbol → Bool
+  Refused-over Σ = not (is-some (whole-term Σ first)) || not (is-some (whole-term Σ second))
+
+  over-refused : (Σ : List Symbol) → eqb (length (bytes-of (lower-of Σ (whole-term Σ first) (whole-term Σ second)) first second)) 0 ≡ Refused-over Σ
+  unfolding lower-of bytes-of is-some if_then_else_
+  over-refused Σ = go (whole-term Σ first) refl (whole-term Σ second) refl
+    where
+      two : (x y : Term) → whole-term Σ first ≡ some x → whole-term Σ second ≡ some y → (b : Bool) →
+          eqb (length (bytes-of (if b then Second else First) first second)) 0 ≡ false
+      two x y e q true = some-bytes Σ second y q
+      two x y e q false = some-bytes Σ first x e
+
+      go : (o : Option Term) → whole-term Σ first ≡ o → (p : Option Term) → whole-term Σ second ≡ p →
+          eqb (length (bytes-of (lower-of Σ (whole-term Σ first) (whole-term Σ second)) first second)) 0 ≡ Refused-over Σ
+      go none e p q = rw (e, lower-of) refl
+      go (some x) e none q = rw (e, q, lower-of) refl
+      go (some x) e (some y) q = rw (e, q, lower-of) (two x y e q (above (rank-of Σ) x y))
+
+  pub empty-refused : (symbols : List ℕ) → eqb (length (lower-call symbols first second)) 0 ≡ lower-refused symbols first second
+  unfolding lower-call lower-refused which lower-over bytes-of
+  empty-refused symbols = go (whole-table symbols) refl
+    where
+      go : (o : Option (List Symbol)) → whole-table symbols ≡ o → eqb (length (lower-call symbols first second)) 0 ≡ lower-refused symbols first second
+      go none e = rw (e, lower-call, lower-refused, which) refl
+      go (some Σ) e = rw (e, lower-call, lower-refused, which) (over-refused Σ)
+
+-- `choose`
+module _ (symbols first second : List ℕ) where
+  pub no-symbols : whole-table symbols ≡ none → Neither ≡ which symbols first second
+  unfolding which lower-over
+  no-symbols h = sym (ap (λ (o : Option (List Symbol)). lower-over o first second) h)
+
+  pub over-symbols : (Σ : List Symbol) (w : Which) → whole-table symbols ≡ some Σ → w ≡ lower-of Σ (whole-term Σ first) (whole-term Σ second) →
+      w ≡ which symbols first second
+  unfolding which lower-over
+  over-symbols Σ w h k = k ∙ sym (ap (λ (o : Option (List Symbol)). lower-over o first second) h)
+
+-- `lower`: the bytes, the place and the emptiness of the part, where one of the three is chosen
+module _ (symbols : List ℕ) (first second : RefT (List ℕ)) where
+  abbrev Handed : List ℕ → ℕ × ℕ → Type 0
+  Handed bytes place =
+      (bytes ≡ lower-call symbols (first .now) (second .now)) × ((place ≡ place-of (which symbols (first .now) (second .now)) first second)
+      × (eqb (length bytes) 0 ≡ lower-refused symbols (first .now) (second .now)))
+
+  handed : (w : Which) → w ≡ which symbols (first .now) (second .now) → Handed (bytes-of w (first .now) (second .now)) (place-of w first second)
+  unfolding lower-call
+  handed w h =
+      let z : bytes-of w (first .now) (second .now) ≡ lower-call symbols (first .now) (second .now) = ap (λ (v : Which). bytes-of v (first .now) (second .now)) h in
+      (z, (ap (λ (v : Which). place-of v first second) h, ap (λ (m : List ℕ). eqb (length m) 0) z ∙ empty-refused (first .now) (second .now) symbols))
+
+  pub first-handed : First ≡ which symbols (first .now) (second .now) → Handed (first .now) (first .ptr)
+  unfolding bytes-of place-of
+  first-handed h = handed First h
+
+  pub second-handed : Second ≡ which symbols (first .now) (second .now) → Handed (second .now) (second .ptr)
+  unfolding bytes-of place-of
+  second-handed h = handed Second h
+
+  pub none-handed : (block place : ℕ) → block ≡ first .ptr .0 → place ≡ first .ptr .1 → Neither ≡ which symbols (first .now) (second .now) →
+      Handed [] (block, place)
+  unfolding bytes-of place-of
+  none-handed block place b p h = rw (b, p) (handed Neither h)
