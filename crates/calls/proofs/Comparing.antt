@@ -14,7 +14,7 @@ use Rattle.order.specs.Walk.{rank, IsCompared}
 use Rattle.problem.specs.Problem.{ok, refused, Symbol, rank-of}
 use Rattle.reading.proofs.Reading.{bind-ok, bind-refused}
 use Rattle.completion.specs.Calls.{Single, parse-single, compare-call}
-use Rattle.problem.proofs.Ranks.{ranks-are}
+use Rattle.completion.proofs.Ranks.{ranks-are}
 use Rattle.only_equation.specs.Places.{table, left-side, right-side, SidesAt}
 use Rattle.calls.specs.Answers.{compared-told}
 use Rattle.calls.specs.declared.Compared.{Compared}

@@ -10,6 +10,8 @@ use Rattle.completion.specs.Calls.{Part}
 use Rattle.completion.specs.Promise.{Delivers}
 use Rattle.decide.specs.Decide.{Answer, are-same, are-different, numbered}
 use Rattle.decide.specs.Answers.{EngineWrote, Leads}
+use Rattle.lower.specs.declared.Which.{Which}
+use Rattle.lower.specs.declared.Which.the-variants.{First, Second, Neither}
 use Rattle.calls.specs.Answers.{Returned, bytes-written, none-common, number-only, number-and-place}
 
 -- [15.1]
@@ -36,6 +38,12 @@ decide-code (ok are-same) = code 1 0 1
 decide-code (ok are-different) = code 1 0 2
 decide-code (ok (numbered n)) = code 3 n 0
 decide-code (refused n at) = code 0 n at
+
+-- lower: 1 for the first, 2 for the second, 0 for a refusal [15.8]
+unfoldable pub lower-code : Which → ℕ
+lower-code First = 1
+lower-code Second = 2
+lower-code Neither = 0
 
 -- subterm: the part's first byte times 2 ^ 32, and how many bytes it has [15.4]
 unfoldable pub part-code : Part → ℕ

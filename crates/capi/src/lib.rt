@@ -1,12 +1,14 @@
 // The public calls for C: a slice is a pointer and a length, an answer is one number.
 ghost use mathlib.Core.Path.{_≡_};
 ghost use Prim.Native.Nat.{_≤_};
+ghost use lib.Dec.{eqb};
 ghost use lib.ListN.{length};
 ghost use Rattle.completion.specs.Calls.{complete-call, compare-call, unify-call, subterm-part, after-complete, after-unify};
 ghost use Rattle.complete.specs.Answer.{counted};
 ghost use Rattle.calls.specs.Answers.{unify-returns};
 ghost use Rattle.decide.specs.Decide.{decide-call};
-ghost use Rattle.capi.specs.Codes.{code, answer-code, unify-code, decide-code, part-code, CodeDelivers, CodeDecides};
+ghost use Rattle.lower.specs.Lower.{which, lower-refused};
+ghost use Rattle.capi.specs.Codes.{code, answer-code, unify-code, decide-code, lower-code, part-code, CodeDelivers, CodeDecides};
 
 fn code(kind: u64, number: u8, value: usize) -> u64
     requires { ⌜ kind ≤ 3 ⌝ }
@@ -63,6 +65,19 @@ pub extern "C" fn vb_decide(problem: &[u8], kept: &[u8]) -> u64
         decide::Decided::Spent => code(3, rewriting::number(rewriting::End::Spent), 0),
         decide::Decided::TooLarge => code(3, rewriting::number(rewriting::End::TooLarge), 0),
         decide::Decided::Refused { number, place } => code(0, number, place),
+    }
+}
+
+// The caller has both terms: which one it is says what the part would.
+#[no_mangle]
+pub extern "C" fn vb_lower(symbols: &[u8], first: &[u8], second: &[u8]) -> u64
+    ensures { λ r. ⌜ r ≡ lower-code (which (now (symbols .entry)) (now (first .entry)) (now (second .entry))) ⌝ }
+    ensures refused { λ r. ⌜ eqb r 0 ≡ lower-refused (now (symbols .entry)) (now (first .entry)) (now (second .entry)) ⌝ }
+{
+    match lower::choose(symbols, first, second) {
+        lower::Which::Neither => 0,
+        lower::Which::First => 1,
+        lower::Which::Second => 2,
     }
 }
 

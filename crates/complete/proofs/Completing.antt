@@ -14,7 +14,7 @@ use Rattle.completion.specs.Turn.{run}
 use Rattle.completion.specs.Calls.{result-bytes, enough, complete-call, after-complete, Writes}
 use Rattle.report.specs.Report.{Reports}
 use Rattle.completion.proofs.Accepts.{accepts}
-use Rattle.problem.proofs.Ranks.{ranks-are}
+use Rattle.completion.proofs.Ranks.{ranks-are}
 use Rattle.completion.proofs.Writing.{complete-is}
 use Rattle.slots.specs.declared.Pairs.{Pairs}
 use Rattle.inputs.specs.Inputs.{InputsRead}

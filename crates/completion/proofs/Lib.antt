@@ -28,6 +28,7 @@ pub mod Capacity
 pub mod Steady
 pub mod Raised
 pub mod Ledger
+pub mod Ranks
 pub mod Clauses
 pub mod Writing
 pub mod ReadBack

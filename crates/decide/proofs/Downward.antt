@@ -15,7 +15,7 @@ use Rattle.order.specs.Walk.{IsAbove}
 use Rattle.reading.specs.Answers.{symbols-of, Table}
 use Rattle.problem.specs.Problem.{Reading, ok, refused, _>>=_, refuse-if, rank-of}
 use Rattle.rewriting.specs.Overlap.{Rule, sides-of}
-use Rattle.problem.proofs.Ranks.{ranks-are}
+use Rattle.completion.proofs.Ranks.{ranks-are}
 use Rattle.slots.specs.Slots.{slot, left-of, right-of, AllFrom, PairAt, Stored}
 use Rattle.record.specs.Reader.{rules-at}
 use Rattle.decide.specs.Decide.{all-above}

@@ -20,8 +20,8 @@ use Rattle.order.proofs.WellFounded.{above-irrefl}
 use Rattle.reading.specs.Answers.{symbols-of, Table}
 use Rattle.reading.proofs.Reading.{from-bind, no-ok}
 use Rattle.problem.specs.Problem.{ok, Symbol, rank-of, read-term, read-side}
-use Rattle.problem.proofs.Ranks.{ranks-are}
-use Rattle.lower.specs.Lower.{whole-table, whole-term, lower-of, lower-over, which, bytes-of, lower-call, place-of, lower-refused}
+use Rattle.completion.proofs.Ranks.{ranks-are}
+use Rattle.lower.specs.Lower.{whole-table, whole-term, lower-of, which, bytes-of, lower-call, place-of, lower-refused}
 use Rattle.lower.specs.declared.Which.{Which}
 use Rattle.lower.specs.declared.Which.the-variants.{First, Second, Neither}
 use Rattle.lower.proofs.Wholes.{from-whole, alone}
@@ -99,44 +99,55 @@ unfolding read-side read-term
 some-bytes Σ [] x h = absurd (let r = from-whole _ x h in from-bind _ _ _ (r .read) λ p e _. no-ok e)
 some-bytes Σ (b ∷ t) x h = ne-eqb (length (b ∷ t)) 0 (λ z. absurd (omega arith))
 
--- "The part is empty exactly if" the lent bytes are refused.
+-- Which one it is, and whether the lent bytes are refused: one of two parts that are not empty, or neither.
+pub data Choice (first second : List ℕ) : Which → Bool → Type 0 where
+  is-first : eqb (length first) 0 ≡ false → Choice first second First false
+  is-second : eqb (length second) 0 ≡ false → Choice first second Second false
+  is-refused : Choice first second Neither true
+
 module _ (first second : List ℕ) where
   abbrev Refused-over : List Symbol → Bool
   Refused-over Σ = not (is-some (whole-term Σ first)) || not (is-some (whole-term Σ second))
 
-  over-refused : (Σ : List Symbol) → eqb (length (bytes-of (lower-of Σ (whole-term Σ first) (whole-term Σ second)) first second)) 0 ≡ Refused-over Σ
-  unfolding lower-of bytes-of is-some if_then_else_
-  over-refused Σ = go (whole-term Σ first) refl (whole-term Σ second) refl
+  choice-over : (Σ : List Symbol) → Choice first second (lower-of Σ (whole-term Σ first) (whole-term Σ second)) (Refused-over Σ)
+  unfolding lower-of is-some if_then_else_
+  choice-over Σ = go (whole-term Σ first) refl (whole-term Σ second) refl
     where
-      two : (x y : Term) → whole-term Σ first ≡ some x → whole-term Σ second ≡ some y → (b : Bool) →
-          eqb (length (bytes-of (if b then Second else First) first second)) 0 ≡ false
-      two x y e q true = some-bytes Σ second y q
-      two x y e q false = some-bytes Σ first x e
+      two : (x y : Term) → whole-term Σ first ≡ some x → whole-term Σ second ≡ some y → (b : Bool) → Choice first second (if b then Second else First) false
+      two x y e q true = is-second (some-bytes Σ second y q)
+      two x y e q false = is-first (some-bytes Σ first x e)
 
       go : (o : Option Term) → whole-term Σ first ≡ o → (p : Option Term) → whole-term Σ second ≡ p →
-          eqb (length (bytes-of (lower-of Σ (whole-term Σ first) (whole-term Σ second)) first second)) 0 ≡ Refused-over Σ
-      go none e p q = rw (e, lower-of) refl
-      go (some x) e none q = rw (e, q, lower-of) refl
+          Choice first second (lower-of Σ (whole-term Σ first) (whole-term Σ second)) (Refused-over Σ)
+      go none e p q = rw (e, lower-of) is-refused
+      go (some x) e none q = rw (e, q, lower-of) is-refused
       go (some x) e (some y) q = rw (e, q, lower-of) (two x y e q (above (rank-of Σ) x y))
 
-  pub empty-refused : (symbols : List ℕ) → eqb (length (lower-call symbols first second)) 0 ≡ lower-refused symbols first second
-  unfolding lower-call lower-refused which lower-over bytes-of
-  empty-refused symbols = go (whole-table symbols) refl
+  pub choice : (symbols : List ℕ) → Choice first second (which symbols first second) (lower-refused symbols first second)
+  unfolding lower-refused which
+  choice symbols = go (whole-table symbols) refl
     where
-      go : (o : Option (List Symbol)) → whole-table symbols ≡ o → eqb (length (lower-call symbols first second)) 0 ≡ lower-refused symbols first second
-      go none e = rw (e, lower-call, lower-refused, which) refl
-      go (some Σ) e = rw (e, lower-call, lower-refused, which) (over-refused Σ)
+      go : (o : Option (List Symbol)) → whole-table symbols ≡ o → Choice first second (which symbols first second) (lower-refused symbols first second)
+      go none e = rw (e, lower-refused, which) is-refused
+      go (some Σ) e = rw (e, lower-refused, which) (choice-over Σ)
+
+  -- "The part is empty exactly if" the lent bytes are refused.
+  empty-if : (w : Which) (r : Bool) → Choice first second w r → eqb (length (bytes-of w first second)) 0 ≡ r
+  unfolding bytes-of
+  empty-if First false (is-first h) = h
+  empty-if Second false (is-second h) = h
+  empty-if Neither true is-refused = refl
 
 -- `choose`
 module _ (symbols first second : List ℕ) where
   pub no-symbols : whole-table symbols ≡ none → Neither ≡ which symbols first second
-  unfolding which lower-over
-  no-symbols h = sym (ap (λ (o : Option (List Symbol)). lower-over o first second) h)
+  unfolding which
+  no-symbols h = rw (h, which) refl
 
   pub over-symbols : (Σ : List Symbol) (w : Which) → whole-table symbols ≡ some Σ → w ≡ lower-of Σ (whole-term Σ first) (whole-term Σ second) →
       w ≡ which symbols first second
-  unfolding which lower-over
-  over-symbols Σ w h k = k ∙ sym (ap (λ (o : Option (List Symbol)). lower-over o first second) h)
+  unfolding which
+  over-symbols Σ w h k = rw (h, which) k
 
 -- `lower`: the bytes, the place and the emptiness of the part, where one of the three is chosen
 module _ (symbols : List ℕ) (first second : RefT (List ℕ)) where
@@ -149,7 +160,8 @@ module _ (symbols : List ℕ) (first second : RefT (List ℕ)) where
   unfolding lower-call
   handed w h =
       let z : bytes-of w (first .now) (second .now) ≡ lower-call symbols (first .now) (second .now) = ap (λ (v : Which). bytes-of v (first .now) (second .now)) h in
-      (z, (ap (λ (v : Which). place-of v first second) h, ap (λ (m : List ℕ). eqb (length m) 0) z ∙ empty-refused (first .now) (second .now) symbols))
+      let empty = empty-if (first .now) (second .now) _ _ (choice (first .now) (second .now) symbols) in
+      (z, (ap (λ (v : Which). place-of v first second) h, ap (λ (m : List ℕ). eqb (length m) 0) z ∙ empty))
 
   pub first-handed : First ≡ which symbols (first .now) (second .now) → Handed (first .now) (first .ptr)
   unfolding bytes-of place-of

@@ -38,12 +38,12 @@ lower-of Σ (some s) (some t) = if above (rank-of Σ) s t then Second else First
 lower-of Σ (some s) none = Neither
 lower-of Σ none t = Neither
 
-unfoldable pub lower-over : Option (List Symbol) → List ℕ → List ℕ → Which
-lower-over (some Σ) first second = lower-of Σ (whole-term Σ first) (whole-term Σ second)
-lower-over none first second = Neither
-
 unfoldable pub which : List ℕ → List ℕ → List ℕ → Which
-which symbols first second = lower-over (whole-table symbols) first second
+which symbols first second =
+    elim (whole-table symbols) [
+      | some Σ ↦ lower-of Σ (whole-term Σ first) (whole-term Σ second)
+      | none ↦ Neither
+    ]
 
 -- the bytes of the one that is handed back
 unfoldable pub bytes-of : Which → List ℕ → List ℕ → List ℕ

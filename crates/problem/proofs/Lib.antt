@@ -4,4 +4,3 @@ pub mod Pairs
 pub mod Parses
 pub mod Sides
 pub mod Laid
-pub mod Ranks
