@@ -31,17 +31,20 @@ above-requires c κs =
 
 returns : tie.Need-returns
 returns c =
+    let at-above : tie.After-above = search depth 0 in
     let in-then2 : tie.Then2 = search depth 0 in
     let in-then1 : tie.Then1 = search depth 0 in
     let entry : tie.Start = search depth 0 in
-    second-lower _ (entry .pre) _ _ (is-first in-then1) (is-second in-then2) (rw (c .if3 .taken) at (c .before .above .ensures))
+    second-lower _ (entry .pre) _ _ (is-first in-then1) (is-second in-then2) (rw (c .if3 .taken) at (at-above .above .ensures))
 
 returns-2 : tie.Need-returns-2
 returns-2 c =
+    let in-else3 : tie.Else3 = search depth 0 in
+    let at-above : tie.After-above = search depth 0 in
     let in-then2 : tie.Then2 = search depth 0 in
     let in-then1 : tie.Then1 = search depth 0 in
     let entry : tie.Start = search depth 0 in
-    first-lower _ (entry .pre) _ _ (is-first in-then1) (is-second in-then2) (rw (c .if3 .left) at (c .before .above .ensures))
+    first-lower _ (entry .pre) _ _ (is-first in-then1) (is-second in-then2) (rw (in-else3 .if3 .left) at (at-above .above .ensures))
 
 returns-3 : tie.Need-returns-3
 returns-3 c = no-second _ _ _ (sym (c .if2 .left) ∙ c .before .is-term2 .ensures)
