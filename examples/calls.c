@@ -1,5 +1,5 @@
 /* Asks each call about one problem: x + (0 + s(y)) and s(z) + (0 + x), instance 8 of document 01; and of the kept result of another one,
- * 0 + x = x, whether 0 + (0 + x) and 0 + x are the same.
+ * 0 + x = x, whether 0 + (0 + x) and 0 + x are the same, and which of these two is the lower.
  *
  *   rt staticlib capi
  *   gcc -Iinclude examples/calls.c target/staticlib/libcapi.a -o calls
@@ -54,5 +54,11 @@ int main(void) {
     printf("decide: kind %u, number %u, value %u\n", vb_kind(decided), vb_number(decided), vb_value(decided));
     uint64_t cut = vb_decide(question, sizeof question, result, vb_value(kept) - 1);
     printf("cut record: kind %u, number %u, value %u\n", vb_kind(cut), vb_number(cut), vb_value(cut));
+
+    const uint8_t *first = question + 19, *second = question + 24;
+    uint64_t lower = vb_lower(question, 9, first, 5, second, 3);
+    printf("lower: %u\n", (unsigned)lower);
+    if (lower != 0) print_bytes(lower == 1 ? first : second, lower == 1 ? 5 : 3);
+    printf("a byte behind the second: %u\n", (unsigned)vb_lower(question, 9, second, 3, first, 6));
     return 0;
 }

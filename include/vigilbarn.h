@@ -1,9 +1,10 @@
 /* The proved calls, from C. Each takes a problem: `problem_bytes` bytes at `problem` (docs/FORMAT.md). It reads no others,
- * changes none of them, keeps no pointer, and calls nothing of C. `vb_decide` is lent a record beside it, of which the same holds.
+ * changes none of them, keeps no pointer, and calls nothing of C. `vb_decide` is lent a record beside it, of which the same holds; `vb_lower` is lent no
+ * problem but three runs of bytes, of which the same holds. These may overlap.
  *
  * A pointer must be valid for as many bytes as its length says, and a result buffer may not overlap the problem.
  *
- * An answer is one number: a kind in the bits from 48 up, the number of a refusal or an end (docs/FORMAT.md) in bits 32 to 47, and a value in bits 0 to
+ * An answer, but for vb_subterm and vb_lower, is one number: a kind in the bits from 48 up, the number of a refusal or an end (docs/FORMAT.md) in bits 32 to 47, and a value in bits 0 to
  * 31. No part is ever cut off: numbers are at most 22, a refusal's place at most 8,192 (of vb_decide 16,384), counts at most 13,715 (proved:
  * crates/capi/proofs/Unpacked, Refusals and RecordRefusals).
  */
@@ -54,6 +55,11 @@ uint64_t vb_decide(const uint8_t *problem, size_t problem_bytes, const uint8_t *
 /* The part of the problem's bytes that is the subterm at a position of the left side of its one equation.
  * 0: refused. Else bits 32 to 63 are the place of the part's first byte, and bits 0 to 31 how many bytes it has, which is above 0. */
 uint64_t vb_subterm(const uint8_t *problem, size_t problem_bytes, size_t position);
+
+/* The lower of two terms in the path order, over the symbols of a field of tag 01 (docs/FORMAT.md): the second if the first is above it, else the first.
+ * Nothing is written, and nothing may stand behind the field or a term.
+ * 0: refused. 1: the first. 2: the second. */
+uint64_t vb_lower(const uint8_t *symbols, size_t symbols_bytes, const uint8_t *first, size_t first_bytes, const uint8_t *second, size_t second_bytes);
 
 #ifdef __cplusplus
 }

@@ -53,12 +53,35 @@ fn part(problem: &[u8], position: usize) {
     bytes(calls::subterm(problem, position));
 }
 
-// The answers of compare, unify and subterm at the first two positions.
+// The lower of the two sides; nothing where the problem is refused.
+fn lower_side(problem: &[u8]) {
+    print(b", lower ");
+    match only_equation::sides(problem) {
+        only_equation::Equation::Refused {
+            number: _,
+            place: _,
+        } => print(b"-"),
+        only_equation::Equation::At {
+            table_end,
+            left,
+            right,
+            end,
+            budget: _,
+        } => bytes(lower::lower(
+            &problem[0..table_end],
+            &problem[left..right],
+            &problem[right..end],
+        )),
+    }
+}
+
+// The answers of compare, unify, subterm at the first two positions, and lower.
 pub fn calls_on(problem: &[u8]) {
     compared(problem);
     unified(problem);
     part(problem, 0);
     part(problem, 1);
+    lower_side(problem);
 }
 
 // The answers of subterm at four more positions.

@@ -45,13 +45,15 @@ pub lowers :
     × (lower (x * y) (y * x) ≡ First)
     × (lower (y * x) (x * y) ≡ First)
     × (lower x y ≡ First)
+    × (lower y x ≡ First)
     × (lower x (i y) ≡ First)
+    × (lower (i y) x ≡ First)
     × (over one-rank a b ≡ First)
     × (over one-rank b a ≡ First)
     × (lower (i x) (i x) ≡ First)
     × (lower e e ≡ First)
 unfolding computes whole read-table lower-of which
-lowers = (refl, refl, refl, refl, refl, refl, refl, refl, refl, refl, refl, refl, refl, refl)
+lowers = (refl, refl, refl, refl, refl, refl, refl, refl, refl, refl, refl, refl, refl, refl, refl, refl)
 
 -- refused are: the field, over two terms that are fine
 abbrev under : List ℕ → Which

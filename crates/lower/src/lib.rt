@@ -51,7 +51,10 @@ pub fn choose(symbols: &[u8], first: &[u8], second: &[u8]) -> Which
     ensures { λ r. ⌜ r ≡ which (now (symbols .entry)) (now (first .entry)) (now (second .entry)) ⌝ }
 {
     match problem::symbols(symbols) {
-        problem::Read::Refused { number: _, place: _ } => Which::Neither,
+        problem::Read::Refused {
+            number: _,
+            place: _,
+        } => Which::Neither,
         problem::Read::Value(end) => {
             if end < symbols.len() {
                 return Which::Neither;
