@@ -1,7 +1,7 @@
 //! Knuth-Bendix completion with the lexicographic path order, on heap trees.
 //!
-//! Five calls (complete, compare, unify, subterm, decide) and the text of
-//! settle.
+//! Six calls (complete, compare, unify, subterm, decide, lower) and the text
+//! of settle.
 //! The engine shares no code with the verified library, so that comparing
 //! the two on many problems says something about both.
 
@@ -13,11 +13,13 @@ pub mod fixed;
 pub mod full_log;
 pub mod generate;
 pub mod kept;
+pub mod lower;
 pub mod matching;
 pub mod normalise;
 pub mod notation;
 pub mod order;
 pub mod overlap;
+pub mod pairs;
 pub mod problem;
 pub mod questions;
 pub mod record;
@@ -31,6 +33,7 @@ pub mod unification;
 pub use calls::{compare, complete, subterm, unify};
 pub use calls::{CompareAnswer, CompleteAnswer, UnifyAnswer};
 pub use decide::{decide, DecideAnswer};
+pub use lower::{lower, Which};
 pub use order::Order;
 pub use problem::Refusal;
 pub use settle::settle_text;

@@ -31,14 +31,8 @@ impl Theory {
 
     /// Adds an equation given as text.
     pub fn equation(mut self, text: &str) -> Theory {
-        let mut variables = Vec::new();
-        let mut bytes = Vec::new();
-        for name in text.split(['(', ')', ',', '=', ' ']) {
-            if !name.is_empty() {
-                bytes.push(self.byte(name, &mut variables));
-            }
-        }
-        self.equations.push(bytes);
+        let sides = self.nodes(text, &mut Vec::new());
+        self.equations.push(sides);
         self
     }
 
@@ -74,6 +68,18 @@ impl Theory {
         self.equations.clone()
     }
 
+    /// Two terms over the same variables, given as text, in byte form.
+    pub fn terms(&self, texts: [&str; 2]) -> [Vec<u8>; 2] {
+        let mut variables = Vec::new();
+        texts.map(|text| self.nodes(text, &mut variables))
+    }
+
+    fn nodes<'t>(&self, text: &'t str, variables: &mut Vec<&'t str>) -> Vec<u8> {
+        let names = text.split(['(', ')', ',', '=', ' ']);
+        let names = names.filter(|name| !name.is_empty());
+        names.map(|name| self.byte(name, variables)).collect()
+    }
+
     fn byte<'t>(&self, name: &'t str, variables: &mut Vec<&'t str>) -> u8 {
         if let Some(symbol) = self.symbols.iter().position(|(n, _, _)| n == name) {
             return symbol as u8;
@@ -86,14 +92,20 @@ impl Theory {
         0x80 + number as u8
     }
 
-    /// The problem's bytes.
-    pub fn problem(&self, budget: u32) -> Vec<u8> {
+    /// The bytes of the symbol field.
+    pub fn symbol_field(&self) -> Vec<u8> {
         let symbols = self
             .symbols
             .iter()
             .flat_map(|(_, arity, rank)| [*arity, *rank]);
         let mut out = Vec::new();
         push_field(&mut out, 1, &symbols.collect::<Vec<u8>>());
+        out
+    }
+
+    /// The problem's bytes.
+    pub fn problem(&self, budget: u32) -> Vec<u8> {
+        let mut out = self.symbol_field();
         push_field(&mut out, 2, &budget.to_be_bytes());
         for equation in &self.equations {
             push_field(&mut out, 3, equation);

@@ -162,7 +162,8 @@ fn open_due_field(bytes: &[u8], start: usize, due: u8) -> Result<Range<usize>, R
     open_field(bytes, start, due)
 }
 
-fn read_symbols(bytes: &[u8]) -> Result<(Signature, usize), Refusal> {
+/// Reads the symbol field at the front; gives its end too.
+pub(crate) fn read_symbols(bytes: &[u8]) -> Result<(Signature, usize), Refusal> {
     let contents = open_due_field(bytes, 0, TAG_SYMBOLS)?;
     if contents.is_empty() || contents.len() % 2 == 1 || contents.len() > MAX_SYMBOL_BYTES {
         return refuse(5, 0);
@@ -210,7 +211,7 @@ pub(crate) fn read_equation(
 }
 
 /// Reads one term at the front of the range, to its end, then tests its size.
-fn read_side(
+pub(crate) fn read_side(
     bytes: &[u8],
     range: Range<usize>,
     signature: &Signature,
