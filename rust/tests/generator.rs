@@ -4,11 +4,14 @@ mod common;
 
 use common::result_of;
 use kb_engine::generate::ranks::{ranks, Ranks};
-use kb_engine::generate::{self, damage, records};
+use kb_engine::generate::{self, damage, pairs, records};
+use kb_engine::lower::which;
+use kb_engine::pairs::Pair;
+use kb_engine::problem::Problem;
 use kb_engine::questions::Question;
 use kb_engine::{compare, complete, decide, subterm, unify};
-use kb_engine::{CompareAnswer, CompleteAnswer, DecideAnswer, UnifyAnswer};
-use kb_engine::{MAX_RECORD, MIN_RESULT};
+use kb_engine::{CompareAnswer, CompleteAnswer, DecideAnswer, UnifyAnswer, Which};
+use kb_engine::{MAX_NODES, MAX_RECORD, MIN_RESULT};
 use std::collections::BTreeSet;
 
 const COUNT: u64 = 12_000;
@@ -115,4 +118,94 @@ fn records_reach_every_family_and_length() {
     for length in [MAX_RECORD, MAX_RECORD + 1] {
         assert!(lengths.contains(&length), "{length}");
     }
+}
+
+/// Pairs of a seed, with their families.
+fn pairs_of(seed: u64) -> impl Iterator<Item = (&'static str, Pair)> {
+    (0..COUNT).map(move |index| (pairs::family(index), pairs::pair(seed, index)))
+}
+
+fn accepted(pair: &Pair) -> bool {
+    which(&pair.symbols, &pair.first, &pair.second) != Which::Refused
+}
+
+#[test]
+fn pairs_depend_on_seed_and_index_only() {
+    for index in 0..400 {
+        assert_eq!(pairs::pair(3, index), pairs::pair(3, index));
+    }
+    let differ = (0..400).filter(|i| pairs::pair(3, *i) != pairs::pair(4, *i));
+    assert!(differ.count() > 380);
+}
+
+/// Long slices are refused, other families accepted at times, and more than
+/// half of all pairs.
+#[test]
+fn pairs_reach_every_family_and_answer() {
+    let families: BTreeSet<_> = (0..pairs::SHARES).map(pairs::family).collect();
+    assert_eq!(families.len(), 11);
+    let mut seen = BTreeSet::new();
+    for (family, pair) in pairs_of(1) {
+        let answer = which(&pair.symbols, &pair.first, &pair.second);
+        seen.insert((family, format!("{answer:?}")));
+    }
+    let answers = |family| seen.iter().filter(|(f, _)| *f == family).count();
+    for family in families {
+        let expected = match family {
+            "long slices" => 1..=1,
+            "lowered term" | "unrelated terms" => 2..=2,
+            "related terms" | "sides of an equation" => 2..=3,
+            _ => 3..=3,
+        };
+        assert!(expected.contains(&answers(family)), "{family}");
+    }
+    let count = pairs_of(1).filter(|(_, pair)| accepted(pair)).count();
+    assert!(2 * count as u64 > COUNT, "{count}");
+}
+
+/// The numbers by which a symbol field by itself is refused; 4 at its end if
+/// it is good.
+#[test]
+fn damaged_fields_reach_every_refusal() {
+    let damaged = pairs_of(1).filter(|(family, _)| *family == "damaged field");
+    let fields = damaged.map(|(_, pair)| pair.symbols);
+    let refusals = fields.filter_map(|field| {
+        let refusal = Problem::read(&field).err()?;
+        Some((refusal.number, refusal.place == field.len()))
+    });
+    let seen: BTreeSet<(u8, bool)> = refusals.collect();
+    let all = [(3, false), (4, false), (4, true), (5, false), (6, false)];
+    assert!(all.iter().all(|refusal| seen.contains(refusal)), "{seen:?}");
+}
+
+#[test]
+fn pairs_reach_every_length() {
+    let mut accepted_lengths = BTreeSet::new();
+    let mut longest = [0; 3];
+    let mut over = 0;
+    for (_, pair) in pairs_of(1) {
+        let parts = [&pair.symbols, &pair.first, &pair.second];
+        for (i, part) in parts.into_iter().enumerate() {
+            longest[i] = longest[i].max(part.len());
+        }
+        let terms = [pair.first.len(), pair.second.len()];
+        if accepted(&pair) {
+            accepted_lengths.extend(terms);
+        } else if terms.contains(&(MAX_NODES + 1)) {
+            over += 1;
+        }
+    }
+    assert!(accepted_lengths.into_iter().eq(1..=MAX_NODES));
+    assert!(over > 100, "{over}");
+    assert!(longest.iter().all(|length| *length > 65_536), "{longest:?}");
+}
+
+#[test]
+fn symbols_of_pairs_share_ranks() {
+    let shared = pairs_of(1).filter(|(_, pair)| {
+        let kind = ranks(&pair.symbols);
+        [Some(Ranks::SomeEqual), Some(Ranks::AllEqual)].contains(&kind)
+    });
+    let count = shared.count();
+    assert!(4 * count as u64 > COUNT, "{count}");
 }

@@ -4,11 +4,13 @@
 //! number of families chooses the family, the rest varies it. In a third of
 //! the problems symbols share a rank. Most budgets are small, so that many
 //! problems can be run. `damage::exhaustive` lists all truncations and
-//! single-byte changes of some problems. `records` makes questions of records.
+//! single-byte changes of some problems. `records` makes questions of records,
+//! `pairs` pairs of terms for lower.
 
 pub mod damage;
 pub mod edges;
 pub mod limits;
+pub mod pairs;
 pub mod random;
 pub mod ranks;
 pub mod records;
@@ -49,6 +51,32 @@ pub const FAMILY_COUNT: u64 = FAMILIES.len() as u64;
 const SWEEP: u64 = FAMILY_COUNT - 1;
 /// Budgets of one theory in the sweep.
 const SWEPT_BUDGETS: u64 = 48;
+
+/// Name, share and maker of a family.
+type Shared<F> = (&'static str, u64, F);
+
+/// The sum of the families' shares.
+const fn sum_of_shares<F: Copy>(families: &[Shared<F>]) -> u64 {
+    let (mut sum, mut i) = (0, 0);
+    while i < families.len() {
+        sum += families[i].1;
+        i += 1;
+    }
+    sum
+}
+
+/// The name and the maker of the family that the index modulo the sum of the
+/// shares chooses.
+fn by_share<F: Copy>(families: &[Shared<F>], index: u64) -> (&'static str, F) {
+    let mut rest = index % sum_of_shares(families);
+    for (name, share, family) in families {
+        if rest < *share {
+            return (name, *family);
+        }
+        rest -= share;
+    }
+    unreachable!("the rest is below the sum");
+}
 
 /// The name of the index's family.
 pub fn family(index: u64) -> &'static str {

@@ -16,6 +16,7 @@ mod results;
 
 use super::random::Random;
 use super::terms::{assemble, Symbols};
+use super::{by_share, sum_of_shares, Shared};
 use crate::questions::Question;
 use asked::{budget, Asked, Pair};
 
@@ -49,8 +50,8 @@ impl Source {
 
 type Family = fn(&mut Random, Complete) -> Question;
 
-/// Name, share and maker of each family; the long records are rare.
-const FAMILIES: [(&str, u64, Family); 10] = [
+/// The families; the long records are rare.
+const FAMILIES: [Shared<Family>; 10] = [
     ("kept result", 16, results::kept),
     ("unfinished rules", 6, results::unfinished),
     ("other symbols", 5, results::other_symbols),
@@ -64,23 +65,11 @@ const FAMILIES: [(&str, u64, Family); 10] = [
 ];
 
 /// Sum of the shares.
-pub const SHARES: u64 = 64;
-
-/// The name of the index's family, and its maker.
-fn of_index(index: u64) -> (&'static str, Family) {
-    let mut rest = index % SHARES;
-    for (name, share, family) in FAMILIES {
-        if rest < share {
-            return (name, family);
-        }
-        rest -= share;
-    }
-    unreachable!("the shares add up");
-}
+pub const SHARES: u64 = sum_of_shares(&FAMILIES);
 
 /// The name of the index's family.
 pub fn family(index: u64) -> &'static str {
-    of_index(index).0
+    by_share(&FAMILIES, index).0
 }
 
 /// Sets questions apart from the problems of the same numbers.
@@ -88,6 +77,6 @@ const QUESTIONS: u64 = 0x5155_4553;
 
 /// The question of a seed and an index.
 pub fn question(seed: u64, index: u64, complete: Complete) -> Question {
-    let family = of_index(index).1;
+    let family = by_share(&FAMILIES, index).1;
     family(&mut Random::new(seed ^ QUESTIONS, index), complete)
 }

@@ -2,9 +2,13 @@
 
 use super::random::Random;
 use crate::fields::push_field;
+use crate::term::VARIABLE_BASE;
 
 /// Arity and rank by symbol.
 pub type Symbols = Vec<(u8, u8)>;
+
+/// Variables that a byte can name.
+pub const VARIABLES: usize = 16;
 
 /// A signature of n symbols with distinct random ranks.
 pub fn symbols(random: &mut Random, n: usize, arities: &[u8]) -> Symbols {
@@ -15,14 +19,17 @@ pub fn symbols(random: &mut Random, n: usize, arities: &[u8]) -> Symbols {
         .collect()
 }
 
+/// The bytes of the symbol field.
+pub fn symbol_field(symbols: &Symbols) -> Vec<u8> {
+    let table = symbols.iter().flat_map(|(arity, rank)| [*arity, *rank]);
+    let mut out = Vec::new();
+    push_field(&mut out, 1, &table.collect::<Vec<u8>>());
+    out
+}
+
 /// The bytes of a problem.
 pub fn assemble(symbols: &Symbols, budget: u32, equations: &[Vec<u8>]) -> Vec<u8> {
-    let table: Vec<u8> = symbols
-        .iter()
-        .flat_map(|(arity, rank)| [*arity, *rank])
-        .collect();
-    let mut out = Vec::new();
-    push_field(&mut out, 1, &table);
+    let mut out = symbol_field(symbols);
     push_field(&mut out, 2, &budget.to_be_bytes());
     equations.iter().for_each(|e| push_field(&mut out, 3, e));
     out
@@ -85,6 +92,15 @@ pub fn term_end(term: &[u8], mut place: usize, symbols: &Symbols) -> usize {
         place += 1;
     }
     place
+}
+
+/// Variable n becomes the n-th of the order.
+pub fn renumbered(terms: &[u8], order: &[usize]) -> Vec<u8> {
+    let renumber = |byte: &u8| match byte.checked_sub(VARIABLE_BASE) {
+        Some(variable) => VARIABLE_BASE + order[variable as usize] as u8,
+        None => *byte,
+    };
+    terms.iter().map(renumber).collect()
 }
 
 /// A copy with one random subterm replaced by a random small term.

@@ -3,6 +3,7 @@
 
 pub mod literal;
 pub mod literal_decide;
+pub mod literal_lower;
 pub mod literal_run;
 
 use kb_engine::fields::split_fields;

@@ -3,7 +3,8 @@
 
 use crate::decide::decision;
 use crate::generate::random::Random;
-use crate::generate::terms::{assemble, mutated, push_term, term_end, Symbols};
+use crate::generate::terms::{assemble, mutated, push_term, renumbered, term_end};
+use crate::generate::terms::{Symbols, VARIABLES};
 use crate::normalise::Stop;
 use crate::term::VARIABLE_BASE;
 use crate::{MAX_BUDGET, MAX_NODES};
@@ -11,8 +12,6 @@ use crate::{MAX_BUDGET, MAX_NODES};
 /// Two terms, either of which may replace the other.
 pub type Pair = (Vec<u8>, Vec<u8>);
 
-/// Variables that a byte can name.
-const VARIABLES: usize = 16;
 /// What each variable stands for.
 type Bindings = [Option<Vec<u8>>; VARIABLES];
 
@@ -176,15 +175,6 @@ fn matched(pattern: &[u8], term: &[u8], symbols: &Symbols) -> Option<Bindings> {
         place = end;
     }
     Some(bindings)
-}
-
-/// Variable n becomes the n-th of the order.
-fn renumbered(terms: &[u8], order: &[usize]) -> Vec<u8> {
-    let renumber = |byte: &u8| match byte.checked_sub(VARIABLE_BASE) {
-        Some(variable) => VARIABLE_BASE + order[variable as usize] as u8,
-        None => *byte,
-    };
-    terms.iter().map(renumber).collect()
 }
 
 /// Longer rewriting gets a small budget.
