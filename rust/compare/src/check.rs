@@ -1,7 +1,9 @@
-//! One problem or question through both engines: answers, whole buffers, lent
-//! bytes.
+//! One problem, question or pair of terms through both engines: answers, whole
+//! buffers, lent bytes.
 
 use crate::engines::{decode, Engine};
+use crate::lent::Lent;
+use kb_engine::pairs::Pair;
 use kb_engine::questions::Question;
 use kb_engine::{MAX_NODES, MIN_RESULT};
 use std::hint::black_box;
@@ -115,15 +117,17 @@ impl<'e> Checker<'e> {
         let lent = question.clone();
         let decide = |e: &dyn Engine| e.decide(&lent.problem, &lent.record);
         let answer = self.equal("decide".to_string(), decide)?;
-        if black_box(&lent) == question {
-            return Ok(answer);
-        }
-        Err(Difference {
-            call: "decide, lent bytes changed".to_string(),
-            left: answer,
-            right: answer,
-            place: None,
-        })
+        unchanged("decide", answer, black_box(&lent) == question)
+    }
+
+    /// Compares lower on a pair of terms, lent as the number says.
+    pub fn pair(&self, pair: &Pair, number: u64) -> Result<u64, Difference> {
+        let lent = Lent::new(pair, number);
+        let before = lent.clone();
+        let [symbols, first, second] = lent.slices();
+        let lower = |e: &dyn Engine| e.lower(symbols, first, second);
+        let answer = self.equal("lower".to_string(), lower)?;
+        unchanged("lower", answer, black_box(&lent) == &before)
     }
 
     fn equal(&self, call: String, answer: impl Fn(&dyn Engine) -> u64) -> Result<u64, Difference> {
@@ -172,6 +176,19 @@ impl<'e> Checker<'e> {
             place: place.map(|p| p as isize - GUARD as isize),
         })
     }
+}
+
+/// The answer of both, if the lent bytes are as they were.
+fn unchanged(call: &str, answer: u64, as_before: bool) -> Result<u64, Difference> {
+    if as_before {
+        return Ok(answer);
+    }
+    Err(Difference {
+        call: format!("{call}, lent bytes changed"),
+        left: answer,
+        right: answer,
+        place: None,
+    })
 }
 
 fn first_difference(a: &[u8], b: &[u8]) -> Option<usize> {

@@ -4,19 +4,21 @@
 //! refused (number, place), 1 written (count), 2 no common instance, 3 too
 //! large (number 22). Compare: kind 0 refused, 1 the answer 1 to 4. Decide:
 //! kind 0 refused, 1 the answer 1 (same) or 2 (different), 3 ended (number 21
-//! or 22). Subterm: start * 2^32 + length, length 0 if refused.
+//! or 22). Subterm: start * 2^32 + length, length 0 if refused. Lower: 0
+//! refused, 1 the first, 2 the second.
 
 use kb_engine::calls::TOO_LARGE;
 use kb_engine::MIN_RESULT;
-use kb_engine::{CompareAnswer, CompleteAnswer, DecideAnswer, Refusal, UnifyAnswer};
+use kb_engine::{CompareAnswer, CompleteAnswer, DecideAnswer, Refusal, UnifyAnswer, Which};
 
-/// The five calls with encoded answers.
+/// The six calls with encoded answers.
 pub trait Engine {
     fn complete(&self, problem: &[u8], result: &mut [u8]) -> u64;
     fn unify(&self, problem: &[u8], result: &mut [u8]) -> u64;
     fn compare(&self, problem: &[u8]) -> u64;
     fn subterm(&self, problem: &[u8], position: usize) -> u64;
     fn decide(&self, problem: &[u8], record: &[u8]) -> u64;
+    fn lower(&self, symbols: &[u8], first: &[u8], second: &[u8]) -> u64;
 }
 
 /// The result that an engine writes for a problem, none if it refuses.
@@ -39,7 +41,7 @@ pub fn decode(answer: u64) -> (u64, u64, u64) {
 /// The independent engine.
 pub struct RustEngine;
 
-/// A refusal, by any call but subterm.
+/// A refusal, by any call but subterm and lower.
 pub fn refused(refusal: Refusal) -> u64 {
     encode(0, refusal.number, refusal.place)
 }
@@ -80,6 +82,15 @@ pub fn handed_back(start: usize, length: usize) -> u64 {
     ((start as u64) << 32) | length as u64
 }
 
+/// The term that lower hands back.
+pub fn chosen(answer: Which) -> u64 {
+    match answer {
+        Which::Refused => 0,
+        Which::First => 1,
+        Which::Second => 2,
+    }
+}
+
 impl Engine for RustEngine {
     fn complete(&self, problem: &[u8], result: &mut [u8]) -> u64 {
         match kb_engine::complete(problem, result) {
@@ -104,5 +115,9 @@ impl Engine for RustEngine {
 
     fn decide(&self, problem: &[u8], record: &[u8]) -> u64 {
         decided(kb_engine::decide(problem, record))
+    }
+
+    fn lower(&self, symbols: &[u8], first: &[u8], second: &[u8]) -> u64 {
+        chosen(kb_engine::lower::which(symbols, first, second))
     }
 }

@@ -1,14 +1,19 @@
-//! An engine held to the answers that the fixed problems and questions must
-//! get.
+//! An engine held to the answers that the fixed problems, questions and pairs
+//! of terms must get.
 
 use crate::check::part;
-use crate::engines::{compared, decided, decode, handed_back, refused, unified, Engine};
+use crate::engines::{chosen, compared, decided, decode, handed_back, refused, unified, Engine};
 use kb_engine::fixed::Case;
-use kb_engine::{questions, MIN_RESULT};
+use kb_engine::{pairs, questions, MIN_RESULT};
 
 /// The answer that a fixed question must get.
 pub fn due(case: &questions::Case) -> u64 {
     decided(case.answer)
+}
+
+/// The answer that a fixed pair of terms must get.
+pub fn due_of_pair(case: &pairs::Case) -> u64 {
+    chosen(case.answer)
 }
 
 /// The calls whose answer to a case is not what it must be, with that answer.

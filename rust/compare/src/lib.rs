@@ -1,9 +1,11 @@
-//! The two engines behind one interface, the comparison of a problem or a
-//! question, the answers to the fixed ones, and the summary.
+//! The two engines behind one interface, the comparison of a problem, a
+//! question or a pair of terms, the answers to the fixed ones, and the
+//! summary.
 
 pub mod check;
 pub mod engines;
 pub mod fixed;
+pub mod lent;
 #[cfg(not(feature = "selfcheck"))]
 pub mod proved;
 pub mod summary;

@@ -1,26 +1,30 @@
-//! Compares the proved library with the Rust engine on many problems and on
-//! questions of records.
+//! Compares the proved library with the Rust engine on many problems, on
+//! questions of records and on pairs of terms.
 //!
-//! kb_compare [count] [seed] [first index]: first the fixed problems and
-//! questions, whose answers are known, then all damaged ones, then that many
-//! generated ones of each (100,000 unless KB_COUNT says otherwise). The
-//! records that a question is made from are results of both engines, in turn.
-//! With KB_TRACE set, each problem is printed before it is run.
+//! kb_compare [count] [seed] [first index]: first the fixed problems,
+//! questions and pairs, whose answers are known, then all damaged ones, then
+//! that many generated ones of each (100,000 unless KB_COUNT says otherwise).
+//! The records that a question is made from are results of both engines, in
+//! turn. With KB_TRACE set, each problem is printed before it is run.
 
 use kb_compare::check::{Checker, Difference, Setting};
 use kb_compare::engines::{decode, result_of};
-use kb_compare::fixed::{due, faults};
+use kb_compare::fixed::{due, due_of_pair, faults};
+use kb_compare::lent::LAYOUTS;
 use kb_compare::summary::Summary;
 use kb_compare::{Engine, ProvedEngine, RustEngine};
 use kb_engine::fixed::{self, Case};
 use kb_engine::generate::records::{self, exhaustive};
 use kb_engine::generate::{self, damage};
+use kb_engine::pairs::{self, Pair};
 use kb_engine::questions::{self, Question};
 use std::process::ExitCode;
 use std::time::Instant;
 
 const DEFAULT_COUNT: u64 = 100_000;
 const MOST_DIFFERENCES: usize = 10;
+/// Most bytes of a slice that are shown.
+const MOST_SHOWN: usize = 200;
 
 fn argument(place: usize, default: u64) -> u64 {
     let text = std::env::args().nth(place);
@@ -36,6 +40,16 @@ fn hex(bytes: &[u8]) -> String {
     bytes.iter().map(|b| format!("{b:02x}")).collect()
 }
 
+/// The slices of a pair; long ones are cut.
+fn shown(pair: &Pair) -> String {
+    let slices = [&pair.symbols, &pair.first, &pair.second];
+    let texts = slices.map(|slice| match slice.get(..MOST_SHOWN) {
+        Some(front) => format!("{} .. ({} bytes)", hex(front), slice.len()),
+        None => format!("{}.", hex(slice)),
+    });
+    texts.join(" ")
+}
+
 fn main() -> ExitCode {
     let count = argument(1, count_from_environment());
     let (seed, first) = (argument(2, 1), argument(3, 0));
@@ -47,10 +61,14 @@ fn main() -> ExitCode {
     let asked = Instant::now();
     comparison.all_questions(seed, first, count);
     comparison.questions.print();
+    let (asked, paired) = (asked.elapsed(), Instant::now());
+    comparison.all_pairs(seed, first, count);
+    comparison.pairs.print();
     println!(
-        "seed {seed}, from {first}, {:.1} s, {:.1} s of them questions",
+        "seed {seed}, from {first}, {:.1} s, {:.1} s of them questions, {:.1} s pairs of terms",
         start.elapsed().as_secs_f64(),
-        asked.elapsed().as_secs_f64()
+        asked.as_secs_f64(),
+        paired.elapsed().as_secs_f64()
     );
     if comparison.differences() + comparison.wrong > 0 {
         return ExitCode::FAILURE;
@@ -62,6 +80,7 @@ struct Comparison {
     checker: Checker<'static>,
     problems: Summary,
     questions: Summary,
+    pairs: Summary,
     /// Answers to fixed cases that are not the ones due.
     wrong: usize,
     trace: bool,
@@ -73,13 +92,14 @@ impl Comparison {
             checker: Checker::new(&ProvedEngine, &RustEngine),
             problems: Summary::new("problems"),
             questions: Summary::new("questions"),
+            pairs: Summary::new("pairs of terms"),
             wrong: 0,
             trace: std::env::var_os("KB_TRACE").is_some(),
         }
     }
 
     fn differences(&self) -> usize {
-        self.problems.differences + self.questions.differences
+        self.problems.differences + self.questions.differences + self.pairs.differences
     }
 
     fn all_fixed(&mut self) {
@@ -95,6 +115,10 @@ impl Comparison {
             "{} fixed cases, {asked} fixed questions, {wrong} wrong answers",
             cases.len()
         );
+        let pairs = pairs::cases();
+        pairs.iter().for_each(|case| self.fixed_pair(case));
+        let (count, wrong) = (pairs.len(), self.wrong - wrong);
+        println!("{count} fixed pairs of terms, {wrong} wrong answers");
     }
 
     fn all_problems(&mut self, seed: u64, first: u64, count: u64) {
@@ -122,6 +146,16 @@ impl Comparison {
         }
     }
 
+    fn all_pairs(&mut self, seed: u64, first: u64, count: u64) {
+        for (pair, number) in generate::pairs::exhaustive::all().zip(0..) {
+            self.pair(&pair, number, "all damage of pairs");
+        }
+        for index in first..first + count {
+            let pair = generate::pairs::pair(seed, index);
+            self.pair(&pair, index, generate::pairs::family(index));
+        }
+    }
+
     /// A case with known answers: no difference, and each engine gives them.
     fn fixed(&mut self, case: &Case, number: u64) {
         let setting = Setting::whole(number);
@@ -143,6 +177,17 @@ impl Comparison {
             self.wrong += 1;
             println!("WRONG in decide of {}", case.name);
             println!("  both {:?}", decode(answer));
+        }
+    }
+
+    /// A pair with a known answer, lent in every way.
+    fn fixed_pair(&mut self, case: &pairs::Case) {
+        let answers = (0..LAYOUTS).map(|layout| self.pair(&case.pair, layout, "fixed pairs"));
+        let answers: Vec<u64> = answers.flatten().collect();
+        if let Some(answer) = answers.into_iter().find(|a| *a != due_of_pair(case)) {
+            self.wrong += 1;
+            println!("WRONG in lower of {}", case.name);
+            println!("  both {answer}");
         }
     }
 
@@ -188,6 +233,26 @@ impl Comparison {
         }
     }
 
+    /// The answer to a pair, if it is the same twice.
+    fn pair(&mut self, pair: &Pair, number: u64, family: &'static str) -> Option<u64> {
+        if self.trace {
+            eprintln!("{family} {number} {}", shown(pair));
+        }
+        self.pairs.begin(family);
+        match self.checker.pair(pair, number) {
+            Ok(answer) => {
+                self.pairs.note_lower(answer);
+                Some(answer)
+            }
+            Err(difference) => {
+                self.pairs.differences += 1;
+                let input = format!("{family}, number {number}: {}", shown(pair));
+                self.differ(&difference, &input);
+                None
+            }
+        }
+    }
+
     /// Prints a difference and where it was found.
     fn differ(&mut self, difference: &Difference, input: &str) {
         println!("DIFFERENT in {}", difference.call);
@@ -203,6 +268,7 @@ impl Comparison {
         if self.differences() >= MOST_DIFFERENCES {
             self.problems.print();
             self.questions.print();
+            self.pairs.print();
             std::process::exit(1);
         }
     }

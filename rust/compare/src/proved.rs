@@ -18,6 +18,14 @@ extern "C" {
         record: *const u8,
         record_len: usize,
     ) -> u64;
+    fn vb_lower(
+        symbols: *const u8,
+        symbols_len: usize,
+        first: *const u8,
+        first_len: usize,
+        second: *const u8,
+        second_len: usize,
+    ) -> u64;
 }
 
 /// The proved library.
@@ -66,6 +74,20 @@ impl Engine for ProvedEngine {
                 problem.len(),
                 record.as_ptr(),
                 record.len(),
+            )
+        }
+    }
+
+    fn lower(&self, symbols: &[u8], first: &[u8], second: &[u8]) -> u64 {
+        // SAFETY: the pointers come with the lengths of live slices.
+        unsafe {
+            vb_lower(
+                symbols.as_ptr(),
+                symbols.len(),
+                first.as_ptr(),
+                first.len(),
+                second.as_ptr(),
+                second.len(),
             )
         }
     }

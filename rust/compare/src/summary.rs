@@ -5,7 +5,7 @@ use crate::engines::decode;
 use kb_engine::generate::ranks::{ranks, Ranks};
 use std::collections::BTreeMap;
 
-/// Counts of what was compared, problems or questions.
+/// Counts of what was compared: problems, questions or pairs of terms.
 pub struct Summary {
     /// What is counted.
     name: &'static str,
@@ -69,6 +69,16 @@ impl Summary {
             (1, _, 1) => "decide: same".to_string(),
             (1, _, _) => "decide: different".to_string(),
             (_, number, _) => format!("decide: {number}"),
+        });
+    }
+
+    /// The answer to a pair of terms.
+    pub fn note_lower(&mut self, answer: u64) {
+        self.note(match answer {
+            0 => "lower: refused".to_string(),
+            1 => "lower: first".to_string(),
+            2 => "lower: second".to_string(),
+            other => format!("lower: {other}"),
         });
     }
 

@@ -36,6 +36,11 @@ impl Engine for Faulty {
     fn decide(&self, problem: &[u8], record: &[u8]) -> u64 {
         self.0("decide", RustEngine.decide(problem, record), &mut [])
     }
+
+    fn lower(&self, symbols: &[u8], first: &[u8], second: &[u8]) -> u64 {
+        let answer = RustEngine.lower(symbols, first, second);
+        self.0("lower", answer, &mut [])
+    }
 }
 
 fn differences(fault: Fault) -> usize {

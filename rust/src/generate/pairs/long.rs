@@ -6,9 +6,9 @@ use crate::generate::random::Random;
 use crate::pairs::Pair;
 use crate::term::VARIABLE_BASE;
 
-/// Bytes more; the last two are for the counters of two bytes.
+/// Bytes more; the last three are for the counters of two bytes.
 const OVER: [usize; 16] = [
-    121, 121, 255, 256, 256, 256, 257, 512, 512, 1024, 4096, 4096, 8192, 8193, 65_536, 131_072,
+    121, 121, 255, 256, 256, 256, 257, 512, 1024, 4096, 4096, 8192, 8193, 65_536, 65_536, 131_072,
 ];
 
 /// A pair with one slice, at times two, of a great length.
