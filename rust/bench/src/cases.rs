@@ -1,8 +1,10 @@
-//! The fixed problems of the benchmark. Those of decide stand apart.
+//! The fixed problems of the benchmark. Those of decide and the pairs of
+//! terms of lower stand apart.
 
-use crate::decisions;
+use crate::{decisions, pairs};
 use kb_engine::full_log;
 use kb_engine::notation::Theory;
+use kb_engine::pairs::Pair;
 use kb_engine::theories::{self, monoid, power, PAPERS};
 
 /// Which call is timed.
@@ -13,15 +15,18 @@ pub enum Call {
     Unify,
     Subterm(usize),
     Decide,
+    Lower,
 }
 
-/// A named call on a problem.
+/// A named call on a problem, or on a pair of terms.
 pub struct Case {
     pub name: String,
     pub call: Call,
     pub problem: Vec<u8>,
     /// What decide is asked of.
     pub record: Vec<u8>,
+    /// What lower is asked of.
+    pub pair: Pair,
 }
 
 const BUDGET: u32 = 1_000_000;
@@ -32,6 +37,7 @@ pub fn case(name: &str, call: Call, theory: Theory) -> Case {
         call,
         problem: theory.problem(BUDGET),
         record: Vec::new(),
+        pair: Pair::default(),
     }
 }
 
@@ -44,6 +50,7 @@ pub fn all() -> Vec<Case> {
     list.extend(unified());
     list.extend(read());
     list.extend(decisions::all());
+    list.extend(pairs::all());
     list
 }
 
@@ -153,8 +160,8 @@ fn sixteen_long() -> Theory {
     })
 }
 
-/// A full binary tree with the given leaves.
-fn tree(leaves: &[&str]) -> String {
+/// A balanced binary tree with the given leaves.
+pub fn tree(leaves: &[&str]) -> String {
     if let [leaf] = leaves {
         return leaf.to_string();
     }

@@ -1,4 +1,5 @@
-//! Times the proved library against the Rust engine on fixed problems.
+//! Times the proved library against the Rust engine on fixed problems and
+//! pairs of terms.
 //!
 //! Each case runs on both engines in turn; the least processor time of
 //! several samples counts. The result buffer has the least length that is
@@ -8,6 +9,7 @@
 mod cases;
 mod clock;
 mod decisions;
+mod pairs;
 mod provers;
 
 use cases::{Call, Case};
@@ -28,6 +30,10 @@ fn call(engine: &dyn Engine, case: &Case, result: &mut [u8]) -> u64 {
         Call::Unify => engine.unify(problem, result),
         Call::Subterm(position) => engine.subterm(problem, position),
         Call::Decide => engine.decide(problem, black_box(case.record.as_slice())),
+        Call::Lower => {
+            let pair = black_box(&case.pair);
+            engine.lower(&pair.symbols, &pair.first, &pair.second)
+        }
     }
 }
 
@@ -51,6 +57,7 @@ fn answer_text(case: &Case, answer: u64, result: &[u8]) -> String {
     let (kind, number, low) = decode(answer);
     match (case.call, kind) {
         (Call::Subterm(_), _) => format!("{} bytes", low),
+        (Call::Lower, _) => ["refused", "first", "second"][low as usize].to_string(),
         (_, 0) => format!("refused {number}"),
         (Call::Compare, _) => format!("answer {low}"),
         (Call::Complete, _) => {
