@@ -53,14 +53,14 @@ fn part(problem: &[u8], position: usize) {
     bytes(calls::subterm(problem, position));
 }
 
-// The lower of the two sides; nothing where the problem is refused.
+// The lower of the two sides; where the problem is refused, of it and itself over itself, which is refused too.
 fn lower_side(problem: &[u8]) {
     print(b", lower ");
     match only_equation::sides(problem) {
         only_equation::Equation::Refused {
             number: _,
             place: _,
-        } => print(b"-"),
+        } => bytes(lower::lower(problem, problem, problem)),
         only_equation::Equation::At {
             table_end,
             left,

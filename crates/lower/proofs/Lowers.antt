@@ -159,7 +159,8 @@ module _ (symbols : List ℕ) (first second : RefT (List ℕ)) where
   handed : (w : Which) → w ≡ which symbols (first .now) (second .now) → Handed (bytes-of w (first .now) (second .now)) (place-of w first second)
   unfolding lower-call
   handed w h =
-      let z : bytes-of w (first .now) (second .now) ≡ lower-call symbols (first .now) (second .now) = ap (λ (v : Which). bytes-of v (first .now) (second .now)) h in
+      let z : bytes-of w (first .now) (second .now) ≡ lower-call symbols (first .now) (second .now) =
+      ap (λ (v : Which). bytes-of v (first .now) (second .now)) h in
       let empty = empty-if (first .now) (second .now) _ _ (choice (first .now) (second .now) symbols) in
       (z, (ap (λ (v : Which). place-of v first second) h, ap (λ (m : List ℕ). eqb (length m) 0) z ∙ empty))
 

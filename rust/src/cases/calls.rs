@@ -1,14 +1,17 @@
-//! The cases of calls_run: compare, unify and subterm on the worked
+//! The cases of calls_run: compare, unify, subterm and lower on the worked
 //! instances and the edges.
 
 use super::{hex, refusals, refused, Case, Cases};
 use crate::calls::TOO_LARGE;
 use crate::notation::Theory;
-use crate::{compare, subterm, unify, CompareAnswer, UnifyAnswer, MIN_RESULT};
+use crate::{compare, lower, subterm, unify, CompareAnswer, UnifyAnswer, MIN_RESULT};
 
-/// subterm at 2, 3, 4 and 5; what is asked first is compare, unify, and
-/// subterm at 0 and 1.
+/// subterm at 2, 3, 4 and 5; what is asked first is compare, unify, subterm
+/// at 0 and 1, and lower of the two sides.
 const LATER_PARTS: u8 = 1;
+/// The bytes of a field's head, and of the budget field.
+const HEAD: usize = 3;
+const BUDGET_FIELD: usize = HEAD + 4;
 /// unify with a result buffer of 16,383 bytes.
 const SHORT_BUFFER: u8 = 2;
 
@@ -85,8 +88,8 @@ pub fn text(case: &Case) -> String {
         SHORT_BUFFER => format!("{name}: unify {}\n", unified(problem, MIN_RESULT - 1)),
         _ => {
             let (compared, unified) = (compared(problem), unified(problem, MIN_RESULT));
-            let parts = parts(0, 1);
-            format!("{name}: compare {compared}, unify {unified}{parts}\n")
+            let (parts, lower) = (parts(0, 1), lower_side(problem));
+            format!("{name}: compare {compared}, unify {unified}{parts}, lower {lower}\n")
         }
     }
 }
@@ -96,6 +99,18 @@ fn compared(problem: &[u8]) -> String {
         CompareAnswer::Refused(refusal) => refused(refusal),
         CompareAnswer::Compared(order) => (order as u8).to_string(),
     }
+}
+
+/// The lower of the two sides, which fill the last field; of a problem that is
+/// refused, over itself, it and itself.
+fn lower_side(problem: &[u8]) -> String {
+    let left = subterm(problem, 0);
+    if left.is_empty() {
+        return hex(lower(problem, problem, problem));
+    }
+    let table_end = HEAD + usize::from(problem[2]);
+    let right = table_end + BUDGET_FIELD + HEAD + left.len();
+    hex(lower(&problem[..table_end], left, &problem[right..]))
 }
 
 fn unified(problem: &[u8], buffer: usize) -> String {
