@@ -1,4 +1,6 @@
 // What the calls answer, as text.
+ghost use Prim.Native.Nat.{_≤_};
+ghost use lib.ListN.{length};
 use libc::STDOUT_FILENO;
 use stored_cases::print;
 use stored_cases::print_number;
@@ -53,6 +55,17 @@ fn part(problem: &[u8], position: usize) {
     bytes(calls::subterm(problem, position));
 }
 
+// The lower of the terms at two places, over the symbol field that ends at `table`.
+fn lower_at(problem: &[u8], table: usize, left: usize, right: usize, end: usize)
+    requires { ⌜ (table ≤ length (now problem)) × (left ≤ right) × (right ≤ end) × (end ≤ length (now problem)) ⌝ }
+{
+    bytes(lower::lower(
+        &problem[0..table],
+        &problem[left..right],
+        &problem[right..end],
+    ));
+}
+
 // The lower of the two sides; where the problem is refused, of it and itself over itself, which is refused too.
 fn lower_side(problem: &[u8]) {
     print(b", lower ");
@@ -67,11 +80,7 @@ fn lower_side(problem: &[u8]) {
             right,
             end,
             budget: _,
-        } => bytes(lower::lower(
-            &problem[0..table_end],
-            &problem[left..right],
-            &problem[right..end],
-        )),
+        } => lower_at(problem, table_end, left, right, end),
     }
 }
 

@@ -1,4 +1,5 @@
--- The term that is handed back is not above the other, and it is empty exactly if the lent bytes are refused. Assumes nothing.
+-- What `lower_over`, `choose` and `lower` answer. Laws: the term that is handed back is not above the other (`not-above`), and the part is empty
+-- exactly if the lent bytes are refused (`choice`). Assumes nothing.
 -- Read first: specs/Lower, proofs/Wholes.
 use mathlib.Core.Path.{_≡_, refl, ap, sym, _∙_}
 use mathlib.Core.Bool.{Bool, true, false, false≢true, not, _||_}
@@ -15,13 +16,12 @@ use Rattle.terms.specs.Term.{Term}
 use Rattle.order.specs.Order.{above}
 use Rattle.order.specs.Walk.{IsAbove}
 use Rattle.order.proofs.Decide.{above-dec}
-use Rattle.order.proofs.Trans.{above-trans}
-use Rattle.order.proofs.WellFounded.{above-irrefl}
+use Rattle.order.proofs.Fast.{no-cycle}
 use Rattle.reading.specs.Answers.{symbols-of, Table}
 use Rattle.reading.proofs.Reading.{from-bind, no-ok}
-use Rattle.problem.specs.Problem.{ok, Symbol, rank-of, read-term, read-side}
+use Rattle.problem.specs.Problem.{Symbol, rank-of, read-term, read-side}
 use Rattle.completion.proofs.Ranks.{ranks-are}
-use Rattle.lower.specs.Lower.{whole-table, whole-term, lower-of, which, bytes-of, lower-call, place-of, lower-refused}
+use Rattle.lower.specs.Lower.{whole-table, whole-term, lower-of, lower-over, which, bytes-of, lower-call, place-of, lower-refused}
 use Rattle.lower.specs.declared.Which.{Which}
 use Rattle.lower.specs.declared.Which.the-variants.{First, Second, Neither}
 use Rattle.lower.proofs.Wholes.{from-whole, alone}
@@ -50,15 +50,12 @@ module _ (tab : List ℕ) (T : Table tab) where
 
   -- both are whole terms: the order decides
   module _ (f g : List ℕ) (h : true ≡ is-some (whole-term (symbols-of tab) f)) (k : true ≡ is-some (whole-term (symbols-of tab) g)) where
-    abbrev Lower : Which
-    Lower = lower-of (symbols-of tab) (whole-term (symbols-of tab) f) (whole-term (symbols-of tab) g)
-
-    both : (b : Bool) → IsAbove tab f g b → (if b then Second else First) ≡ Lower
+    both : (b : Bool) → IsAbove tab f g b → (if b then Second else First) ≡ lower-over (symbols-of tab) f g
     unfolding lower-of is-some
     both b a = go (whole-term (symbols-of tab) f) refl (whole-term (symbols-of tab) g) refl
       where
         go : (o : Option Term) → whole-term (symbols-of tab) f ≡ o → (p : Option Term) → whole-term (symbols-of tab) g ≡ p →
-            (if b then Second else First) ≡ Lower
+            (if b then Second else First) ≡ lower-over (symbols-of tab) f g
         go none e p q = absurd (false≢true (sym (h ∙ ap is-some e)))
         go (some x) e none q = absurd (false≢true (sym (k ∙ ap is-some q)))
         go (some x) e (some y) q =
@@ -66,18 +63,18 @@ module _ (tab : List ℕ) (T : Table tab) where
             a x y (alone tab T f x e .starts) (alone tab T g y q .starts) ∙ ap (λ (r : ℕ → ℕ). above r x y) (sym (ranks-are tab T)) in
             rw (e, q, z) refl
 
-    pub second-lower : IsAbove tab f g true → Second ≡ Lower
+    pub second-lower : IsAbove tab f g true → Second ≡ lower-over (symbols-of tab) f g
     unfolding if_then_else_
     second-lower a = both true a
 
-    pub first-lower : IsAbove tab f g false → First ≡ Lower
+    pub first-lower : IsAbove tab f g false → First ≡ lower-over (symbols-of tab) f g
     unfolding if_then_else_
     first-lower a = both false a
 
 -- no two terms are above each other
 never-both : (rank : ℕ → ℕ) (s t : Term) → above rank s t ≡ true → (b : Bool) → above rank t s ≡ b → b ≡ false
 never-both rank s t e false h = refl
-never-both rank s t e true h = absurd (above-irrefl rank (above-trans rank (above-dec rank s t .0 e) (above-dec rank t s .0 h)))
+never-both rank s t e true h = absurd (no-cycle rank (above-dec rank s t .0 e) (above-dec rank t s .0 h))
 
 -- "the lower": the one that is handed back is not above the other
 abbrev pub NotAbove : List Symbol → Term → Term → Which → Type 0
@@ -109,7 +106,7 @@ module _ (first second : List ℕ) where
   abbrev Refused-over : List Symbol → Bool
   Refused-over Σ = not (is-some (whole-term Σ first)) || not (is-some (whole-term Σ second))
 
-  choice-over : (Σ : List Symbol) → Choice first second (lower-of Σ (whole-term Σ first) (whole-term Σ second)) (Refused-over Σ)
+  choice-over : (Σ : List Symbol) → Choice first second (lower-over Σ first second) (Refused-over Σ)
   unfolding lower-of is-some if_then_else_
   choice-over Σ = go (whole-term Σ first) refl (whole-term Σ second) refl
     where
@@ -118,7 +115,7 @@ module _ (first second : List ℕ) where
       two x y e q false = is-first (some-bytes Σ first x e)
 
       go : (o : Option Term) → whole-term Σ first ≡ o → (p : Option Term) → whole-term Σ second ≡ p →
-          Choice first second (lower-of Σ (whole-term Σ first) (whole-term Σ second)) (Refused-over Σ)
+          Choice first second (lower-over Σ first second) (Refused-over Σ)
       go none e p q = rw (e, lower-of) is-refused
       go (some x) e none q = rw (e, q, lower-of) is-refused
       go (some x) e (some y) q = rw (e, q, lower-of) (two x y e q (above (rank-of Σ) x y))
@@ -144,8 +141,7 @@ module _ (symbols first second : List ℕ) where
   unfolding which
   no-symbols h = rw (h, which) refl
 
-  pub over-symbols : (Σ : List Symbol) (w : Which) → whole-table symbols ≡ some Σ → w ≡ lower-of Σ (whole-term Σ first) (whole-term Σ second) →
-      w ≡ which symbols first second
+  pub over-symbols : (Σ : List Symbol) (w : Which) → whole-table symbols ≡ some Σ → w ≡ lower-over Σ first second → w ≡ which symbols first second
   unfolding which
   over-symbols Σ w h k = rw (h, which) k
 

@@ -1,8 +1,8 @@
 -- What is read as a whole, and what `is_term` and `choose` find of it. Assumes nothing.
 -- Read first: specs/Lower (whole), reading/specs/Answers (SideAt), problem/specs/Parser (SymbolsAt), reading/proofs/Standing.
 use mathlib.Core.Path.{_≡_, refl, ap, sym, _∙_}
-use mathlib.Core.Bool.{Bool, true, false}
-use mathlib.Core.List.{List, [], _∷_, _++_}
+use mathlib.Core.Bool.{false}
+use mathlib.Core.List.{List, [], _∷_}
 use mathlib.Core.Option.{Option, none, some}
 use Prim.Native.Nat.{ℕ, _-_, _<_, _≤_}
 use native.Mathlib.Omega.{arith}
@@ -10,7 +10,7 @@ use lib.Dec.{eqb}
 use lib.ListN.{length, take, drop, length-append, length-drop}
 use lib.Seq.{take-length}
 use borrow.Author.Tests.{eq-eqb, ne-eqb}
-use Rattle.terms.specs.Base.{if_then_else_, is-some}
+use Rattle.terms.specs.Base.{is-some}
 use Rattle.terms.specs.Term.{Term, size, term-bytes}
 use Rattle.terms.specs.Flat.{Starts}
 use Rattle.terms.proofs.Bytes.{length-bytes}
@@ -19,7 +19,7 @@ use Rattle.terms.proofs.Shape.{none≢some, some-inj}
 use Rattle.reading.specs.Answers.{symbols-of, Table, between, SideAt}
 use Rattle.reading.proofs.Reading.{bind-ok, bind-refused}
 use Rattle.reading.proofs.Standing.{side-stands}
-use Rattle.problem.specs.Problem.{Reading, ok, refused, _>>=_, ReadField, ReadPart, Symbol, due, symbol-field, read-side}
+use Rattle.problem.specs.Problem.{Reading, ok, refused, _>>=_, ReadField, ReadPart, due, symbol-field, read-side}
 use Rattle.problem.specs.Parser.{field-at, SymbolsAt}
 use Rattle.lower.specs.Lower.{whole, read-table, whole-table, whole-term}
 
@@ -37,6 +37,17 @@ from-whole {A} (ok p) a h = go (p .rest) refl
         record { end = p .end; read = λ i. ok (record { part = q i; end = p .end; rest = e i }) }
     go (b ∷ m) e = absurd (none≢some (rw (e, whole) at h))
 from-whole (refused n at) a h = absurd (none≢some h)
+
+module _ {A : Type 0} (a : A) (e : ℕ) where
+  pub whole-behind : (m : List ℕ) → 0 < length m → whole (ok (record { part = a; end = e; rest = m })) ≡ none
+  unfolding whole
+  whole-behind [] h = absurd (omega arith)
+  whole-behind (b ∷ m) h = refl
+
+  pub whole-alone : (m : List ℕ) → length m ≡ 0 → whole (ok (record { part = a; end = e; rest = m })) ≡ some a
+  unfolding whole
+  whole-alone [] h = refl
+  whole-alone (b ∷ m) h = absurd (omega arith)
 
 -- `is_term`
 module _ (tab : List ℕ) (T : Table tab) (t : List ℕ) where
@@ -97,17 +108,7 @@ module _ (l : List ℕ) where
     read = bind-ok _ (A .field) ∙ bind-ok _ (A .read)
 
     pub table-behind : e < length l → whole-table l ≡ none
-    unfolding whole
-    table-behind h = ap whole read ∙ go (drop e l) refl
-      where
-        go : (m : List ℕ) → drop e l ≡ m → whole (ok (record { part = symbols-of Table-bytes; end = e; rest = m })) ≡ none
-        go [] q = absurd (omega (arith, ap length q, length-drop e l))
-        go (b ∷ m) q = refl
+    table-behind h = ap whole read ∙ whole-behind _ e (drop e l) (omega (arith, length-drop e l))
 
     pub table-alone : length l ≤ e → whole-table l ≡ some (symbols-of Table-bytes)
-    unfolding whole
-    table-alone h = ap whole read ∙ go (drop e l) refl
-      where
-        go : (m : List ℕ) → drop e l ≡ m → whole (ok (record { part = symbols-of Table-bytes; end = e; rest = m })) ≡ some (symbols-of Table-bytes)
-        go [] q = refl
-        go (b ∷ m) q = absurd (omega (arith, ap length q, length-drop e l))
+    table-alone h = ap whole read ∙ whole-alone _ e (drop e l) (omega (arith, length-drop e l))

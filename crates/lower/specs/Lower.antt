@@ -1,6 +1,5 @@
 -- Document 02, Four: "the lower of two lent terms". Assumes nothing.
 -- Read first: reading/specs/Forms (a side), problem/specs/Problem (the symbol field), order/specs/Order (above).
-use mathlib.Core.Path.{_≡_}
 use mathlib.Core.Bool.{Bool, true, not, _||_}
 use mathlib.Core.List.{List, [], _∷_}
 use mathlib.Core.Option.{Option, none, some}
@@ -38,12 +37,11 @@ lower-of Σ (some s) (some t) = if above (rank-of Σ) s t then Second else First
 lower-of Σ (some s) none = Neither
 lower-of Σ none t = Neither
 
+abbrev pub lower-over : List Symbol → List ℕ → List ℕ → Which
+lower-over Σ first second = lower-of Σ (whole-term Σ first) (whole-term Σ second)
+
 unfoldable pub which : List ℕ → List ℕ → List ℕ → Which
-which symbols first second =
-    elim (whole-table symbols) [
-      | some Σ ↦ lower-of Σ (whole-term Σ first) (whole-term Σ second)
-      | none ↦ Neither
-    ]
+which symbols first second = elim (whole-table symbols) [ some Σ ↦ lower-over Σ first second | none ↦ Neither ]
 
 -- the bytes of the part that is handed back [19.5, 19.6]
 unfoldable pub bytes-of : Which → List ℕ → List ℕ → List ℕ

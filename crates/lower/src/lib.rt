@@ -4,7 +4,7 @@ ghost use lib.Dec.{eqb};
 ghost use lib.ListN.{length};
 ghost use Rattle.terms.specs.Base.{is-some};
 ghost use Rattle.reading.specs.Answers.{Table, symbols-of};
-ghost use Rattle.lower.specs.Lower.{whole-term, lower-of, which, lower-call, place-of, lower-refused};
+ghost use Rattle.lower.specs.Lower.{whole-term, lower-over, which, lower-call, place-of, lower-refused};
 
 // Which of the two terms is the lower one; neither, where they are refused.
 pub enum Which {
@@ -28,12 +28,10 @@ fn is_term(t: &[u8], table: &[u8]) -> bool
     }
 }
 
-// The same over a table.
+// Which of two terms is the lower one, over a table.
 fn lower_over(table: &[u8], first: &[u8], second: &[u8]) -> Which
     requires { ⌜ Table (now table) ⌝ }
-    ensures { λ r. ⌜ r ≡ lower-of (symbols-of (now (table .entry)))
-        (whole-term (symbols-of (now (table .entry))) (now (first .entry)))
-        (whole-term (symbols-of (now (table .entry))) (now (second .entry))) ⌝ }
+    ensures { λ r. ⌜ r ≡ lower-over (symbols-of (now (table .entry))) (now (first .entry)) (now (second .entry)) ⌝ }
 {
     if is_term(first, table) {
         if is_term(second, table) {
@@ -46,7 +44,7 @@ fn lower_over(table: &[u8], first: &[u8], second: &[u8]) -> Which
     Which::Neither
 }
 
-// Which of two terms is the lower one, over the symbols of a field of tag 01.
+// The same over the symbols of a field of tag 01, with nothing behind it.
 pub fn choose(symbols: &[u8], first: &[u8], second: &[u8]) -> Which
     ensures { λ r. ⌜ r ≡ which (now (symbols .entry)) (now (first .entry)) (now (second .entry)) ⌝ }
 {

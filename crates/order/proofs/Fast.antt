@@ -65,7 +65,7 @@ module _ (rank : ℕ → ℕ) where
   above-each nil h = all-nil
   above-each (cons t ts) h = all-cons (h t in-here) (above-each ts (λ u m. h u (in-later m)))
 
-  no-cycle : {s t : Term} → Above rank s t → Above rank t s → ⊥
+  pub no-cycle : {s t : Term} → Above rank s t → Above rank t s → ⊥
   no-cycle a b = above-irrefl rank (above-trans rank a b)
 
   -- A symbol of lower rank, or of the same rank and another: only clause 1.
