@@ -4,9 +4,9 @@
  *
  * A pointer must be valid for as many bytes as its length says, and a result buffer may not overlap the problem.
  *
- * An answer, but for vb_subterm and vb_lower, is one number: a kind in the bits from 48 up, the number of a refusal or an end (docs/FORMAT.md) in bits 32 to 47, and a value in bits 0 to
- * 31. No part is ever cut off: numbers are at most 22, a refusal's place at most 8,192 (of vb_decide 16,384), counts at most 13,715 (proved:
- * crates/capi/proofs/Unpacked, Refusals and RecordRefusals).
+ * An answer is one number. But for vb_subterm and vb_lower it has a kind in the bits from 48 up, the number of a refusal or an end (docs/FORMAT.md) in
+ * bits 32 to 47, and a value in bits 0 to 31. No part is ever cut off: numbers are at most 22, a refusal's place at most 8,192 (of vb_decide 16,384),
+ * counts at most 13,715 (proved: crates/capi/proofs/Unpacked, Refusals and RecordRefusals).
  */
 #ifndef VIGILBARN_H
 #define VIGILBARN_H
