@@ -6,11 +6,10 @@ use mathlib.Core.Bool.{Bool, true, false}
 use mathlib.Core.Logic.{_⊎_, inl, inr, ⊎-elim}
 use mathlib.Core.List.{List, [], _∷_, _++_, List·Memᴰ, List·Memᴰ·head, List·Memᴰ·tail, List·Memᴰ·not-nil, List·Memᴰ·cases-cons, Memᴰ·append-left}
 use mathlib.Core.List.{Memᴰ·append-right, List·Memᴰ·append-cases}
-use mathlib.Core.Option.{Option, none, some}
 use Prim.Native.Nat.{ℕ, suc}
-use Rattle.terms.specs.Base.{if_then_else_, is-some, Every, of-none, of-cons}
+use Rattle.terms.specs.Base.{if_then_else_, Every, of-none, of-cons}
 use Rattle.terms.specs.Term.{Term, subst-term}
-use Rattle.terms.proofs.Shape.{zero≢one}
+use Rattle.terms.proofs.Shape.{zero≢one, some-of}
 use Rattle.terms.proofs.Every.{every-append, every-map, every-tail}
 use Rattle.terms.proofs.Subst.{subst-var}
 use Rattle.terms.proofs.Context.{plug}
@@ -46,12 +45,10 @@ own-left rules r i = (_, root {u = r .sides .right} (of-item rule-sides rules r 
 
 -- Step 6: a rule is kept, or the new rule reduces its left side.
 rewrites-reduces : (new old : Rule) → rewrites new old ≡ true → Reduces (new ∷ []) (old .sides .left)
-unfolding rewrites is-some
-rewrites-reduces new old e = go (step (new ∷ []) (old .sides .left)) refl
-  where
-    go : (o : Option Term) → step (new ∷ []) (old .sides .left) ≡ o → Reduces (new ∷ []) (old .sides .left)
-    go none q = absurd (zero≢one (let z : is-some {A = Term} none ≡ true = ap is-some (sym q) ∙ e in cc))
-    go (some u) q = (u, step-sound (new ∷ []) (old .sides .left) u q)
+unfolding rewrites
+rewrites-reduces new old e =
+    let s = some-of (step (new ∷ []) (old .sides .left)) (sym e) in
+    (s .0, step-sound (new ∷ []) (old .sides .left) (s .0) (s .1))
 
 kept-or : (new : Rule) (rules : List Rule) (old : Rule) → List·Memᴰ old rules → List·Memᴰ old (kept new rules) ⊎ Reduces (new ∷ []) (old .sides .left)
 unfolding kept if_then_else_

@@ -4,7 +4,7 @@
 use mathlib.Core.Path.{_≡_, refl, ap, sym, _∙_}
 use mathlib.Core.Bool.{Bool, true, false}
 use mathlib.Core.List.{List, _++_, append-nil}
-use mathlib.Core.Option.{Option, none, some}
+use mathlib.Core.Option.{none, some}
 use Prim.Native.Nat.{ℕ, _+_, _<_, _≤_}
 use native.Mathlib.Omega.{arith}
 use lib.ListN.{length, length-append}
@@ -16,6 +16,7 @@ use Rattle.terms.specs.Flat.{Wf}
 use Rattle.terms.proofs.Bytes.{length-bytes}
 use Rattle.terms.proofs.Places.{size-pos}
 use Rattle.terms.proofs.Rename.{renamed-twice}
+use Rattle.terms.proofs.Shape.{not-some, some-of}
 use Rattle.unify.specs.Unify.{Binding, mgu, under}
 use Rattle.classes.specs.Arena.{Spells, same}
 use Rattle.classes.specs.Steps.{at, arena}
@@ -67,22 +68,12 @@ unify-asks l tab b k =
     )
 
 -- no instance
-none-is : (o : Option (List Binding)) → false ≡ is-some o → o ≡ none
-unfolding is-some
-none-is none e = refl
-none-is (some m) e = absurd (let z : _≡_ {A = ℕ} 0 1 = cc in omega arith)
-
-some-is : (o : Option (List Binding)) → true ≡ is-some o → (m : List Binding) × (o ≡ some m)
-unfolding is-some
-some-is none e = absurd (let z : _≡_ {A = ℕ} 0 1 = cc in omega arith)
-some-is (some m) e = (m, refl)
-
 pub answers-none : (l tab : List ℕ) (b : ℕ) (r : Bool) (d : List ℕ) → Decided l tab 0 b r → r ≡ false → SidesUnify l tab b Nothing d d
 unfolding unified found-of after-unify
 answers-none l tab b r d h z =
     record {
       unifies = λ s t k e.
-          let n : mgu s t ≡ none = none-is (mgu s t) (sym z ∙ sides-decide l tab s t k b r h e) in
+          let n : mgu s t ≡ none = not-some (mgu s t) (sym z ∙ sides-decide l tab s t k b r h e) in
           rw n (record { answer = refl; leaves = refl });
     }
 
@@ -112,7 +103,7 @@ module _ (l tab : List ℕ) (b : ℕ) (ends cs zs : List ℕ) (h : Solved l tab 
 
   module _ (r : Bool) (a : Decided l tab 0 b r) (y : r ≡ true) where
     the-found : (s t : Term) → SidesOf l tab s t → b ≡ size s → (m : List Binding) × (mgu s t ≡ some m)
-    the-found s t k e = some-is (mgu s t) (sym y ∙ sides-decide l tab s t k b r a e)
+    the-found s t k e = some-of (mgu s t) (sym y ∙ sides-decide l tab s t k b r a e)
 
     pub answers-large : most-nodes < at zs 0 → (d : List ℕ) → SidesUnify l tab b TooLarge d d
     unfolding found-of after-unify

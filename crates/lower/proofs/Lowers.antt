@@ -2,7 +2,7 @@
 -- exactly if the lent bytes are refused (`choice`). Assumes nothing.
 -- Read first: specs/Lower, proofs/Wholes.
 use mathlib.Core.Path.{_≡_, refl, ap, sym, _∙_}
-use mathlib.Core.Bool.{Bool, true, false, false≢true, not, _||_}
+use mathlib.Core.Bool.{Bool, true, false, not, _||_}
 use mathlib.Core.List.{List, [], _∷_}
 use mathlib.Core.Option.{Option, none, some}
 use Prim.Native.Nat.{ℕ, _≤_}
@@ -13,6 +13,7 @@ use denote.Ref.{RefT}
 use borrow.Author.Tests.{ne-eqb}
 use Rattle.terms.specs.Base.{if_then_else_, is-some}
 use Rattle.terms.specs.Term.{Term}
+use Rattle.terms.proofs.Shape.{not-some, some-of, either-has, dec-agree, dec-false}
 use Rattle.order.specs.Order.{above}
 use Rattle.order.specs.Walk.{IsAbove}
 use Rattle.order.proofs.Decide.{above-dec}
@@ -29,39 +30,29 @@ use Rattle.lower.proofs.Wholes.{from-whole, alone}
 -- `lower_over`
 module _ (Σ : List Symbol) where
   pub no-first : (o p : Option Term) → false ≡ is-some o → Neither ≡ lower-of Σ o p
-  unfolding lower-of is-some
-  no-first none p h = refl
-  no-first (some x) p h = absurd (false≢true h)
+  unfolding lower-of
+  no-first o p h = rw (not-some o h) refl
 
   pub no-second : (o p : Option Term) → false ≡ is-some p → Neither ≡ lower-of Σ o p
-  unfolding lower-of is-some
+  unfolding lower-of
   no-second none p h = refl
-  no-second (some x) none h = refl
-  no-second (some x) (some y) h = absurd (false≢true h)
+  no-second (some x) p h = rw (not-some p h) refl
 
 module _ (tab : List ℕ) (T : Table tab) where
   pub few : (t : List ℕ) → true ≡ is-some (whole-term (symbols-of tab) t) → length t ≤ 65_536
-  unfolding is-some
-  few t h = go (whole-term (symbols-of tab) t) refl
-    where
-      go : (o : Option Term) → whole-term (symbols-of tab) t ≡ o → length t ≤ 65_536
-      go none e = absurd (false≢true (sym (h ∙ ap is-some e)))
-      go (some x) e = omega (arith, alone tab T t x e .short)
+  few t h = let x = some-of _ h in omega (arith, alone tab T t (x .0) (x .1) .short)
 
   -- both are whole terms: the order decides
   module _ (f g : List ℕ) (h : true ≡ is-some (whole-term (symbols-of tab) f)) (k : true ≡ is-some (whole-term (symbols-of tab) g)) where
     both : (b : Bool) → IsAbove tab f g b → (if b then Second else First) ≡ lower-over (symbols-of tab) f g
-    unfolding lower-of is-some
-    both b a = go (whole-term (symbols-of tab) f) refl (whole-term (symbols-of tab) g) refl
-      where
-        go : (o : Option Term) → whole-term (symbols-of tab) f ≡ o → (p : Option Term) → whole-term (symbols-of tab) g ≡ p →
-            (if b then Second else First) ≡ lower-over (symbols-of tab) f g
-        go none e p q = absurd (false≢true (sym (h ∙ ap is-some e)))
-        go (some x) e none q = absurd (false≢true (sym (k ∙ ap is-some q)))
-        go (some x) e (some y) q =
-            let z : b ≡ above (rank-of (symbols-of tab)) x y =
-            a x y (alone tab T f x e .starts) (alone tab T g y q .starts) ∙ ap (λ (r : ℕ → ℕ). above r x y) (sym (ranks-are tab T)) in
-            rw (e, q, z) refl
+    unfolding lower-of
+    both b a =
+        let x = some-of _ h in
+        let y = some-of _ k in
+        let z : b ≡ above (rank-of (symbols-of tab)) (x .0) (y .0) =
+        a _ _ (alone tab T f _ (x .1) .starts) (alone tab T g _ (y .1) .starts)
+        ∙ ap (λ (r : ℕ → ℕ). above r (x .0) (y .0)) (sym (ranks-are tab T)) in
+        rw (x .1, y .1, z) refl
 
     pub second-lower : IsAbove tab f g true → Second ≡ lower-over (symbols-of tab) f g
     unfolding if_then_else_
@@ -70,11 +61,6 @@ module _ (tab : List ℕ) (T : Table tab) where
     pub first-lower : IsAbove tab f g false → First ≡ lower-over (symbols-of tab) f g
     unfolding if_then_else_
     first-lower a = both false a
-
--- no two terms are above each other
-never-both : (rank : ℕ → ℕ) (s t : Term) → above rank s t ≡ true → (b : Bool) → above rank t s ≡ b → b ≡ false
-never-both rank s t e false h = refl
-never-both rank s t e true h = absurd (no-cycle rank (above-dec rank s t .0 e) (above-dec rank t s .0 h))
 
 -- "the lower": the one that is handed back is not above the other
 abbrev pub NotAbove : List Symbol → Term → Term → Which → Type 0
@@ -87,7 +73,9 @@ unfolding lower-of if_then_else_
 not-above Σ s t = go (above (rank-of Σ) s t) refl
   where
     go : (b : Bool) → above (rank-of Σ) s t ≡ b → NotAbove Σ s t (lower-of Σ (some s) (some t))
-    go true e = rw (e, lower-of) (never-both (rank-of Σ) s t e _ refl)
+    go true e =
+        rw (e, lower-of)
+        (dec-agree _ false (above-dec (rank-of Σ) t s) (dec-false (λ k. no-cycle (rank-of Σ) (above-dec (rank-of Σ) s t .0 e) k)))
     go false e = rw (e, lower-of) e
 
 -- a term has at least a byte
@@ -110,15 +98,14 @@ module _ (first second : List ℕ) where
   unfolding lower-of is-some if_then_else_
   choice-over Σ = go (whole-term Σ first) refl (whole-term Σ second) refl
     where
-      two : (x y : Term) → whole-term Σ first ≡ some x → whole-term Σ second ≡ some y → (b : Bool) → Choice first second (if b then Second else First) false
-      two x y e q true = is-second (some-bytes Σ second y q)
-      two x y e q false = is-first (some-bytes Σ first x e)
-
       go : (o : Option Term) → whole-term Σ first ≡ o → (p : Option Term) → whole-term Σ second ≡ p →
           Choice first second (lower-over Σ first second) (Refused-over Σ)
       go none e p q = rw (e, lower-of) is-refused
       go (some x) e none q = rw (e, q, lower-of) is-refused
-      go (some x) e (some y) q = rw (e, q, lower-of) (two x y e q (above (rank-of Σ) x y))
+      go (some x) e (some y) q =
+          rw (e, q, lower-of)
+          (either-has (λ (w : Which). Choice first second w false) (above (rank-of Σ) x y) Second First
+          (is-second (some-bytes Σ second y q)) (is-first (some-bytes Σ first x e)))
 
   pub choice : (symbols : List ℕ) → Choice first second (which symbols first second) (lower-refused symbols first second)
   unfolding lower-refused which
@@ -168,7 +155,6 @@ module _ (symbols : List ℕ) (first second : RefT (List ℕ)) where
   unfolding bytes-of place-of
   second-handed h = handed Second h
 
-  pub none-handed : (block place : ℕ) → block ≡ first .ptr .0 → place ≡ first .ptr .1 → Neither ≡ which symbols (first .now) (second .now) →
-      Handed [] (block, place)
+  pub none-handed : Neither ≡ which symbols (first .now) (second .now) → Handed [] (first .ptr)
   unfolding bytes-of place-of
-  none-handed block place b p h = rw (b, p) (handed Neither h)
+  none-handed h = handed Neither h

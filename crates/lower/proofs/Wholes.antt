@@ -50,6 +50,22 @@ module _ {A : Type 0} (a : A) (e : ℕ) where
   whole-alone (b ∷ m) h = absurd (omega arith)
 
 -- `is_term`
+module _ (tab t : List ℕ) where
+  all : between t 0 (length t) ≡ t
+  all = take-length t
+
+  pub not-read : (n p : ℕ) → read-side (symbols-of tab) 0 (between t 0 (length t)) ≡ refused n p → false ≡ is-some (whole-term (symbols-of tab) t)
+  unfolding whole is-some
+  not-read n p h = sym (ap (λ (r : Reading (ReadPart Term)). is-some (whole r)) (rw all at h))
+
+  pub to-its-end : (e : ℕ) (x : Term) → SideAt tab t 0 (length t) e x → eqb e (length t) ≡ is-some (whole-term (symbols-of tab) t)
+  unfolding whole is-some
+  to-its-end e x A = go (drop e t) refl ∙ sym (ap (λ (r : Reading (ReadPart Term)). is-some (whole r)) (rw all at (A .read)))
+    where
+      go : (m : List ℕ) → drop e t ≡ m → eqb e (length t) ≡ is-some (whole (ok (record { part = x; end = e; rest = drop e t })))
+      go [] h = rw (h, whole, is-some) (eq-eqb e (length t) (omega (arith, ap length h, length-drop e t, A .within)))
+      go (b ∷ m) h = rw (h, whole, is-some) (ne-eqb e (length t) (λ z. absurd (omega (arith, ap length h, length-drop e t))))
+
 module _ (tab : List ℕ) (T : Table tab) (t : List ℕ) where
   abbrev Found : Option Term
   Found = whole-term (symbols-of tab) t
@@ -73,21 +89,6 @@ module _ (tab : List ℕ) (T : Table tab) (t : List ℕ) where
       go : (o : Option Term) → Found ≡ o → false ≡ is-some o
       go none e = refl
       go (some x) e = absurd (omega (arith, alone x e .short))
-
-  all : between t 0 (length t) ≡ t
-  all = take-length t
-
-  pub not-read : (n p : ℕ) → read-side (symbols-of tab) 0 (between t 0 (length t)) ≡ refused n p → false ≡ is-some Found
-  unfolding whole is-some
-  not-read n p h = sym (ap (λ (r : Reading (ReadPart Term)). is-some (whole r)) (rw all at h))
-
-  pub to-its-end : (e : ℕ) (x : Term) → SideAt tab t 0 (length t) e x → eqb e (length t) ≡ is-some Found
-  unfolding whole is-some
-  to-its-end e x A = go (drop e t) refl ∙ sym (ap (λ (r : Reading (ReadPart Term)). is-some (whole r)) (rw all at (A .read)))
-    where
-      go : (m : List ℕ) → drop e t ≡ m → eqb e (length t) ≡ is-some (whole (ok (record { part = x; end = e; rest = drop e t })))
-      go [] h = rw (h, whole, is-some) (eq-eqb e (length t) (omega (arith, ap length h, length-drop e t, A .within)))
-      go (b ∷ m) h = rw (h, whole, is-some) (ne-eqb e (length t) (λ z. absurd (omega (arith, ap length h, length-drop e t))))
 
 -- `choose`
 module _ (l : List ℕ) where

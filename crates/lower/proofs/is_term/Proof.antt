@@ -19,21 +19,18 @@ side-at-requires c κs =
 returns-2 : tie.Need-returns-2
 returns-2 c =
     let at-side-at : tie.After-side-at = search depth 0 in
-    let entry : tie.Start = search depth 0 in
-    not-read _ (entry .pre) _ _ _ (rw (c .enum-told .given .1) at (at-side-at .side-at .ensures))
+    not-read _ _ _ _ (rw (c .enum-told .given .1) at (at-side-at .side-at .ensures))
 
 returns-3 : tie.Need-returns-3
 returns-3 c =
     let at-side-at : tie.After-side-at = search depth 0 in
-    let entry : tie.Start = search depth 0 in
-    not-read _ (entry .pre) _ _ _ (rw (c .enum-told2 .given .1) at (at-side-at .side-at .ensures))
+    not-read _ _ _ _ (rw (c .enum-told2 .given .1) at (at-side-at .side-at .ensures))
 
 returns-4 : tie.Need-returns-4
 returns-4 c =
     let at-side-at : tie.After-side-at = search depth 0 in
-    let entry : tie.Start = search depth 0 in
     let A = rw (c .before .end .given .1) at (at-side-at .side-at .ensures) in
-    to-its-end _ (entry .pre) _ _ _ (A .1)
+    to-its-end _ _ _ _ (A .1)
 
 pub is-term-spec : {M : Type 1} → statement M
 is-term-spec =
