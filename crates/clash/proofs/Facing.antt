@@ -1,6 +1,6 @@
 -- The walk of `clash`: whatever makes the two terms one makes the terms one that are still to be compared; and a lemma for each return of `past`.
 -- Assumes nothing.
--- Read first: specs/Clashing, matching/proofs/Walking (join).
+-- Read first: specs/Clashing, terms/proofs/Several (join).
 use mathlib.Core.Path.{_≡_, refl, sym, ap, ap₂, subst, _∙_}
 use mathlib.Core.Bool.{Bool, true, false, false≢true}
 use mathlib.Core.List.{List, _∷_, _++_, append-assoc, append-nil, cons≢nil}
@@ -17,7 +17,7 @@ use Rattle.terms.proofs.Bytes.{length-bytes}
 use Rattle.terms.proofs.Flats.{skip-term}
 use Rattle.terms.proofs.Shape.{Says, eqb-says, cons-head, cons-tail, node-args, node-symbol, nil≢cons}
 use Rattle.terms.proofs.Starts.{end-pos}
-use Rattle.matching.proofs.Walking.{join, join-bytes, join-wf}
+use Rattle.terms.proofs.Several.{join, join-bytes, join-wf}
 use Rattle.clash.specs.Clashing.{Differ, Past, Clashing}
 
 -- the terms that are still to be compared, from i of s and from j of t on, which σ and τ make one

@@ -15,6 +15,7 @@ use Rattle.terms.specs.Term.{Term, Terms, var, node, nil, cons, term-bytes, ter
 use Rattle.terms.specs.Flat.{Wf, Wfs}
 use Rattle.terms.specs.Scan.{arity}
 use Rattle.terms.proofs.Places.{size-pos}
+use Rattle.terms.proofs.Several.{join, join-bytes, join-wf, join-count}
 use Rattle.terms.proofs.Shape.{Says, eqb-says}
 use Rattle.unify.specs.Unify.{Binding}
 use Rattle.rewriting.specs.Rewrite.{bound, bind-to, matching, matching-all}
@@ -24,10 +25,6 @@ use Rattle.matching.specs.Held.{Slot, Rep, Within, Cleared, BoundTo, Adv
 use Rattle.matching.proofs.Celled.{length-cells, cell-byte}
 use Rattle.matching.proofs.Clearing.{cleared-within}
 
-unfoldable pub join : Terms → Terms → Terms
-join nil us = us
-join (cons t ts) us = cons t (join ts us)
-
 after-some : (o : Option (List Binding)) (k : List Binding → Option (List Binding)) → ((bs : List Binding) → k bs ≡ some bs) → after o k ≡ o
 after-some none k h = refl
 after-some (some bs) k h = h bs
@@ -36,21 +33,6 @@ after-after : (o : Option (List Binding)) (j k : List Binding → Option (List B
     ((bs : List Binding) → l bs ≡ after (j bs) k) → after o l ≡ after (after o j) k
 after-after none j k l h = refl
 after-after (some bs) j k l h = h bs
-
-pub join-bytes : (ts us : Terms) → terms-bytes (join ts us) ≡ terms-bytes ts ++ terms-bytes us
-unfolding join terms-bytes
-join-bytes nil us = refl
-join-bytes (cons t ts) us = ap (λ l. term-bytes t ++ l) (join-bytes ts us) ∙ sym (append-assoc (term-bytes t) (terms-bytes ts) (terms-bytes us))
-
-pub join-wf : (n : ℕ) (tab : List ℕ) (ts us : Terms) → Wfs n tab ts → Wfs n tab us → Wfs n tab (join ts us)
-unfolding join Wfs
-join-wf n tab nil us w v = v
-join-wf n tab (cons t ts) us w v = (w .0, join-wf n tab ts us (w .1) v)
-
-join-count : (ts us : Terms) → count (join ts us) ≡ count ts + count us
-unfolding join count
-join-count nil us = omega arith
-join-count (cons t ts) us = omega (arith, join-count ts us)
 
 join-cells : (ts us : Terms) → cells-all (join ts us) ≡ cells-all ts ++ cells-all us
 unfolding join cells-all

@@ -6,7 +6,6 @@ use mathlib.Core.List.{List, _∷_, _++_, append-assoc}
 use mathlib.Core.Option.{some}
 use Prim.Native.Nat.{ℕ, zero, suc, _+_, _-_, _≤_, _<_}
 use native.Mathlib.Omega.{arith}
-use native.Mathlib.Nat.{le-of-suc-le-suc}
 use lib.ListN.{length, getD, drop, length-append, drop-of-length-le}
 use lib.Seq.{drop-cons, drop-at}
 use Rattle.terms.specs.Term.{Term, var, node, Terms, nil, cons, size, sizes, term-bytes, terms-bytes, subterm-at, subterm-in, count}
@@ -16,34 +15,9 @@ use Rattle.terms.proofs.Bytes.{length-bytes, length-bytes-all, around-in}
 use Rattle.terms.proofs.Flats.{unique, wf-subterm-in}
 use Rattle.terms.proofs.Places.{size-pos, place}
 use Rattle.terms.proofs.Positions.{subterm-is}
-use Rattle.terms.proofs.Scans.{owes-symbol}
+use Rattle.terms.proofs.Scans.{owes-symbol, owes-other}
+use Rattle.terms.proofs.Several.{begins-symbol, begins-variable}
 use Rattle.mgu.specs.Result.{Formed, IsTerms}
-
--- the first k of some terms, and the others
-record Split (tab : List ℕ) (k : ℕ) (ts : Terms) : Type 0 where
-  first : Terms
-  rest : Terms
-  number : count first ≡ k
-  others : count rest + k ≡ count ts
-  bytes : terms-bytes ts ≡ terms-bytes first ++ terms-bytes rest
-  first-wf : Wfs 32 tab first
-  rest-wf : Wfs 32 tab rest
-
-split : (tab : List ℕ) (k : ℕ) (ts : Terms) → Wfs 32 tab ts → k ≤ count ts → Split tab k ts
-unfolding count terms-bytes Wfs
-split tab zero ts w h = record { first = nil; rest = ts; number = refl; others = omega arith; bytes = refl; first-wf = tt; rest-wf = w }
-split tab (suc k) nil w h = absurd (omega arith)
-split tab (suc k) (cons t ts) w h =
-    let s = split tab k ts (w .1) (le-of-suc-le-suc h) in
-    record {
-      first = cons t (s .first);
-      rest = s .rest;
-      number = ap suc (s .number);
-      others = omega (arith, s .others);
-      bytes = ap (λ l. term-bytes t ++ l) (s .bytes) ∙ sym (append-assoc (term-bytes t) (terms-bytes (s .first)) (terms-bytes (s .rest)));
-      first-wf = (w .0, s .first-wf);
-      rest-wf = s .rest-wf;
-    }
 
 -- terms that begin the bytes of others are at most as many
 fewer : (tab : List ℕ) (us ts : Terms) (rest : List ℕ) → Wfs 32 tab us → Wfs 32 tab ts → terms-bytes us ++ rest ≡ terms-bytes ts → count us ≤ count ts
@@ -92,23 +66,18 @@ module _ (tab : List ℕ) (b have : ℕ) where
   }
 
   pub formed-variable : 128 ≤ b → b < 160 → Formed tab b have (have + 1)
-  unfolding Wf Wfs count terms-bytes term-bytes
   formed-variable h k = record {
     most = omega arith;
     more = λ z ts w n.
-        let e : b ≡ 128 + (b - 128) = omega arith in
-        (cons (var (b - 128)) ts, (let x : b - 128 < 32 = omega arith in x, w), omega arith, ap (λ c. c ∷ terms-bytes ts) e);
+        let u = begins-variable tab b ts h k w in
+        (u .0, u .1, omega (arith, u .2, owes-other tab b (omega arith)), u .3);
     none = λ z. absurd (omega arith);
   }
 
   pub formed-symbol : (k : ℕ) → k ≡ owes tab b → b < 16 → k ≤ have → Formed tab b have (have - k + 1)
-  unfolding Wf Wfs count terms-bytes term-bytes
   formed-symbol k q h l = record {
     most = omega arith;
-    more = λ z ts w n.
-        let s = split tab k ts w (omega arith) in
-        let number = s .number ∙ q ∙ owes-symbol tab b h in
-        (cons (node b (s .first)) (s .rest), ((h, number, s .first-wf), s .rest-wf), omega (arith, s .others), ap (λ x. b ∷ x) (s .bytes));
+    more = λ z ts w n. let u = begins-symbol tab b ts h w (omega arith) in (u .0, u .1, omega (arith, u .2), u .3);
     none = λ z. absurd (omega arith);
   }
 

@@ -1,103 +1,53 @@
--- The walk of `same_term` over two lists of bytes in step, as a function of the lists: it tells well-formed terms apart; and a lemma for each step and each
--- return of the loop. Assumes nothing.
--- Read first: specs/Flat, proofs/Scans (`owes-symbol`, `owes-other`).
-use mathlib.Core.Path.{_≡_, refl, sym, ap, ap₂, _∙_}
-use mathlib.Core.Bool.{Bool, true, false, _&&_, and-assoc, and-true}
-use mathlib.Core.List.{List, [], _∷_, _++_, append-assoc}
-use Prim.Native.Nat.{ℕ, zero, suc, _+_, _-_, _<_, _≤_}
+-- The walk of `same_term` over two lists of bytes in step, whose position is i and whose count is n: a lemma for each step and each return of the loop.
+-- Assumes nothing.
+-- Read first: specs/Owed, specs/Flat (IsSame), proofs/Owing (`inside`).
+use mathlib.Core.Path.{_≡_, ap, ap₂, sym, _∙_}
+use mathlib.Core.Bool.{true, false}
+use mathlib.Core.List.{List, [], _∷_, _++_}
+use Prim.Native.Nat.{ℕ, _+_, _<_, _≤_}
 use native.Mathlib.Omega.{arith}
-use native.Mathlib.Nat.{zero-add, suc-add}
-use native.Mathlib.Numerals.{add-one}
-use lib.Dec.{eqb}
-use lib.ListN.{length, getD, drop, drop-of-length-le}
-use lib.Seq.{drop-cons}
-use borrow.Author.Tests.{eq-eqb, ne-eqb}
-use Rattle.terms.specs.Term.{Term, var, node, Terms, nil, cons, term-bytes, terms-bytes, same, sames, count}
-use Rattle.terms.specs.Scan.{arity, owes}
-use Rattle.terms.specs.Flat.{Wf, Wfs, IsSame}
-use Rattle.terms.proofs.Scans.{owes-symbol, owes-other}
-use Rattle.terms.proofs.Shape.{Says, eqb-says, dec-agree, dec-map, eqb-dec}
+use lib.ListN.{length, getD, take, drop, take-append-drop, List·getD-append}
+use lib.Seq.{take-at}
+use Rattle.terms.specs.Term.{Term, term-bytes, size, same}
+use Rattle.terms.specs.Flat.{Starts, IsSame}
+use Rattle.terms.specs.Owed.{Counted}
+use Rattle.terms.proofs.Bytes.{length-bytes}
+use Rattle.terms.proofs.Flats.{unique}
+use Rattle.terms.proofs.Owing.{inside, starts-fit, one-more}
+use Rattle.terms.proofs.Shape.{dec-agree, dec-true, dec-false, same-dec}
 
--- whether the next n terms are the same on both sides
-unfoldable pub same-next : List ℕ → List ℕ → List ℕ → ℕ → Bool
-same-next tab [] t zero = true
-same-next tab [] t (suc n) = false
-same-next tab (b ∷ s) t zero = true
-same-next tab (b ∷ s) [] (suc n) = false
-same-next tab (b ∷ s) (c ∷ t) (suc n) =
-    let more : Bool = same-next tab s t (owes tab b + n) in
-    eqb b c && more
+pub same-more : (s t : List ℕ) (i : ℕ) → i < length s → i < length t → getD s i 0 ≡ getD t i 0 → take i s ≡ take i t → take (i + 1) s ≡ take (i + 1) t
+same-more s t i h k e q =
+    one-more s i h ∙ ap₂ (λ r b. r ++ (b ∷ [])) q e ∙ sym (one-more t i k)
 
-next-none : (tab s t : List ℕ) → same-next tab s t 0 ≡ true
-unfolding same-next
-next-none tab [] t = refl
-next-none tab (b ∷ s) t = refl
+module _ (tab s t : List ℕ) (i n : ℕ) (c : Counted tab s i n) where
+  -- Nothing is owed: the whole of the one term stands on both sides.
+  pub same-ended : n ≤ 0 → take i s ≡ take i t → IsSame tab s t true
+  same-ended h q x y b d =
+      let z : n ≡ 0 = omega arith in
+      let r : take i s ≡ term-bytes x = ap (take i) (b .bytes) ∙ take-at (term-bytes x) (b .rest) i (length-bytes x ∙ sym (c .first-zero x b .1 .0 z)) in
+      let e : term-bytes x ++ drop i t ≡ term-bytes y ++ d .rest = ap (λ l. l ++ drop i t) (sym r ∙ q) ∙ take-append-drop i t ∙ d .bytes in
+      dec-agree true (same x y) (dec-true (unique 32 tab x y (drop i t) (d .rest) (b .wf) (d .wf) e .0)) (same-dec x y)
 
-same-variable : (a b : ℕ) → eqb (128 + a) (128 + b) ≡ eqb a b
-same-variable a b = dec-agree _ _ (eqb-dec (128 + a) (128 + b)) (dec-map (λ e. ap (λ (n : ℕ). 128 + n) e) (λ e. omega arith) (eqb-dec a b))
+  -- Something is owed, so byte i is one of the term in s: it is there, and if the terms are equal it stands on both sides.
+  module _ (p : 0 < n) where
+    here : (x : Term) → Starts tab s x → i < size x
+    here = inside tab s i n c (λ z. omega arith)
 
--- the arguments are walked only behind the same symbol
-same-behind : {A : Type 0} (a l r : Bool) → Says A a → (A → l ≡ r) → (a && l) ≡ (a && r)
-same-behind true l r p h = h p
-same-behind false l r p h = refl
+    pub short-left : length s ≤ i → IsSame tab s t false
+    short-left h x y b d = absurd (omega (arith, here x b, starts-fit tab s x b))
 
-mutual
-  unfolding term-bytes Wf count same same-next
+    pub short-right : length t ≤ i → IsSame tab s t false
+    short-right h x y b d =
+        dec-agree false (same x y) (dec-false (λ e. omega (arith, here x b, starts-fit tab t y d, ap size e))) (same-dec x y)
 
-  pub next-term : (m : ℕ) (tab : List ℕ) (x y : Term) → Wf m tab x → Wf m tab y → (r q : List ℕ) (n : ℕ) →
-      same-next tab (term-bytes x ++ r) (term-bytes y ++ q) (suc n) ≡ (same x y && same-next tab r q n)
-  next-term m tab (var a) (var b) w v r q n = rw (owes-other tab (0x80 + a) (omega arith), zero-add n, same-variable a b) refl
-  next-term m tab (var a) (node g us) w v r q n = rw (ne-eqb (0x80 + a) g (λ e. omega (arith, v .0))) refl
-  next-term m tab (node f ts) (var b) w v r q n = rw (ne-eqb f (0x80 + b) (λ e. omega (arith, w .0))) refl
-  next-term m tab (node f ts) (node g us) w v r q n =
-      same-behind (eqb f g) _ _ (eqb-says f g) (λ e.
-      rw (owes-symbol tab f (w .0), ← w .1) (next-terms m tab ts us (w .2) (v .2) (w .1 ∙ ap (arity tab) e ∙ sym (v .1)) r q n))
-      ∙ sym (and-assoc (eqb f g) (sames ts us) (same-next tab r q n))
+    byte-at : (l : List ℕ) (x : Term) → Starts tab l x → i < size x → getD l i 0 ≡ getD (term-bytes x) i 0
+    byte-at l x b h = ap (λ m. getD m i 0) (b .bytes) ∙ List·getD-append (term-bytes x) (b .rest) 0 i (omega (arith, length-bytes x))
 
-  pub next-terms : (m : ℕ) (tab : List ℕ) (ts us : Terms) → Wfs m tab ts → Wfs m tab us → count ts ≡ count us → (r q : List ℕ) (n : ℕ) →
-      same-next tab (terms-bytes ts ++ r) (terms-bytes us ++ q) (count ts + n) ≡ (sames ts us && same-next tab r q n)
-  next-terms m tab nil nil w v c r q n = rw (zero-add n) refl
-  next-terms m tab nil (cons u us) w v c r q n = absurd (omega arith)
-  next-terms m tab (cons t ts) nil w v c r q n = absurd (omega arith)
-  next-terms m tab (cons t ts) (cons u us) w v c r q n =
-      rw (append-assoc (term-bytes t) (terms-bytes ts) r, append-assoc (term-bytes u) (terms-bytes us) q, suc-add (count ts) n)
-      (next-term m tab t u (w .0) (v .0) (terms-bytes ts ++ r) (terms-bytes us ++ q) (count ts + n)
-      ∙ ap (λ b. same t u && b) (next-terms m tab ts us (w .1) (v .1) (omega arith) r q n)
-      ∙ sym (and-assoc (same t u) (sames ts us) (same-next tab r q n)))
-
--- what the walk answers from the start
-pub same-walked : (tab s t : List ℕ) (r : Bool) → r ≡ same-next tab (drop 0 s) (drop 0 t) 1 → IsSame tab s t r
-same-walked tab s t r h x y b d =
-    h
-    ∙ ap₂ (λ (k l : List ℕ). same-next tab k l 1) (b .bytes) (d .bytes)
-    ∙ next-term 32 tab x y (b .wf) (d .wf) (b .rest) (d .rest) 0
-    ∙ ap (λ c. same x y && c) (next-none tab (b .rest) (d .rest))
-    ∙ and-true (same x y)
-
--- The steps of the loop over s and t, whose position is i and whose debt is n; at its end the parts behind i do not matter.
-pub next-done : (tab s t : List ℕ) (n : ℕ) → n ≤ 0 → true ≡ same-next tab s t n
-next-done tab s t n h = let e : n ≡ 0 = omega arith in rw e (sym (next-none tab s t))
-
-module _ (tab s t : List ℕ) where
-  pub next-no-left : (i n : ℕ) → 0 < n → length s ≤ i → false ≡ same-next tab (drop i s) (drop i t) n
-  unfolding same-next
-  next-no-left i zero p h = absurd (omega arith)
-  next-no-left i (suc n) p h = rw (drop-of-length-le s h)
-
-  pub next-no-right : (i n : ℕ) → 0 < n → i < length s → length t ≤ i → false ≡ same-next tab (drop i s) (drop i t) n
-  unfolding same-next
-  next-no-right i zero p h k = absurd (omega arith)
-  next-no-right i (suc n) p h k = rw (drop-cons s i 0 h, drop-of-length-le t k)
-
-  pub next-differs : (i n : ℕ) → 0 < n → i < length s → i < length t → (getD s i 0 ≡ getD t i 0 → ⊥) → false ≡ same-next tab (drop i s) (drop i t) n
-  unfolding same-next
-  next-differs i zero p h k d = absurd (omega arith)
-  next-differs i (suc n) p h k d = rw (drop-cons s i 0 h, drop-cons t i 0 k, ne-eqb (getD s i 0) (getD t i 0) d)
-
-  pub next-equal : (i n k : ℕ) → 0 < n → i < length s → i < length t → getD s i 0 ≡ getD t i 0 → k ≡ owes tab (getD s i 0) →
-      same-next tab (drop (i + 1) s) (drop (i + 1) t) (n - 1 + k) ≡ same-next tab (drop i s) (drop i t) n
-  unfolding same-next
-  next-equal i zero k p h l e o = absurd (omega arith)
-  next-equal i (suc n) k p h l e o =
-      let m : suc n - 1 + k ≡ owes tab (getD s i 0) + n = omega arith in
-      rw (drop-cons s i 0 h, drop-cons t i 0 l, eq-eqb (getD s i 0) (getD t i 0) e, m, add-one i)
+    pub differs : (getD s i 0 ≡ getD t i 0 → ⊥) → IsSame tab s t false
+    differs h x y b d =
+        dec-agree false (same x y)
+        (dec-false (λ e.
+        let k : i < size y = omega (arith, here x b, ap size e) in
+        h (byte-at s x b (here x b) ∙ ap (λ z. getD (term-bytes z) i 0) e ∙ sym (byte-at t y d k))))
+        (same-dec x y)

@@ -13,11 +13,7 @@ use Rattle.terms.specs.Scan.{owes, skip}
 use Rattle.terms.specs.Flat.{Wf, Starts, StartAll}
 use Rattle.terms.proofs.Bytes.{length-bytes, around}
 use Rattle.terms.proofs.Scans.{owes-symbol}
-use Rattle.terms.proofs.Flats.{skip-term, wf-subterm}
-
--- what the walk says of bytes, said of a term
-pub ends-term : (tab t : List ℕ) (at r : ℕ) → r ≡ at + skip tab (drop at t) 1 → (x : Term) → Starts tab (drop at t) x → r ≡ at + size x
-ends-term tab t at r h x s = h ∙ ap (λ (n : ℕ). at + n) (ap (λ (l : List ℕ). skip tab l 1) (s .bytes) ∙ skip-term 32 tab x (s .wf) (s .rest))
+use Rattle.terms.proofs.Flats.{wf-subterm}
 
 -- what `term_end` says of the bytes s, from their start
 abbrev pub IsEnd : List ℕ → List ℕ → ℕ → Type 0
