@@ -1,12 +1,12 @@
 -- The instances of two nodes, written one after the other and renamed, are the renamed pair; their names are few. Assumes nothing.
--- Read first: specs/Placed (PutPair, BothSmall), mgu/specs/Written (WritesTerms), naming/proofs/Pairs (left-cut, right-cut), naming/proofs/Few.
+-- Read first: specs/Placed (PutPair, BothSmall), mgu/specs/Written (WritesTerm), naming/proofs/Pairs (left-cut, right-cut), naming/proofs/Few.
 use mathlib.Core.Path.{_≡_, sym, ap, ap₂, subst₂, _∙_}
 use mathlib.Core.Logic.{⊎-elim}
 use mathlib.Core.List.{List, [], _++_, append-nil, List·Memᴰ·not-nil, List·Memᴰ·cases-cons, List·Memᴰ·append-cases}
 use Prim.Native.Nat.{ℕ, _+_, _-_, _≤_, _<_}
 use native.Mathlib.Omega.{arith}
 use lib.ListN.{length, take, drop, length-append, length-take}
-use Rattle.terms.specs.Term.{Term, Terms, nil, cons, Pair, size, sizes, variables, variables-of, term-bytes, terms-bytes, renamed}
+use Rattle.terms.specs.Term.{Term, Terms, nil, cons, Pair, size, variables, variables-of, term-bytes, terms-bytes, renamed}
 use Rattle.terms.proofs.Bytes.{length-bytes}
 use Rattle.terms.proofs.Subst.{In}
 use Rattle.classes.specs.Arena.{Spells, free, made, SpellsAll, none, more}
@@ -15,7 +15,7 @@ use Rattle.naming.specs.Names.{collect, renamed-bytes}
 use Rattle.naming.proofs.Renaming.{Lows, length-renamed}
 use Rattle.naming.proofs.Pairs.{left-cut, right-cut}
 use Rattle.naming.proofs.Few.{terms-few}
-use Rattle.mgu.specs.Written.{put, RoomFor, WritesTerms}
+use Rattle.mgu.specs.Written.{put, RoomFor, WritesTerm}
 use Rattle.classes.proofs.Arena.{spells-one}
 use Rattle.mgu.proofs.Instance.{spells-lows}
 use Rattle.mgu.proofs.Writing.{put-append, put-reads}
@@ -55,57 +55,45 @@ module _ {l tab ends cs : List ℕ} (rd : Ready l tab ends cs) (low : VariablesL
   abbrev pair : Pair
   pair = record { left = y; right = z }
 
-  one : SpellsAll (arena l tab ends) (at cs) a 1 (cons y nil)
-  one = more (s .2) none
-
   two : SpellsAll (arena l tab ends) (at cs) b 1 (cons z nil)
   two = more (s .3) none
 
-  pub pair-room : (m : ℕ) → 240 ≤ m → (us : Terms) × SpellsAll (arena l tab ends) (at cs) a 1 us × (0 + sizes us ≤ m)
-  unfolding sizes
-  pair-room m n = (cons y nil, one, omega (arith, s .4))
+  pub pair-room : (m : ℕ) → 240 ≤ m → (u : Term) × Spells (arena l tab ends) (at cs) a u × (size u ≤ 120) × (0 + size u ≤ m)
+  pair-room m n = (y, s .2, s .4, omega (arith, s .4))
 
-  module _ {d : List ℕ} (n : 240 ≤ length d) {e : ℕ} {d₁ : List ℕ} (w₁ : WritesTerms (arena l tab ends) (at cs) a 1 0 d e d₁) where
+  module _ {d : List ℕ} (n : 240 ≤ length d) {e : ℕ} {d₁ : List ℕ} (w₁ : WritesTerm (arena l tab ends) (at cs) a 0 d e d₁) where
     first-end : e ≡ size y
-    unfolding sizes
-    first-end = omega (arith, w₁ .ends (cons y nil) one)
+    first-end = omega (arith, w₁ .ends y (s .2))
 
-    pub pair-room-2 : RoomFor (arena l tab ends) (at cs) b 1 e d₁
-    unfolding sizes
-    pair-room-2 = (cons z nil, two, omega (arith, first-end, w₁ .long, s .4, s .5))
+    pub pair-room-2 : RoomFor (arena l tab ends) (at cs) b e d₁
+    pair-room-2 = (z, s .3, s .5, omega (arith, first-end, w₁ .long, s .4, s .5))
 
-    module _ {f : ℕ} {d₂ : List ℕ} (w₂ : WritesTerms (arena l tab ends) (at cs) b 1 e d₁ f d₂) where
+    module _ {f : ℕ} {d₂ : List ℕ} (w₂ : WritesTerm (arena l tab ends) (at cs) b e d₁ f d₂) where
       second-end : f ≡ size y + size z
-      unfolding sizes
-      second-end = omega (arith, w₂ .ends (cons z nil) two, first-end)
+      second-end = omega (arith, w₂ .ends z (s .3), first-end)
 
-      whole : d₂ ≡ put 0 (terms-bytes (cons y (cons z nil))) d
-      unfolding terms-bytes
-      whole =
-          let k : e ≡ 0 + length (term-bytes y) = omega (arith, first-end, length-bytes y) in
-          w₂ .bytes (cons z nil) two
-          ∙ ap₂ (λ k m. put k (term-bytes z ++ []) m) k (w₁ .bytes (cons y nil) one ∙ ap (λ k. put 0 k d) (append-nil (term-bytes y)))
-          ∙ sym (put-append 0 (term-bytes y) (term-bytes z ++ []) d)
+      both : length (term-bytes y ++ term-bytes z) ≡ f
+      both = length-append (term-bytes y) (term-bytes z) ∙ omega (arith, length-bytes y, length-bytes z, second-end)
 
-      written : take f d₂ ≡ terms-bytes (cons y (cons z nil))
-      unfolding terms-bytes
+      written : take f d₂ ≡ term-bytes y ++ term-bytes z
       written =
-          let k : length (term-bytes y ++ (term-bytes z ++ [])) ≡ f =
-          length-append (term-bytes y) (term-bytes z ++ []) ∙ omega (arith, length-append (term-bytes z) [], length-bytes y, length-bytes z, second-end) in
-          ap₂ (λ j h. take j h) (sym k) whole ∙ put-reads (terms-bytes (cons y (cons z nil))) d (omega (arith, k, second-end, s .4, s .5))
+          let k : e ≡ 0 + length (term-bytes y) = omega (arith, first-end, length-bytes y) in
+          let whole : d₂ ≡ put 0 (term-bytes y ++ term-bytes z) d =
+          w₂ .bytes z (s .3) ∙ ap₂ (λ k m. put k (term-bytes z) m) k (w₁ .bytes y (s .2)) ∙ sym (put-append 0 (term-bytes y) (term-bytes z) d) in
+          ap₂ (λ j h. take j h) (sym both) whole ∙ put-reads (term-bytes y ++ term-bytes z) d (omega (arith, both, second-end, s .4, s .5))
 
       lows-both : Lows (cons y (cons z nil))
       unfolding Lows
-      lows-both = (spells-lows one .0, spells-lows two)
+      lows-both = (spells-lows (more {k = 0} (s .2) none) .0, spells-lows two)
 
       pub pair-names : (f ≤ length d₂) × (f ≤ 240) × (length (collect [] (take f d₂)) ≤ 127)
-      unfolding variables-of
+      unfolding variables-of terms-bytes
       pair-names = (
         omega (arith, second-end, w₁ .long, w₂ .long, s .4, s .5),
         omega (arith, second-end, s .4, s .5),
         omega (
           arith,
-          ap (λ k. length (collect [] k)) written,
+          ap (λ k. length (collect [] k)) (written ∙ sym (ap (λ k. term-bytes y ++ k) (append-nil (term-bytes z)))),
           terms-few 32 (cons y (cons z nil)) lows-both
               (λ x i. ⊎-elim (λ j. low-variables rd low (s .2) x j) (λ j. lows-variables rd low two x j) (List·Memᴰ·append-cases (variables y) i)),
         ),
@@ -114,8 +102,7 @@ module _ {l tab ends cs : List ℕ} (rd : Ready l tab ends cs) (low : VariablesL
       -- the buffer with its front renamed
       module _ {d₃ : List ℕ} (h : d₃ ≡ renamed-bytes (take f d₂) ++ drop f d₂) where
         renamed-front : d₃ ≡ renamed-bytes (term-bytes y ++ term-bytes z) ++ drop f d₂
-        unfolding terms-bytes
-        renamed-front = h ∙ ap (λ k. renamed-bytes k ++ drop f d₂) (written ∙ ap (λ k. term-bytes y ++ k) (append-nil (term-bytes z)))
+        renamed-front = h ∙ ap (λ k. renamed-bytes k ++ drop f d₂) written
 
         pub pair-halves : Halves e f d₃ y z
         unfolding Lows

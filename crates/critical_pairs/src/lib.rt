@@ -25,8 +25,8 @@ fn put_pair(
         (now (pair .exit)) ⌝ }
 {
     let mut out = [0u8; limits::PAIR];
-    let e = mgu::write(nodes, table, ends, class, a, 1, &mut out, 0);
-    let f = mgu::write(nodes, table, ends, class, b, 1, &mut out, e);
+    let e = mgu::write(nodes, table, ends, class, a, &mut out, 0);
+    let f = mgu::write(nodes, table, ends, class, b, &mut out, e);
     naming::rename_front(&mut out, f);
     let both = &out[..];
     slots::put_sides(pair, 0, &both[0..e], &both[e..f]);

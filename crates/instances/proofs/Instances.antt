@@ -1,21 +1,21 @@
 -- The term that node 0 spells is written, renamed, as a field of tag 15: lemmas for `write_instance`. Assumes nothing.
 -- Read first: specs/Common (Spelt, WritesSpelt, instance-field), naming/specs/Names (renamed-bytes), fields/specs/Puts.
 use mathlib.Core.Path.{_≡_, ap, _∙_}
-use mathlib.Core.List.{List, [], _++_, append-nil}
+use mathlib.Core.List.{List, [], _++_}
 use Prim.Native.Nat.{ℕ, _+_, _≤_}
 use native.Mathlib.Omega.{arith}
 use lib.ListN.{length, take, drop, length-take}
 use lib.Seq.{take-at, length-take-le}
 use Rattle.limits.specs.Limits.{most-nodes, most-pair}
 use Rattle.terms.specs.Base.{field-bytes}
-use Rattle.terms.specs.Term.{Term, Terms, nil, cons, size, sizes, term-bytes, terms-bytes}
+use Rattle.terms.specs.Term.{Term, size, term-bytes}
 use Rattle.terms.proofs.Bytes.{length-bytes}
-use Rattle.classes.specs.Arena.{Spells, SpellsAll, none as no-more, more}
+use Rattle.classes.specs.Arena.{Spells}
 use Rattle.classes.specs.Steps.{at, arena}
 use Rattle.naming.specs.Names.{collect, renamed-bytes}
 use Rattle.naming.proofs.Renaming.{length-renamed}
 use Rattle.naming.proofs.Few.{collect-few}
-use Rattle.mgu.specs.Written.{put, WritesTerms}
+use Rattle.mgu.specs.Written.{WritesTerm}
 use Rattle.mgu.proofs.Writing.{put-reads}
 use Rattle.completion.specs.Calls.{written}
 use Rattle.fields.specs.Puts.{Puts, tagged}
@@ -27,24 +27,21 @@ pub front-room : (n : ℕ) (l : List ℕ) → n ≤ most-nodes → length l ≡ 
 front-room n l h k = (omega arith, omega arith, omega (arith, collect-few [] (take n l), length-take n l))
 
 module _ (l tab ends cs : List ℕ) (k : Spelt l tab ends cs) where
-  pub spelt-room : (us : Terms) × SpellsAll (arena l tab ends) (at cs) 0 1 us × (0 + sizes us ≤ most-nodes)
-  unfolding sizes
-  spelt-room = (cons (k .term) nil, more (k .spells) no-more, omega (arith, k .small))
+  pub spelt-room : (u : Term) × Spells (arena l tab ends) (at cs) 0 u × (size u ≤ most-nodes) × (0 + size u ≤ most-nodes)
+  spelt-room = (k .term, k .spells, k .small, omega (arith, k .small))
 
-  module _ (d e : List ℕ) (r : ℕ) (z : length d ≡ most-nodes) (w : WritesTerms (arena l tab ends) (at cs) 0 1 0 d r e) where
+  module _ (d e : List ℕ) (r : ℕ) (z : length d ≡ most-nodes) (w : WritesTerm (arena l tab ends) (at cs) 0 0 d r e) where
     spelt-end : (u : Term) → Spells (arena l tab ends) (at cs) 0 u → r ≡ size u
-    unfolding sizes
-    spelt-end u p = omega (arith, w .ends (cons u nil) (more p no-more))
+    spelt-end u p = omega (arith, w .ends u p)
 
     pub spelt-few : (r ≤ most-nodes) × (length e ≡ most-nodes)
     spelt-few = (omega (arith, spelt-end (k .term) (k .spells), k .small), w .long ∙ z)
 
     spelt-bytes : (u : Term) → Spells (arena l tab ends) (at cs) 0 u → take r e ≡ term-bytes u
-    unfolding terms-bytes
     spelt-bytes u p =
         let n : r ≡ length (term-bytes u) = omega (arith, spelt-end u p, length-bytes u) in
         ap (λ (n : ℕ). take n e) n
-        ∙ ap (take (length (term-bytes u))) (w .bytes (cons u nil) (more p no-more) ∙ ap (λ (x : List ℕ). put 0 x d) (append-nil (term-bytes u)))
+        ∙ ap (take (length (term-bytes u))) (w .bytes u p)
         ∙ put-reads (term-bytes u) d (omega (arith, spelt-few .0))
 
     module _ (q : List ℕ) (h : q ≡ renamed-bytes (take r e) ++ drop r e) where

@@ -23,7 +23,7 @@ fn write_instance(
         (now (result .exit)) ⌝ }
 {
     let mut out = [0u8; limits::NODES];
-    let n = mgu::write(nodes, table, ends, class, 0, 1, &mut out, 0);
+    let n = mgu::write(nodes, table, ends, class, 0, &mut out, 0);
     naming::rename_front(&mut out, n);
     fields::put_field(result, 0, INSTANCE, &out[..n])
 }

@@ -1,12 +1,14 @@
 // Unification of the terms at two nodes of an arena of bytes, by classes of nodes.
 mod start;
 
-ghost use Prim.Native.Nat.{_<_, _≤_};
+ghost use mathlib.Core.Path.{_≡_};
+ghost use Prim.Native.Nat.{_+_, _<_, _≤_};
 ghost use lib.ListN.{length};
 ghost use Rattle.limits.specs.Limits.{arena-width};
 ghost use Rattle.classes.specs.Steps.{at, arena, Ready};
 ghost use Rattle.mgu.specs.Result.{LaidOut, SolvedIf, Decided, Formed, IsTerms};
-ghost use Rattle.mgu.specs.Written.{RoomFor, WritesTerms};
+ghost use Rattle.mgu.specs.Written.{put, hops, HopsWithin, RoomFor, WritesTerm};
+use limits::NODES;
 
 // Whether the terms at nodes a and b have a unifier; then the classes and sizes of the most general one are left behind.
 pub fn unify(
@@ -69,30 +71,49 @@ pub fn laid_out(nodes: &[u8], table: &[u8]) -> bool
     true
 }
 
-// Writes the instances of k terms from node p on, and answers where they end.
+// The k nodes that stand one after the other from p on, by the nodes' ends, into `owed` from w on.
+fn list(ends: &[u16], p: usize, k: usize, owed: &mut [u16], w: usize)
+    requires { ⌜ (w + k ≤ length (now owed)) × HopsWithin (now ends) p k ⌝ }
+    ensures { λ _. ⌜ now (owed .exit) ≡ put w (hops (now (ends .entry)) p k) (now (owed .entry)) ⌝ }
+{
+    let mut q = p;
+    let mut j = 0;
+    while j < k {
+        owed[w + j] = q as u16;
+        q = classes::wide(ends[q]);
+        j += 1;
+    }
+}
+
+// Writes the instance of the term at node p, and answers where it ends. The nodes of the subterms still owed stand at the end of a list, the next one
+// first: it is taken, the byte of its class is written, and the arguments of that node are owed in its place.
 pub fn write(
     nodes: &[u8],
     table: &[u8],
     ends: &[u16],
     class: &[u16],
     p: usize,
-    k: usize,
     out: &mut [u8],
     to: usize,
 ) -> usize
     requires { ⌜ Ready (now nodes) (now table) (now ends) (now class) ⌝ }
-    requires { ⌜ RoomFor (arena (now nodes) (now table) (now ends)) (at (now class)) p k to (now out) ⌝ }
-    ensures { λ r. ⌜ WritesTerms (arena (now (nodes .entry)) (now (table .entry)) (now (ends .entry))) (at (now (class .entry))) p k to
+    requires { ⌜ RoomFor (arena (now nodes) (now table) (now ends)) (at (now class)) p to (now out) ⌝ }
+    ensures { λ r. ⌜ WritesTerm (arena (now (nodes .entry)) (now (table .entry)) (now (ends .entry))) (at (now (class .entry))) p to
         (now (out .entry)) r (now (out .exit)) ⌝ }
 {
-    if k == 0 {
-        return to;
+    let mut owed = [0u16; NODES];
+    let mut first = NODES - 1;
+    owed[first] = p as u16;
+    let mut i = to;
+    while first < NODES {
+        let q = classes::wide(owed[first]);
+        let r = classes::wide(class[q]);
+        let f = nodes[r];
+        out[i] = f;
+        i += 1;
+        let n = terms::owed_by(table, f);
+        first = first + 1 - n;
+        list(ends, r + 1, n, &mut owed, first);
     }
-    let r = classes::wide(class[p]);
-    let f = nodes[r];
-    out[to] = f;
-    let n = terms::owed_by(table, f);
-    let next = write(nodes, table, ends, class, r + 1, n, out, to + 1);
-    let q = classes::wide(ends[p]);
-    write(nodes, table, ends, class, q, k - 1, out, next)
+    i
 }

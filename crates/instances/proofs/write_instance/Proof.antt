@@ -22,7 +22,7 @@ rename-front-requires c κs =
     let at-write : tie.After-write = search depth 0 in
     let entry : tie.Start = search depth 0 in
     let f = spelt-few _ _ _ _ (entry .pre .1 .0) _ _ _ refl (at-write .write .ensures) in
-    front-room _ (at-write .write .last .1 .1 .1 .1 .1 .1 .0) (omega (arith, f)) (f .1)
+    front-room _ (at-write .write .last .1 .1 .1 .1 .1 .0) (omega (arith, f)) (f .1)
 
 array-share-prefix-out : tie.Need-array-share-prefix-out
 array-share-prefix-out c =
