@@ -1,6 +1,6 @@
 //! The two engines behind one interface, the comparison of a problem, a
-//! question or a pair of terms, the answers to the fixed ones, and the
-//! summary.
+//! question or a pair of terms, the answers to the fixed ones, the summary,
+//! and the stack that the calls take.
 
 pub mod check;
 pub mod engines;
@@ -8,6 +8,7 @@ pub mod fixed;
 pub mod lent;
 #[cfg(not(feature = "selfcheck"))]
 pub mod proved;
+pub mod stack;
 pub mod summary;
 
 pub use engines::{Engine, RustEngine};

@@ -1,0 +1,333 @@
+//! The calls whose stack is measured, on chains of unary symbols.
+//!
+//! A chain of n nodes is a unary symbol n - 1 times over a leaf. Each case is
+//! given for any n from 2 to 120, with the answer due.
+
+use crate::engines::{chosen, compared, decided, encode, handed_back, refused, result_of, unified};
+use crate::engines::{Engine, RustEngine};
+use kb_engine::kept::Kept;
+use kb_engine::notation::Theory;
+use kb_engine::pairs::Pair;
+use kb_engine::questions::Question;
+use kb_engine::theories::power;
+use kb_engine::{CompareAnswer, DecideAnswer, Order, Refusal, UnifyAnswer, Which};
+
+/// i is above j and below k, and has one rank with l.
+const SYMBOLS: &str = "e/0/0 i/1/2 j/1/1 k/1/3 l/1/2";
+/// Where the left side of the first equation begins.
+const LEFT: usize = 23;
+/// The nodes i and x.
+const I: u8 = 1;
+const X: u8 = 0x80;
+/// More than the units of any case.
+const BUDGET: u32 = 1000;
+/// About as many nodes as a problem has room for.
+const LONG: usize = 8000;
+
+/// What a call is lent.
+pub enum Input {
+    Subterm(Vec<u8>, usize),
+    Compare(Vec<u8>),
+    Unify(Vec<u8>),
+    Complete(Vec<u8>),
+    Decide(Question),
+    Lower(Pair),
+}
+
+impl Input {
+    /// The call's answer as one number.
+    pub fn run(&self, engine: &dyn Engine, result: &mut [u8]) -> u64 {
+        match self {
+            Input::Subterm(problem, position) => engine.subterm(problem, *position),
+            Input::Compare(problem) => engine.compare(problem),
+            Input::Unify(problem) => engine.unify(problem, result),
+            Input::Complete(problem) => engine.complete(problem, result),
+            Input::Decide(question) => engine.decide(&question.problem, &question.record),
+            Input::Lower(pair) => engine.lower(&pair.symbols, &pair.first, &pair.second),
+        }
+    }
+}
+
+/// A call on chains of so many nodes, and its answer.
+type Prepared = fn(usize) -> (Input, u64);
+
+/// A row of the table.
+pub struct Case {
+    pub name: &'static str,
+    /// Whether it only walks to the ends of terms: then it takes the same
+    /// stack on every chain.
+    pub walks: bool,
+    pub prepared: Prepared,
+}
+
+/// All cases.
+pub fn cases() -> Vec<Case> {
+    let walks = [subterms(), readings(), other_readings()];
+    let deep = [
+        comparisons(),
+        lowers(),
+        unifiers(),
+        decisions(),
+        completions(),
+    ];
+    walks.into_iter().chain(deep).flatten().collect()
+}
+
+fn walk(name: &'static str, prepared: Prepared) -> Case {
+    let walks = true;
+    Case {
+        name,
+        walks,
+        prepared,
+    }
+}
+
+fn deep(name: &'static str, prepared: Prepared) -> Case {
+    let walks = false;
+    Case {
+        walks,
+        ..walk(name, prepared)
+    }
+}
+
+/// The symbol n - 1 times over the leaf.
+fn chain(symbol: &str, n: usize, leaf: &str) -> String {
+    power(symbol, n - 1, leaf)
+}
+
+/// i n - 2 times over k(x), a chain that has no overlap with itself.
+fn alone(n: usize) -> String {
+    power("i", n - 2, "k(x)")
+}
+
+/// The problem of these equations.
+fn problem(equations: &[[&str; 2]]) -> Vec<u8> {
+    let texts = equations.iter().map(|sides| sides.join(" = "));
+    let theory = Theory::new(SYMBOLS);
+    let theory = texts.fold(theory, |theory, text| theory.equation(&text));
+    theory.problem(BUDGET)
+}
+
+/// Both sides are walked to their ends, then the part to its own.
+fn subterms() -> Vec<Case> {
+    fn part(n: usize, position: usize) -> (Input, u64) {
+        let lent = problem(&[[&chain("i", n, "x"), "x"]]);
+        let answer = handed_back(LEFT + position, n - position);
+        (Input::Subterm(lent, position), answer)
+    }
+    vec![
+        walk("subterm at a chain's root", |n| part(n, 0)),
+        walk("subterm in a chain's middle", |n| part(n, n / 2)),
+        walk("subterm at a chain's leaf", |n| part(n, n - 1)),
+        walk("subterm behind a chain", |n| part(n, n)),
+        walk("subterm beside a right chain", |n| {
+            let lent = problem(&[["x", &chain("i", n, "x")]]);
+            (Input::Subterm(lent, 0), handed_back(LEFT, 1))
+        }),
+    ]
+}
+
+/// A problem whose equation has these nodes, and its refusal.
+fn bad(nodes: Vec<u8>, number: u8, place: usize) -> (Vec<u8>, u64) {
+    let theory = Theory::new(SYMBOLS).raw_equation(nodes);
+    (theory.problem(BUDGET), refused(Refusal { number, place }))
+}
+
+/// The left chain is cut: the walk ends with the field, a subterm owed.
+fn cut(n: usize) -> (Vec<u8>, u64) {
+    bad(vec![I; n], 10, LEFT + n)
+}
+
+/// Each call reads a problem by walking to the ends of its terms.
+fn readings() -> Vec<Case> {
+    fn of(call: fn(Vec<u8>) -> Input, (problem, answer): (Vec<u8>, u64)) -> (Input, u64) {
+        (call(problem), answer)
+    }
+    vec![
+        walk("subterm, left chain cut", |n| {
+            (Input::Subterm(cut(n).0, 0), handed_back(0, 0))
+        }),
+        walk("compare, left chain cut", |n| of(Input::Compare, cut(n))),
+        walk("compare, right chain cut", |n| {
+            let sides = [vec![I; n - 1], vec![X], vec![I; n]].concat();
+            of(Input::Compare, bad(sides, 10, LEFT + 2 * n))
+        }),
+        walk("compare, a chain 8,000 longer", |n| {
+            let side = [vec![I; LONG + n - 1], vec![X]].concat();
+            of(Input::Compare, bad(side, 11, LEFT))
+        }),
+        walk("unify, left chain cut", |n| of(Input::Unify, cut(n))),
+        walk("complete, left chain cut", |n| of(Input::Complete, cut(n))),
+        walk("decide, left chain cut", |n| {
+            let (problem, answer) = cut(n);
+            let record = Vec::new();
+            (Input::Decide(Question { problem, record }), answer)
+        }),
+    ]
+}
+
+/// Terms that stand in a record, and by themselves.
+fn other_readings() -> Vec<Case> {
+    fn lower(first: Vec<u8>, second: Vec<u8>) -> (Input, u64) {
+        let symbols = Theory::new(SYMBOLS).symbol_field();
+        let pair = Pair {
+            symbols,
+            first,
+            second,
+        };
+        (Input::Lower(pair), chosen(Which::Refused))
+    }
+    vec![
+        walk("decide, a rule's chain cut", |n| {
+            let question = Question {
+                problem: problem(&[["x", "x"]]),
+                record: Kept::complete(vec![vec![I; n]]).bytes(),
+            };
+            // The rule's field is behind those of the end and the units.
+            let (number, place) = (13, 11);
+            (Input::Decide(question), refused(Refusal { number, place }))
+        }),
+        walk("lower, first chain cut", |n| lower(vec![I; n], vec![X])),
+        walk("lower, second chain cut", |n| lower(vec![X], vec![I; n])),
+    ]
+}
+
+/// The path order goes down both chains at once where the symbols are the
+/// same, and down one of them where they have one rank. Where that of the
+/// first is higher it goes down the second and then, at the leaf, down the
+/// first: the deepest, in one direction or the other.
+fn comparisons() -> Vec<Case> {
+    fn compare(left: &str, right: &str, order: Order) -> (Input, u64) {
+        let answer = compared(CompareAnswer::Compared(order));
+        (Input::Compare(problem(&[[left, right]])), answer)
+    }
+    vec![
+        deep("compare i..i(x), i..i(x)", |n| {
+            let side = chain("i", n, "x");
+            compare(&side, &side, Order::Identical)
+        }),
+        deep("compare i..i(x), i..i(y)", |n| {
+            compare(&chain("i", n, "x"), &chain("i", n, "y"), Order::Neither)
+        }),
+        deep("compare i..i(x), l..l(y)", |n| {
+            compare(&chain("i", n, "x"), &chain("l", n, "y"), Order::Neither)
+        }),
+        deep("compare i..i(x), j..j(x)", |n| {
+            compare(&chain("i", n, "x"), &chain("j", n, "x"), Order::LeftAbove)
+        }),
+        deep("compare i..i(x), j..j(y)", |n| {
+            compare(&chain("i", n, "x"), &chain("j", n, "y"), Order::Neither)
+        }),
+    ]
+}
+
+/// As compare, in one direction: the deepest has the higher symbol first.
+fn lowers() -> Vec<Case> {
+    fn lower(first: &str, second: &str, which: Which) -> (Input, u64) {
+        let pair = Pair::of_texts(SYMBOLS, [first, second]);
+        (Input::Lower(pair), chosen(which))
+    }
+    vec![
+        deep("lower of i..i(x), i..i(y)", |n| {
+            lower(&chain("i", n, "x"), &chain("i", n, "y"), Which::First)
+        }),
+        deep("lower of i..i(x), j..j(x)", |n| {
+            lower(&chain("i", n, "x"), &chain("j", n, "x"), Which::Second)
+        }),
+        deep("lower of i..i(x), j..j(y)", |n| {
+            lower(&chain("i", n, "x"), &chain("j", n, "y"), Which::First)
+        }),
+        deep("lower of j..j(x), i..i(y)", |n| {
+            lower(&chain("j", n, "x"), &chain("i", n, "y"), Which::First)
+        }),
+    ]
+}
+
+/// What grows with the chain is the writing of the instance, whether its nodes
+/// come from a side or from the term of a variable.
+fn unifiers() -> Vec<Case> {
+    fn unify(left: &str, right: &str, answer: UnifyAnswer) -> (Input, u64) {
+        (Input::Unify(problem(&[[left, right]])), unified(answer))
+    }
+    /// A field of so many nodes.
+    fn written(n: usize) -> UnifyAnswer {
+        UnifyAnswer::Written(3 + n)
+    }
+    vec![
+        deep("unify i..i(x), i..i(y)", |n| {
+            unify(&chain("i", n, "x"), &chain("i", n, "y"), written(n))
+        }),
+        deep("unify x, i..i(y)", |n| {
+            unify("x", &chain("i", n, "y"), written(n))
+        }),
+        deep("unify half a chain, i..i(y)", |n| {
+            unify(&chain("i", n / 2, "x"), &chain("i", n, "y"), written(n))
+        }),
+        deep("unify x, i..i(x)", |n| {
+            unify("x", &chain("i", n, "x"), UnifyAnswer::None)
+        }),
+    ]
+}
+
+/// Normalising goes down the chain asked about; the order test of a rule goes
+/// down its right side and then its left side, which is deepest.
+fn decisions() -> Vec<Case> {
+    fn decide(rule: [&str; 2], sides: [&str; 2], answer: DecideAnswer) -> (Input, u64) {
+        let record = result_of(&RustEngine, &problem(&[rule])).expect("accepted");
+        let problem = problem(&[sides]);
+        (Input::Decide(Question { problem, record }), decided(answer))
+    }
+    vec![
+        deep("decide, a step at each node", |n| {
+            let sides = [&*chain("i", n, "x"), &*chain("j", n, "x")];
+            decide(["i(x)", "j(x)"], sides, DecideAnswer::Same)
+        }),
+        deep("decide, steps at the leaf", |n| {
+            let sides = [&*chain("i", n, "e"), "x"];
+            decide(["i(e)", "e"], sides, DecideAnswer::Different)
+        }),
+        deep("decide, a rule of two chains", |n| {
+            let rule = [&*alone(n), &*chain("j", n, "x")];
+            decide(rule, rule, DecideAnswer::Same)
+        }),
+    ]
+}
+
+/// Bytes of a result: end and units, then the other fields' bytes.
+fn written(fields: &[usize]) -> u64 {
+    encode(1, 0, 4 + 7 + fields.iter().sum::<usize>())
+}
+
+/// Bytes of a log entry's field, and of one with a rule of so many nodes.
+const ENTRY: usize = 3 + 8;
+
+fn rule(nodes: usize) -> usize {
+    3 + 2 + nodes
+}
+
+/// Orienting two chains by the path order is deepest, then normalising.
+fn completions() -> Vec<Case> {
+    vec![
+        deep("complete, no orientation", |n| {
+            let sides = [&*chain("i", n, "x"), &*chain("j", n, "y")];
+            let pair = 3 + 2 * n;
+            (Input::Complete(problem(&[sides])), written(&[pair]))
+        }),
+        deep("complete, a rule of two chains", |n| {
+            let sides = [&*alone(n), &*chain("j", n, "x")];
+            let fields = [rule(2 * n), ENTRY];
+            (Input::Complete(problem(&[sides])), written(&fields))
+        }),
+        deep("complete, a step at each node", |n| {
+            let sides = [&*chain("i", n, "x"), &*chain("j", n, "x")];
+            let fields = [rule(4), ENTRY, ENTRY];
+            let lent = problem(&[["i(x)", "j(x)"], sides]);
+            (Input::Complete(lent), written(&fields))
+        }),
+        deep("complete, a chain as peak", |n| {
+            let left = chain("i", n / 2 + 1, "x");
+            let fields = [rule(n / 2 + 2), ENTRY];
+            (Input::Complete(problem(&[[&left, "x"]])), written(&fields))
+        }),
+    ]
+}
