@@ -16,7 +16,7 @@ const BUDGET: u32 = 1_000_000;
 
 /// A problem and what each call must answer.
 pub struct Case {
-    pub name: &'static str,
+    pub name: String,
     pub problem: Vec<u8>,
     pub complete: Result<Ended, Refusal>,
     pub compare: CompareAnswer,
@@ -37,7 +37,7 @@ pub struct Ended {
 }
 
 impl Ended {
-    fn new(end: u8, units: u32, rules: usize) -> Ended {
+    pub(crate) fn new(end: u8, units: u32, rules: usize) -> Ended {
         let printed = Vec::new();
         Ended {
             end,
@@ -80,10 +80,10 @@ pub fn cases() -> Vec<Case> {
 }
 
 /// All four calls refuse.
-fn refused(name: &'static str, problem: Vec<u8>, number: u8, place: usize) -> Case {
+pub(crate) fn refused(name: &str, problem: Vec<u8>, number: u8, place: usize) -> Case {
     let refusal = Refusal { number, place };
     Case {
-        name,
+        name: name.to_string(),
         problem,
         complete: Err(refusal),
         compare: CompareAnswer::Refused(refusal),
@@ -93,7 +93,7 @@ fn refused(name: &'static str, problem: Vec<u8>, number: u8, place: usize) -> Ca
 }
 
 /// Complete runs, the others refuse at the second equation.
-fn run(name: &'static str, theory: &Theory, ended: Ended, second: usize) -> Case {
+fn run(name: &str, theory: &Theory, ended: Ended, second: usize) -> Case {
     let problem = theory.problem(BUDGET);
     Case {
         complete: Ok(ended),
@@ -103,14 +103,14 @@ fn run(name: &'static str, theory: &Theory, ended: Ended, second: usize) -> Case
 
 /// One equation over the symbols of groups, with the nodes of its left side.
 fn single(
-    name: &'static str,
+    name: &str,
     theory: &Theory,
     ended: Ended,
     (order, unify): (Order, UnifyAnswer),
     nodes: usize,
 ) -> Case {
     Case {
-        name,
+        name: name.to_string(),
         problem: theory.problem(BUDGET),
         complete: Ok(ended),
         compare: CompareAnswer::Compared(order),

@@ -7,6 +7,7 @@
 
 pub mod calls;
 pub mod cases;
+pub mod chains;
 pub mod decide;
 pub mod fields;
 pub mod fixed;

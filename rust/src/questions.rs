@@ -19,7 +19,7 @@ pub struct Question {
 
 /// A question and what decide must answer.
 pub struct Case {
-    pub name: &'static str,
+    pub name: String,
     pub question: Question,
     pub answer: DecideAnswer,
 }
@@ -63,23 +63,17 @@ pub fn cases() -> Vec<Case> {
     list
 }
 
-fn case(
-    name: &'static str,
-    theory: &Theory,
-    budget: u32,
-    record: Vec<u8>,
-    answer: DecideAnswer,
-) -> Case {
+fn case(name: &str, theory: &Theory, budget: u32, record: Vec<u8>, answer: DecideAnswer) -> Case {
     let problem = theory.problem(budget);
     Case {
-        name,
+        name: name.to_string(),
         question: Question { problem, record },
         answer,
     }
 }
 
 /// f(f(f(c))) = f(c) with budget 9, asked of a record.
-fn of_record(name: &'static str, record: &[u8], answer: DecideAnswer) -> Case {
+fn of_record(name: &str, record: &[u8], answer: DecideAnswer) -> Case {
     let theory = Theory::new(SETTLE).equation("f(f(f(c))) = f(c)");
     case(name, &theory, 9, record.to_vec(), answer)
 }
@@ -367,8 +361,8 @@ fn problems() -> Vec<Case> {
     let long = none
         .clone()
         .raw_equation([vec![1; 120], vec![0, 0]].concat());
-    let of_bytes = |name, problem: Vec<u8>, answer| Case {
-        name,
+    let of_bytes = |name: &str, problem: Vec<u8>, answer| Case {
+        name: name.to_string(),
         question: Question {
             problem,
             record: Vec::new(),

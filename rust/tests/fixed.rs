@@ -20,7 +20,7 @@ fn completes(case: &Case) -> bool {
 fn each_call_answers_as_it_must() {
     let mut result = vec![0; MIN_RESULT];
     for case in fixed::cases() {
-        let (name, problem) = (case.name, case.problem.as_slice());
+        let (name, problem) = (&case.name, case.problem.as_slice());
         assert!(completes(&case), "{name}");
         assert_eq!(compare(problem), case.compare, "{name}");
         assert_eq!(unify(problem, &mut result), case.unify, "{name}");

@@ -33,6 +33,11 @@ pub fn faults(engine: &dyn Engine, case: &Case) -> Vec<(String, u64)> {
             compare == compared(case.compare),
         ),
     ];
+    // A refused problem is refused before the record is read.
+    if let Err(refusal) = case.complete {
+        let decide = engine.decide(problem, &[]);
+        answers.push(("decide".to_string(), decide, decide == refused(refusal)));
+    }
     for (position, range) in &case.parts {
         let subterm = part(engine.subterm(problem, *position));
         let right = subterm == handed_back(range.start, range.len());

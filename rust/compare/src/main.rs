@@ -2,8 +2,9 @@
 //! questions of records and on pairs of terms.
 //!
 //! kb_compare [count] [seed] [first index]: first the fixed problems,
-//! questions and pairs, whose answers are known, then all damaged ones, then
-//! that many generated ones of each (100,000 unless KB_COUNT says otherwise).
+//! questions and pairs and those of long chains, whose answers are known, then
+//! all damaged ones, then that many generated ones of each (100,000 unless
+//! KB_COUNT says otherwise).
 //! The records that a question is made from are results of both engines, in
 //! turn. With KB_TRACE set, each problem is printed before it is run.
 
@@ -13,6 +14,7 @@ use kb_compare::fixed::{due, due_of_pair, faults};
 use kb_compare::lent::LAYOUTS;
 use kb_compare::summary::Summary;
 use kb_compare::{Engine, ProvedEngine, RustEngine};
+use kb_engine::chains;
 use kb_engine::fixed::{self, Case};
 use kb_engine::generate::records::{self, exhaustive};
 use kb_engine::generate::{self, damage};
@@ -56,6 +58,7 @@ fn main() -> ExitCode {
     let mut comparison = Comparison::new();
     let start = Instant::now();
     comparison.all_fixed();
+    comparison.all_chains();
     comparison.all_problems(seed, first, count);
     comparison.problems.print();
     let asked = Instant::now();
@@ -105,10 +108,10 @@ impl Comparison {
     fn all_fixed(&mut self) {
         let (cases, questions) = (fixed::cases(), questions::cases());
         for (case, number) in cases.iter().zip(0..) {
-            self.fixed(case, number);
+            self.fixed(case, number, "fixed");
         }
         for (case, number) in questions.iter().zip(0..) {
-            self.fixed_question(case, number);
+            self.fixed_question(case, number, "fixed questions");
         }
         let (wrong, asked) = (self.wrong, questions.len());
         println!(
@@ -116,9 +119,32 @@ impl Comparison {
             cases.len()
         );
         let pairs = pairs::cases();
-        pairs.iter().for_each(|case| self.fixed_pair(case));
+        for case in &pairs {
+            self.fixed_pair(case, "fixed pairs");
+        }
         let (count, wrong) = (pairs.len(), self.wrong - wrong);
         println!("{count} fixed pairs of terms, {wrong} wrong answers");
+    }
+
+    /// Long chains, whole and damaged: answers that are known as well.
+    fn all_chains(&mut self) {
+        let before = self.wrong;
+        let (cases, questions, pairs) = (chains::cases(), chains::questions(), chains::pairs());
+        for (case, number) in cases.iter().zip(0..) {
+            self.fixed(case, number, "long chains");
+        }
+        for (case, number) in questions.iter().zip(0..) {
+            self.fixed_question(case, number, "rules of long chains");
+        }
+        for case in &pairs {
+            self.fixed_pair(case, "pairs of long chains");
+        }
+        let counts = [cases.len(), questions.len(), pairs.len()];
+        let [cases, questions, pairs] = counts;
+        println!(
+            "{cases} problems, {questions} questions and {pairs} pairs of long chains, {} wrong answers",
+            self.wrong - before
+        );
     }
 
     fn all_problems(&mut self, seed: u64, first: u64, count: u64) {
@@ -157,9 +183,9 @@ impl Comparison {
     }
 
     /// A case with known answers: no difference, and each engine gives them.
-    fn fixed(&mut self, case: &Case, number: u64) {
+    fn fixed(&mut self, case: &Case, number: u64, family: &'static str) {
         let setting = Setting::whole(number);
-        self.problem(&case.problem, number, "fixed", &setting);
+        self.problem(&case.problem, number, family, &setting);
         let engines: [(&str, &dyn Engine); 2] = [("proved", &ProvedEngine), ("rust", &RustEngine)];
         for (name, engine) in engines {
             for (call, answer) in faults(engine, case) {
@@ -171,8 +197,8 @@ impl Comparison {
     }
 
     /// A question with a known answer, which both engines give.
-    fn fixed_question(&mut self, case: &questions::Case, number: u64) {
-        let answer = self.question(&case.question, number, "fixed questions");
+    fn fixed_question(&mut self, case: &questions::Case, number: u64, family: &'static str) {
+        let answer = self.question(&case.question, number, family);
         if let Some(answer) = answer.filter(|answer| *answer != due(case)) {
             self.wrong += 1;
             println!("WRONG in decide of {}", case.name);
@@ -181,8 +207,8 @@ impl Comparison {
     }
 
     /// A pair with a known answer, lent in every way.
-    fn fixed_pair(&mut self, case: &pairs::Case) {
-        let answers = (0..LAYOUTS).map(|layout| self.pair(&case.pair, layout, "fixed pairs"));
+    fn fixed_pair(&mut self, case: &pairs::Case, family: &'static str) {
+        let answers = (0..LAYOUTS).map(|layout| self.pair(&case.pair, layout, family));
         let answers: Vec<u64> = answers.flatten().collect();
         if let Some(answer) = answers.into_iter().find(|a| *a != due_of_pair(case)) {
             self.wrong += 1;

@@ -5,8 +5,9 @@ use kb_compare::check::{Checker, Setting};
 use kb_compare::engines::{encode, result_of};
 use kb_compare::fixed::{due, faults};
 use kb_compare::{Engine, RustEngine};
+use kb_engine::fixed::{self, Case};
 use kb_engine::generate::records::{self, exhaustive};
-use kb_engine::{fixed, generate, questions};
+use kb_engine::{chains, generate, questions};
 
 /// Call, answer and result to the answer given instead.
 type Fault = fn(&str, u64, &mut [u8]) -> u64;
@@ -65,8 +66,7 @@ fn different_decisions(fault: Fault) -> [usize; 2] {
 }
 
 /// Fixed questions with a wrong answer.
-fn wrong_decisions(fault: Fault) -> usize {
-    let cases = questions::cases();
+fn wrong_decisions(cases: &[questions::Case], fault: Fault) -> usize {
     let wrong = cases.iter().filter(|case| {
         let question = &case.question;
         Faulty(fault).decide(&question.problem, &question.record) != due(case)
@@ -75,8 +75,7 @@ fn wrong_decisions(fault: Fault) -> usize {
 }
 
 /// Fixed cases with a wrong answer.
-fn wrong(fault: Fault) -> usize {
-    let cases = fixed::cases();
+fn wrong(cases: &[Case], fault: Fault) -> usize {
     let wrong = cases
         .iter()
         .filter(|case| !faults(&Faulty(fault), case).is_empty());
@@ -85,9 +84,10 @@ fn wrong(fault: Fault) -> usize {
 
 #[test]
 fn fixed_cases_find_faults() {
-    assert_eq!(wrong(|_, answer, _| answer), 0);
+    let cases = fixed::cases();
+    assert_eq!(wrong(&cases, |_, answer, _| answer), 0);
     let count = |call: &'static str, least: usize, fault| {
-        let found = wrong(fault);
+        let found = wrong(&cases, fault);
         assert!(found >= least, "{call}: {found}");
     };
     count("end", 16, |call, answer, result| {
@@ -107,6 +107,32 @@ fn fixed_cases_find_faults() {
     });
     count("subterm", 6, |call, answer, _| {
         answer + (call == "subterm" && answer > 0) as u64
+    });
+}
+
+/// Each damaged long chain shows a wrong refusal, each whole one a wrong part.
+#[test]
+fn long_chains_find_faults() {
+    let (cases, rules) = (chains::cases(), chains::questions());
+    let damaged = cases.iter().filter(|case| case.complete.is_err()).count();
+    let all = |wanted: usize, fault: Fault| assert_eq!(wrong(&cases, fault), wanted);
+    all(0, |_, answer, _| answer);
+    for fault in [next_place, next_number] as [Fault; 2] {
+        all(cases.len(), fault);
+        assert_eq!(wrong_decisions(&rules, fault), rules.len() - 1);
+    }
+    // One call alone; a part that is a byte longer, and one where none is due.
+    all(damaged, |call, answer, _| {
+        answer + (call == "compare" && answer >> 48 == 0) as u64
+    });
+    all(damaged, |call, answer, _| {
+        answer + (call == "decide") as u64
+    });
+    all(cases.len() - damaged, |call, answer, _| {
+        answer + (call == "subterm" && answer > 0) as u64
+    });
+    all(cases.len(), |call, answer, _| {
+        answer.max((call == "subterm") as u64)
     });
 }
 
@@ -202,7 +228,8 @@ fn never_different(_: &str, answer: u64, _: &mut [u8]) -> u64 {
 fn faults_in_decide_are_found() {
     let none: Fault = |_, answer, _| answer;
     assert_eq!(different_decisions(none), [0, 0]);
-    assert_eq!(wrong_decisions(none), 0);
+    let cases = questions::cases();
+    assert_eq!(wrong_decisions(&cases, none), 0);
     let list: [(&str, Fault); 5] = [
         ("same and different", exchanged),
         ("21 and 22", other_stop),
@@ -216,7 +243,7 @@ fn faults_in_decide_are_found() {
             generated > 50 && damaged > 3,
             "{name}: {generated}, {damaged}"
         );
-        let wrong = wrong_decisions(fault);
+        let wrong = wrong_decisions(&cases, fault);
         assert!(wrong > 5, "{name}: {wrong}");
     }
 }

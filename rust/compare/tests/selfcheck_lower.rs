@@ -7,7 +7,7 @@ use kb_compare::fixed::due_of_pair;
 use kb_compare::lent::{Lent, LAYOUTS};
 use kb_compare::{Engine, RustEngine};
 use kb_engine::generate::pairs::{exhaustive, pair};
-use kb_engine::pairs;
+use kb_engine::{chains, pairs};
 
 /// The slices of lower to an answer.
 type Lower = fn(&[u8], &[u8], &[u8]) -> u64;
@@ -138,8 +138,7 @@ fn different_pairs(lower: Lower) -> [usize; 2] {
 }
 
 /// Fixed pairs with a wrong answer.
-fn wrong_pairs(lower: Lower) -> usize {
-    let cases = pairs::cases();
+fn wrong_pairs(cases: &[pairs::Case], lower: Lower) -> usize {
     let wrong = cases.iter().filter(|case| {
         let pair = &case.pair;
         lower(&pair.symbols, &pair.first, &pair.second) != due_of_pair(case)
@@ -150,7 +149,8 @@ fn wrong_pairs(lower: Lower) -> usize {
 #[test]
 fn faults_in_lower_are_found() {
     assert_eq!(different_pairs(right), [0, 0]);
-    assert_eq!(wrong_pairs(right), 0);
+    let cases = pairs::cases();
+    assert_eq!(wrong_pairs(&cases, right), 0);
     // The least that fixed, generated and damaged pairs show.
     let list: [(&str, Lower, [usize; 3]); 10] = [
         ("upper", upper, [30, 1500, 60]),
@@ -166,10 +166,28 @@ fn faults_in_lower_are_found() {
     ];
     for (name, lower, least) in list {
         let [generated, damaged] = different_pairs(lower);
-        let found = [wrong_pairs(lower), generated, damaged];
+        let found = [wrong_pairs(&cases, lower), generated, damaged];
         let enough = (0..3).all(|i| found[i] >= least[i]);
         assert!(enough, "{name}: {found:?}");
     }
+}
+
+#[test]
+fn pairs_of_long_chains_find_faults() {
+    let cases = chains::pairs();
+    assert_eq!(wrong_pairs(&cases, right), 0);
+    // A leaf in place of the last i: one byte is behind it.
+    assert_eq!(wrong_pairs(&cases, byte_behind_the_first), 2);
+    assert_eq!(wrong_pairs(&cases, byte_behind_the_second), 2);
+    let completed: Lower = |symbols, first, second| {
+        let longer = [first, &[0x80]].concat();
+        or_without(
+            right(symbols, first, second),
+            Some(right(symbols, &longer, second)),
+        )
+    };
+    // Every cut chain lacks a leaf.
+    assert_eq!(wrong_pairs(&cases, completed), 120);
 }
 
 /// Every layout lends the slices of the pair, and some lend a term as a part
