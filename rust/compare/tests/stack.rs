@@ -2,7 +2,7 @@
 //! be. Runs with the feature `selfcheck`.
 #![cfg(feature = "selfcheck")]
 
-use kb_compare::stack::cases::{cases, Case};
+use kb_compare::stack::cases::{cases, Case, Kind};
 use kb_compare::stack::table::{Row, LIMIT, NODES};
 use kb_compare::stack::{Stack, STACK};
 use kb_compare::{Engine, RustEngine};
@@ -115,7 +115,7 @@ fn the_rust_engine_walks_in_loops() {
         assert!(row.wrong.is_empty(), "{row}");
         let [short, _, long] = row.taken;
         assert!(0 < short && long < LIMIT, "{row}");
-        assert!(!row.walks || long < short + 8 * 118, "{row}");
+        assert!(row.kind != Kind::Walk || long < short + 8 * 118, "{row}");
     }
 }
 
@@ -137,22 +137,24 @@ fn a_recursive_walk_and_wrong_answers_are_found() {
 
 #[test]
 fn unequal_and_large_figures_are_faults() {
-    let count = |walks, taken| {
+    let count = |kind, taken| {
         let (name, wrong) = ("a case", Vec::new());
         let row = Row {
             name,
-            walks,
+            kind,
             taken,
             wrong,
         };
         row.faults().len()
     };
-    assert_eq!(count(true, [300, 300, 300]), 0);
-    assert_eq!(count(true, [300, 300, 301]), 1);
-    assert_eq!(count(true, [301, 300, 300]), 1);
-    assert_eq!(count(false, [300, 301, 999]), 0);
-    assert_eq!(count(false, [300, 301, LIMIT]), 0);
-    assert_eq!(count(false, [300, 301, LIMIT + 1]), 1);
-    assert_eq!(count(true, [LIMIT, LIMIT, LIMIT + 1]), 2);
+    assert_eq!(count(Kind::Walk, [300, 300, 300]), 0);
+    assert_eq!(count(Kind::Walk, [300, 300, 301]), 1);
+    assert_eq!(count(Kind::Walk, [301, 300, 300]), 1);
+    assert_eq!(count(Kind::Loop, [300, 300, 300]), 0);
+    assert_eq!(count(Kind::Loop, [300, 301, 300]), 1);
+    assert_eq!(count(Kind::Deep, [300, 301, 999]), 0);
+    assert_eq!(count(Kind::Deep, [300, 301, LIMIT]), 0);
+    assert_eq!(count(Kind::Deep, [300, 301, LIMIT + 1]), 1);
+    assert_eq!(count(Kind::Walk, [LIMIT, LIMIT, LIMIT + 1]), 2);
     assert!(LIMIT < STACK);
 }

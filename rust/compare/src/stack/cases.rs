@@ -51,12 +51,21 @@ impl Input {
 /// A call on chains of so many nodes, and its answer.
 type Prepared = fn(usize) -> (Input, u64);
 
+/// What a case does with its chains.
+#[derive(Clone, Copy, Debug, PartialEq)]
+pub enum Kind {
+    /// It only walks to their ends.
+    Walk,
+    /// It does more, by loops in the proved library.
+    Loop,
+    /// It goes down them by calls.
+    Deep,
+}
+
 /// A row of the table.
 pub struct Case {
     pub name: &'static str,
-    /// Whether it only walks to the ends of terms: then it takes the same
-    /// stack on every chain.
-    pub walks: bool,
+    pub kind: Kind,
     pub prepared: Prepared,
 }
 
@@ -74,18 +83,23 @@ pub fn cases() -> Vec<Case> {
 }
 
 fn walk(name: &'static str, prepared: Prepared) -> Case {
-    let walks = true;
     Case {
         name,
-        walks,
+        kind: Kind::Walk,
         prepared,
     }
 }
 
-fn deep(name: &'static str, prepared: Prepared) -> Case {
-    let walks = false;
+fn looped(name: &'static str, prepared: Prepared) -> Case {
     Case {
-        walks,
+        kind: Kind::Loop,
+        ..walk(name, prepared)
+    }
+}
+
+fn deep(name: &'static str, prepared: Prepared) -> Case {
+    Case {
+        kind: Kind::Deep,
         ..walk(name, prepared)
     }
 }
@@ -192,8 +206,8 @@ fn other_readings() -> Vec<Case> {
     ]
 }
 
-/// The path order goes down both chains at once where the symbols are the
-/// same, and down one of them where they have one rank. Where that of the
+/// Equal chains are walked over in step. The path order goes down both chains
+/// at once where the symbols are the same, and down one of them where they have one rank. Where that of the
 /// first is higher it goes down the second and then, at the leaf, down the
 /// first: the deepest, in one direction or the other.
 fn comparisons() -> Vec<Case> {
@@ -202,7 +216,7 @@ fn comparisons() -> Vec<Case> {
         (Input::Compare(problem(&[[left, right]])), answer)
     }
     vec![
-        deep("compare i..i(x), i..i(x)", |n| {
+        looped("compare i..i(x), i..i(x)", |n| {
             let side = chain("i", n, "x");
             compare(&side, &side, Order::Identical)
         }),
@@ -243,8 +257,8 @@ fn lowers() -> Vec<Case> {
     ]
 }
 
-/// What grows with the chain is the writing of the instance, whether its nodes
-/// come from a side or from the term of a variable.
+/// The instance is written by a loop, whether its nodes come from a side or
+/// from the term of a variable.
 fn unifiers() -> Vec<Case> {
     fn unify(left: &str, right: &str, answer: UnifyAnswer) -> (Input, u64) {
         (Input::Unify(problem(&[[left, right]])), unified(answer))
@@ -254,16 +268,16 @@ fn unifiers() -> Vec<Case> {
         UnifyAnswer::Written(3 + n)
     }
     vec![
-        deep("unify i..i(x), i..i(y)", |n| {
+        looped("unify i..i(x), i..i(y)", |n| {
             unify(&chain("i", n, "x"), &chain("i", n, "y"), written(n))
         }),
-        deep("unify x, i..i(y)", |n| {
+        looped("unify x, i..i(y)", |n| {
             unify("x", &chain("i", n, "y"), written(n))
         }),
-        deep("unify half a chain, i..i(y)", |n| {
+        looped("unify half a chain, i..i(y)", |n| {
             unify(&chain("i", n / 2, "x"), &chain("i", n, "y"), written(n))
         }),
-        deep("unify x, i..i(x)", |n| {
+        looped("unify x, i..i(x)", |n| {
             unify("x", &chain("i", n, "x"), UnifyAnswer::None)
         }),
     ]

@@ -1,6 +1,6 @@
 //! The table of the stack that each case takes, and what it must show.
 
-use super::cases::Case;
+use super::cases::{Case, Kind};
 use super::Stack;
 use crate::engines::{decode, Engine};
 use kb_engine::MIN_RESULT;
@@ -15,7 +15,7 @@ pub const LIMIT: usize = 512 * 1024;
 #[derive(Clone, Debug)]
 pub struct Row {
     pub name: &'static str,
-    pub walks: bool,
+    pub kind: Kind,
     pub taken: [usize; 3],
     /// Numbers of nodes with another answer than the one due, and that answer.
     pub wrong: Vec<(usize, u64)>,
@@ -37,7 +37,7 @@ impl Row {
         });
         Row {
             name: case.name,
-            walks: case.walks,
+            kind: case.kind,
             taken,
             wrong,
         }
@@ -47,7 +47,7 @@ impl Row {
     pub fn faults(&self) -> Vec<String> {
         let (name, taken) = (self.name, self.taken);
         let mut faults = Vec::new();
-        if self.walks && taken.iter().any(|bytes| *bytes != taken[0]) {
+        if self.kind != Kind::Deep && taken.iter().any(|bytes| *bytes != taken[0]) {
             faults.push(format!("{name}: the stack depends on the chain, {taken:?}"));
         }
         if taken.iter().any(|bytes| *bytes > LIMIT) {
