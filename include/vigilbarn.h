@@ -2,7 +2,8 @@
  * changes none of them, keeps no pointer, and calls nothing of C. `vb_decide` is lent a record beside it, of which the same holds; `vb_lower` is lent no
  * problem but three runs of bytes, of which the same holds. These may overlap.
  *
- * A pointer must be valid for as many bytes as its length says, and a result buffer may not overlap the problem.
+ * A pointer must be valid for as many bytes as its length says, and a result buffer may not overlap the problem. Nothing is taken from the heap; how
+ * much stack a call takes is measured, not proved (docs/ASSUMPTIONS.md): 1 MiB is enough for all that is tested.
  *
  * An answer is one number. But for vb_subterm and vb_lower it has a kind in the bits from 48 up, the number of a refusal or an end (docs/FORMAT.md) in
  * bits 32 to 47, and a value in bits 0 to 31. No part is ever cut off: numbers are at most 22, a refusal's place at most 8,192 (of vb_decide 16,384),
