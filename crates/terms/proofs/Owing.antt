@@ -23,7 +23,7 @@ use Rattle.terms.proofs.Flats.{unique, wf-made}
 use Rattle.terms.proofs.Shape.{both-true}
 use Rattle.terms.proofs.Several.{split, join, join-bytes, join-wf, join-count, begins, fill, fill-wf, fill-count, no-bytes}
 
--- That each list of n terms completes the bytes is enough: one with more would begin with the n that do, one with fewer would begin n, and a term's
+-- That each list of n terms completes the bytes is enough: a longer one begins with n terms that do, a shorter one begins n that do, and a term's
 -- bytes begin those of no other.
 abbrev AllComplete : List ℕ → List ℕ → ℕ → Type 0
 AllComplete tab read n = (ts : Terms) → Wfs 32 tab ts → count ts ≡ n → Completes tab read ts
