@@ -14,7 +14,7 @@ use Rattle.terms.specs.Scan.{owes}
 use Rattle.terms.proofs.Scans.{owes-other}
 use Rattle.terms.proofs.Places.{size-pos}
 use Rattle.terms.proofs.Every.{every-head, every-tail}
-use Rattle.terms.proofs.Several.{join, join-bytes}
+use Rattle.terms.proofs.Several.{join, join-bytes, join-sizes}
 use Rattle.classes.specs.Arena.{Arena, Spells, free, made, SpellsAll, none, more}
 use Rattle.classes.specs.Steps.{at, arena, Ready}
 use Rattle.classes.proofs.Arena.{spells-within, spells-one}
@@ -110,11 +110,6 @@ spelt-few A c [] nil s = omega arith
 spelt-few A c [] (cons t ts) s = absurd s
 spelt-few A c (p ∷ ps) nil s = absurd s
 spelt-few A c (p ∷ ps) (cons t ts) s = omega (arith, size-pos t, spelt-few A c ps ts (s .1))
-
-join-sizes : (ts us : Terms) → sizes (join ts us) ≡ sizes ts + sizes us
-unfolding join sizes
-join-sizes nil us = omega arith
-join-sizes (cons t ts) us = omega (arith, join-sizes ts us)
 
 module _ (l tab ends cs : List ℕ) where
   spelt-hops : (p k : ℕ) (ts : Terms) → SpellsAll (arena l tab ends) (at cs) p k ts → SpeltBy (arena l tab ends) (at cs) (hops ends p k) ts

@@ -7,7 +7,7 @@ use Prim.Native.Nat.{ℕ, zero, suc, _+_, _-_, _≤_, _<_}
 use native.Mathlib.Omega.{arith}
 use native.Mathlib.Nat.{le-of-suc-le-suc}
 use lib.ListN.{length}
-use Rattle.terms.specs.Term.{var, node, Terms, nil, cons, term-bytes, terms-bytes, count}
+use Rattle.terms.specs.Term.{var, node, Terms, nil, cons, term-bytes, terms-bytes, sizes, count}
 use Rattle.terms.specs.Scan.{owes}
 use Rattle.terms.specs.Flat.{Wf, Wfs}
 use Rattle.terms.specs.Owed.{IsNode}
@@ -32,6 +32,11 @@ pub join-count : (ts us : Terms) → count (join ts us) ≡ count ts + count us
 unfolding join count
 join-count nil us = omega arith
 join-count (cons t ts) us = omega (arith, join-count ts us)
+
+pub join-sizes : (ts us : Terms) → sizes (join ts us) ≡ sizes ts + sizes us
+unfolding join sizes
+join-sizes nil us = omega arith
+join-sizes (cons t ts) us = omega (arith, join-sizes ts us)
 
 -- the first k of some terms, and the others
 pub record Split (n : ℕ) (tab : List ℕ) (k : ℕ) (ts : Terms) : Type 0 where
