@@ -10,7 +10,7 @@ use Rattle.terms.specs.Base.{Every}
 use Rattle.terms.specs.Term.{Term, Terms, term-bytes, terms-bytes, size, count}
 use Rattle.terms.specs.Flat.{Wf, Wfs, Starts}
 
--- a node's byte: a symbol's or a variable's [2.3, 2.4]
+-- a byte that a node may have, over some table: a symbol's or a variable's [2.3, 2.4]
 abbrev pub IsNode : ℕ → Type 0
 IsNode b = (b < most-symbols) ⊎ ((first-variable ≤ b) × (b < variables-end))
 
