@@ -69,7 +69,7 @@ module _ (tab : List ℕ) (b have : ℕ) where
   formed-variable h k = record {
     most = omega arith;
     more = λ z ts w n.
-        let u = begins-variable tab b ts h k w in
+        let u = begins-variable 32 tab b ts h k w in
         (u .0, u .1, omega (arith, u .2, owes-other tab b (omega arith)), u .3);
     none = λ z. absurd (omega arith);
   }
@@ -77,7 +77,7 @@ module _ (tab : List ℕ) (b have : ℕ) where
   pub formed-symbol : (k : ℕ) → k ≡ owes tab b → b < 16 → k ≤ have → Formed tab b have (have - k + 1)
   formed-symbol k q h l = record {
     most = omega arith;
-    more = λ z ts w n. let u = begins-symbol tab b ts h w (omega arith) in (u .0, u .1, omega (arith, u .2), u .3);
+    more = λ z ts w n. let u = begins-symbol 32 tab b ts h w (omega arith) in (u .0, u .1, omega (arith, u .2), u .3);
     none = λ z. absurd (omega arith);
   }
 

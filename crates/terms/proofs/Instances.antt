@@ -42,12 +42,12 @@ counts =
 abbrev front : List ℕ
 front = 2 ∷ 1 ∷ []
 
-two-owed : Owed group front 2
-two-owed = counts .2 .exactly (of-cons (inl (omega arith)) (of-cons (inl (omega arith)) of-none))
+two-owed : Owed 16 group front 2
+two-owed = counts .2 .exactly 16 (omega arith) (of-cons (inl (omega arith)) (of-cons (inl (omega arith)) of-none))
 
 pub completes :
-    Completes group front (cons (var 0) (cons (var 1) nil))
-    × (Completes group front (cons (var 0) nil) → ⊥)
+    Completes 16 group front (cons (var 0) (cons (var 1) nil))
+    × (Completes 16 group front (cons (var 0) nil) → ⊥)
 unfolding Wfs count
 completes = (
   two-owed (cons (var 0) (cons (var 1) nil)) (omega arith, (omega arith, tt)) .1 refl,

@@ -64,41 +64,42 @@ split n tab (suc k) (cons t ts) w h =
       rest-wf = s .rest-wf;
     }
 
--- A node's byte and the terms ts are one term, of the byte and the first of ts, and the others.
-abbrev pub Begins : List ℕ → ℕ → Terms → Type 0
-Begins tab b ts = (us : Terms) × Wfs 32 tab us × (count us + owes tab b ≡ suc (count ts)) × (b ∷ terms-bytes ts ≡ terms-bytes us)
-
-pub begins-symbol : (tab : List ℕ) (b : ℕ) (ts : Terms) → b < 16 → Wfs 32 tab ts → owes tab b ≤ count ts → Begins tab b ts
-unfolding Wf Wfs count terms-bytes term-bytes
-begins-symbol tab b ts h w l =
-    let s = split 32 tab (owes tab b) ts w l in
-    let c = s .number ∙ owes-symbol tab b h in
-    (cons (node b (s .first)) (s .rest), ((h, c, s .first-wf), s .rest-wf), omega (arith, s .others), ap (λ x. b ∷ x) (s .bytes))
-
-pub begins-variable : (tab : List ℕ) (b : ℕ) (ts : Terms) → 128 ≤ b → b < 160 → Wfs 32 tab ts → Begins tab b ts
-unfolding Wf Wfs count terms-bytes term-bytes
-begins-variable tab b ts h k w =
-    let e : b ≡ 128 + (b - 128) = omega arith in
-    let x : b - 128 < 32 = omega arith in
-    (cons (var (b - 128)) ts, (x, w), omega (arith, owes-other tab b (omega arith)), ap (λ c. c ∷ terms-bytes ts) e)
-
-pub begins : (tab : List ℕ) (b : ℕ) (ts : Terms) → IsNode b → Wfs 32 tab ts → owes tab b ≤ count ts → Begins tab b ts
-begins tab b ts h w l = ⊎-elim (λ s. begins-symbol tab b ts s w l) (λ v. begins-variable tab b ts (v .0) (v .1) w) h
-
 -- so many variables
 unfoldable pub fill : ℕ → Terms
 fill zero = nil
 fill (suc n) = cons (var 0) (fill n)
 
-pub fill-wf : (tab : List ℕ) (n : ℕ) → Wfs 32 tab (fill n)
-unfolding fill Wf Wfs
-fill-wf tab zero = tt
-fill-wf tab (suc n) = (let h : 0 < 32 = omega arith in h, fill-wf tab n)
-
 pub fill-count : (n : ℕ) → count (fill n) ≡ n
 unfolding fill count
 fill-count zero = refl
 fill-count (suc n) = ap suc (fill-count n)
+
+module _ (n : ℕ) (tab : List ℕ) where
+  -- A node's byte and the terms ts are one term, of the byte and the first of ts, and the others.
+  abbrev pub Begins : ℕ → Terms → Type 0
+  Begins b ts = (us : Terms) × Wfs n tab us × (count us + owes tab b ≡ suc (count ts)) × (b ∷ terms-bytes ts ≡ terms-bytes us)
+
+  pub begins-symbol : (b : ℕ) (ts : Terms) → b < 16 → Wfs n tab ts → owes tab b ≤ count ts → Begins b ts
+  unfolding Wf Wfs count terms-bytes term-bytes
+  begins-symbol b ts h w l =
+      let s = split n tab (owes tab b) ts w l in
+      let c = s .number ∙ owes-symbol tab b h in
+      (cons (node b (s .first)) (s .rest), ((h, c, s .first-wf), s .rest-wf), omega (arith, s .others), ap (λ x. b ∷ x) (s .bytes))
+
+  pub begins-variable : (b : ℕ) (ts : Terms) → 128 ≤ b → b < 128 + n → Wfs n tab ts → Begins b ts
+  unfolding Wf Wfs count terms-bytes term-bytes
+  begins-variable b ts h k w =
+      let e : b ≡ 128 + (b - 128) = omega arith in
+      let x : b - 128 < n = omega arith in
+      (cons (var (b - 128)) ts, (x, w), omega (arith, owes-other tab b (omega arith)), ap (λ c. c ∷ terms-bytes ts) e)
+
+  pub begins : (b : ℕ) (ts : Terms) → IsNode n b → Wfs n tab ts → owes tab b ≤ count ts → Begins b ts
+  begins b ts h w l = ⊎-elim (λ s. begins-symbol b ts s w l) (λ v. begins-variable b ts (v .0) (v .1) w) h
+
+  pub fill-wf : 0 < n → (m : ℕ) → Wfs n tab (fill m)
+  unfolding fill Wf Wfs
+  fill-wf h zero = tt
+  fill-wf h (suc m) = (h, fill-wf h m)
 
 -- only no terms have no bytes
 pub no-bytes : (ts : Terms) → terms-bytes ts ≡ [] → count ts ≡ 0
