@@ -11,6 +11,7 @@ use Rattle.terms.specs.Term.{Term, Terms, term-bytes, terms-bytes, size,
 use Rattle.terms.specs.Flat.{Wf, Wfs, Starts}
 
 -- Terms have variables below n here, for any n from 1 on: 16 in a problem, 32 in an overlap. A symbol that the table does not have counts as a constant.
+
 -- a byte that a node may have: a symbol's or a variable's [2.3, 2.4]
 abbrev pub IsNode : ℕ → ℕ → Type 0
 IsNode n b = (b < most-symbols) ⊎ ((first-variable ≤ b) × (b < first-variable + n))
