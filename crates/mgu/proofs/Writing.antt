@@ -277,8 +277,8 @@ module _ {l tab ends cs : List ℕ} {p to : ℕ} {d owed : List ℕ} {first : �
       fewer : sizes ts < 120
       fewer = omega (arith, join-sizes args (next .vs), next .number, w .few)
 
-      pub next-first : n ≤ first + 1
-      next-first =
+      fewer-owed : n ≤ first + 1
+      fewer-owed =
           omega (
             arith,
             spelt-few A (at cs) (hs ++ drop (suc first) owed) ts listed,
@@ -289,16 +289,15 @@ module _ {l tab ends cs : List ℕ} {p to : ℕ} {d owed : List ℕ} {first : �
             fewer,
           )
 
-      -- `list` has its room, and its nodes are there
-      pub next-listed : (first + 1 - n + n ≤ length owed) × HopsWithin ends (r + 1) n
-      next-listed = (omega (arith, next-first, w .room), hops-within l tab ends cs (w .ready) (r + 1) n args spelt-args)
+      room-left : first + 1 - n + n ≤ length owed
+      room-left = omega (arith, fewer-owed, w .room)
 
       module _ (owed′ : List ℕ) (eo : owed′ ≡ put (first + 1 - n) hs owed) where
         stands : drop (first + 1 - n) owed′ ≡ hs ++ drop (suc first) owed
         stands =
             let k = hops-length ends (r + 1) n in
-            let a : first + 1 - n + length hs ≡ suc first = omega (arith, k, next-first) in
-            ap (drop (first + 1 - n)) eo ∙ put-drops (first + 1 - n) hs owed (omega (arith, k, next-listed .0)) ∙ ap (λ x. hs ++ drop x owed) a
+            let a : first + 1 - n + length hs ≡ suc first = omega (arith, k, fewer-owed) in
+            ap (drop (first + 1 - n)) eo ∙ put-drops (first + 1 - n) hs owed (omega (arith, k, room-left)) ∙ ap (λ x. hs ++ drop x owed) a
 
         now-bytes : put (i + 1) (terms-bytes ts) (set e i (at l r)) ≡ put to (term-bytes (w .whole)) d
         unfolding put terms-bytes
@@ -309,7 +308,7 @@ module _ {l tab ends cs : List ℕ} {p to : ℕ} {d owed : List ℕ} {first : �
             ∙ ap₂ _∷_ (ap (at l) (sym er)) (sym (join-bytes args (next .vs))) in
             ap (λ x. put x B (set e i (at l r))) (add-one i) ∙ ap (λ bs. put i bs e) (sym all) ∙ w .bytes
 
-        pub write-more : Writing l tab ends cs p to d owed′ (first + 1 - n) (set e i (at l r)) (i + 1)
+        write-more : Writing l tab ends cs p to d owed′ (first + 1 - n) (set e i (at l r)) (i + 1)
         write-more = record {
           ready = w .ready;
           whole = w .whole;
@@ -324,3 +323,16 @@ module _ {l tab ends cs : List ℕ} {p to : ℕ} {d owed : List ℕ} {first : �
           bytes = now-bytes;
           long = length-set e i (at l r) ∙ w .long;
         }
+
+      -- what holds once the byte's arguments are known: they have room in the list, their nodes are there, and with them listed the loop goes on
+      pub record Step : Type 0 where
+        pub owes-few : n ≤ first + 1
+        pub lists : (first + 1 - n + n ≤ length owed) × HopsWithin ends (r + 1) n
+        pub goes-on : (owed′ : List ℕ) → owed′ ≡ put (first + 1 - n) hs owed → Writing l tab ends cs p to d owed′ (first + 1 - n) (set e i (at l r)) (i + 1)
+
+      pub step : Step
+      step = record {
+        owes-few = fewer-owed;
+        lists = (room-left, hops-within l tab ends cs (w .ready) (r + 1) n args spelt-args);
+        goes-on = write-more;
+      }

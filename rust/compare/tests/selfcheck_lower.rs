@@ -2,6 +2,9 @@
 //! `selfcheck`.
 #![cfg(feature = "selfcheck")]
 
+mod common;
+
+use common::{Lower, Other, RIGHT};
 use kb_compare::check::Checker;
 use kb_compare::fixed::due_of_pair;
 use kb_compare::lent::{Lent, LAYOUTS};
@@ -9,36 +12,9 @@ use kb_compare::{Engine, RustEngine};
 use kb_engine::generate::pairs::{exhaustive, pair};
 use kb_engine::{chains, pairs};
 
-/// The slices of lower to an answer.
-type Lower = fn(&[u8], &[u8], &[u8]) -> u64;
-
 /// The Rust engine with another lower.
-struct FaultyLower(Lower);
-
-impl Engine for FaultyLower {
-    fn complete(&self, problem: &[u8], result: &mut [u8]) -> u64 {
-        RustEngine.complete(problem, result)
-    }
-
-    fn unify(&self, problem: &[u8], result: &mut [u8]) -> u64 {
-        RustEngine.unify(problem, result)
-    }
-
-    fn compare(&self, problem: &[u8]) -> u64 {
-        RustEngine.compare(problem)
-    }
-
-    fn subterm(&self, problem: &[u8], position: usize) -> u64 {
-        RustEngine.subterm(problem, position)
-    }
-
-    fn decide(&self, problem: &[u8], record: &[u8]) -> u64 {
-        RustEngine.decide(problem, record)
-    }
-
-    fn lower(&self, symbols: &[u8], first: &[u8], second: &[u8]) -> u64 {
-        self.0(symbols, first, second)
-    }
+fn with_lower(lower: Lower) -> Other {
+    Other { lower, ..RIGHT }
 }
 
 /// The Rust engine's answer.
@@ -128,7 +104,7 @@ fn one_node_more(symbols: &[u8], first: &[u8], second: &[u8]) -> u64 {
 
 /// Pairs on which the answers differ: generated, and damaged.
 fn different_pairs(lower: Lower) -> [usize; 2] {
-    let faulty = FaultyLower(lower);
+    let faulty = with_lower(lower);
     let checker = Checker::new(&faulty, &RustEngine);
     let generated = (0..6400).map(|index| (index, pair(5, index)));
     let generated = generated.filter(|(i, pair)| checker.pair(pair, *i).is_err());

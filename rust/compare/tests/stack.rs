@@ -2,6 +2,9 @@
 //! be. Runs with the feature `selfcheck`.
 #![cfg(feature = "selfcheck")]
 
+mod common;
+
+use common::{Lower, Other, RIGHT};
 use kb_compare::stack::cases::{cases, Case, Kind};
 use kb_compare::stack::table::{Row, LIMIT, NODES};
 use kb_compare::stack::{Stack, STACK};
@@ -71,34 +74,10 @@ fn every_written_byte_counts() {
     }
 }
 
-/// The Rust engine, but subterm goes down a frame for each byte.
-struct Recursing;
-
-impl Engine for Recursing {
-    fn complete(&self, problem: &[u8], result: &mut [u8]) -> u64 {
-        RustEngine.complete(problem, result)
-    }
-
-    fn unify(&self, problem: &[u8], result: &mut [u8]) -> u64 {
-        RustEngine.unify(problem, result)
-    }
-
-    fn compare(&self, problem: &[u8]) -> u64 {
-        RustEngine.compare(problem)
-    }
-
-    fn subterm(&self, problem: &[u8], position: usize) -> u64 {
-        assert_eq!(recursing(problem.len()), problem.len());
-        RustEngine.subterm(problem, position)
-    }
-
-    fn decide(&self, problem: &[u8], record: &[u8]) -> u64 {
-        RustEngine.decide(problem, record)
-    }
-
-    fn lower(&self, symbols: &[u8], first: &[u8], second: &[u8]) -> u64 {
-        RustEngine.lower(symbols, first, second) ^ 3
-    }
+/// Subterm, which goes down a frame for each byte before.
+fn recursing_subterm(problem: &[u8], position: usize) -> u64 {
+    assert_eq!(recursing(problem.len()), problem.len());
+    RustEngine.subterm(problem, position)
 }
 
 fn rows(engine: &(dyn Engine + Sync)) -> Vec<Row> {
@@ -120,18 +99,27 @@ fn the_rust_engine_walks_in_loops() {
 }
 
 #[test]
-fn a_recursive_walk_and_wrong_answers_are_found() {
-    for row in rows(&Recursing) {
+fn a_recursive_walk_is_found() {
+    let subterm = recursing_subterm;
+    for row in rows(&Other { subterm, ..RIGHT }) {
+        assert!(row.wrong.is_empty(), "{row}");
+        if row.name.starts_with("subterm") {
+            let faults = row.faults();
+            assert!(faults[0].contains("depends on the chain"), "{faults:?}");
+        }
+    }
+}
+
+#[test]
+fn wrong_answers_are_found() {
+    let lower: Lower = |symbols, first, second| RustEngine.lower(symbols, first, second) ^ 3;
+    for row in rows(&Other { lower, ..RIGHT }) {
         let wrong = match row.name.starts_with("lower") {
             true => NODES.len(),
             false => 0,
         };
         assert_eq!(row.wrong.len(), wrong, "{row}");
-        let faults = row.faults();
-        assert!(faults.len() >= wrong, "{row}");
-        if row.name.starts_with("subterm") {
-            assert!(faults[0].contains("depends on the chain"), "{faults:?}");
-        }
+        assert!(row.faults().len() >= wrong, "{row}");
     }
 }
 

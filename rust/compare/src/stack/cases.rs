@@ -206,53 +206,69 @@ fn other_readings() -> Vec<Case> {
     ]
 }
 
+/// The symbols and the leaves of two chains.
+type Chains = [[&'static str; 2]; 2];
+
+const EQUAL: Chains = [["i", "x"], ["i", "x"]];
+const ONE_SYMBOL: Chains = [["i", "x"], ["i", "y"]];
+const ONE_RANK: Chains = [["i", "x"], ["l", "y"]];
+const ABOVE: Chains = [["i", "x"], ["j", "x"]];
+const HIGHER_FIRST: Chains = [["i", "x"], ["j", "y"]];
+const HIGHER_SECOND: Chains = [["j", "x"], ["i", "y"]];
+
+/// Both with n nodes.
+fn texts(n: usize, chains: Chains) -> [String; 2] {
+    chains.map(|[symbol, leaf]| chain(symbol, n, leaf))
+}
+
 /// Equal chains are walked over in step. The path order goes down both chains
 /// at once where the symbols are the same, and down one of them where they have one rank. Where that of the
 /// first is higher it goes down the second and then, at the leaf, down the
 /// first: the deepest, in one direction or the other.
 fn comparisons() -> Vec<Case> {
-    fn compare(left: &str, right: &str, order: Order) -> (Input, u64) {
+    fn compare(n: usize, chains: Chains, order: Order) -> (Input, u64) {
+        let [left, right] = texts(n, chains);
         let answer = compared(CompareAnswer::Compared(order));
-        (Input::Compare(problem(&[[left, right]])), answer)
+        (Input::Compare(problem(&[[&left, &right]])), answer)
     }
     vec![
         looped("compare i..i(x), i..i(x)", |n| {
-            let side = chain("i", n, "x");
-            compare(&side, &side, Order::Identical)
+            compare(n, EQUAL, Order::Identical)
         }),
         deep("compare i..i(x), i..i(y)", |n| {
-            compare(&chain("i", n, "x"), &chain("i", n, "y"), Order::Neither)
+            compare(n, ONE_SYMBOL, Order::Neither)
         }),
         deep("compare i..i(x), l..l(y)", |n| {
-            compare(&chain("i", n, "x"), &chain("l", n, "y"), Order::Neither)
+            compare(n, ONE_RANK, Order::Neither)
         }),
         deep("compare i..i(x), j..j(x)", |n| {
-            compare(&chain("i", n, "x"), &chain("j", n, "x"), Order::LeftAbove)
+            compare(n, ABOVE, Order::LeftAbove)
         }),
         deep("compare i..i(x), j..j(y)", |n| {
-            compare(&chain("i", n, "x"), &chain("j", n, "y"), Order::Neither)
+            compare(n, HIGHER_FIRST, Order::Neither)
         }),
     ]
 }
 
 /// As compare, in one direction: the deepest has the higher symbol first.
 fn lowers() -> Vec<Case> {
-    fn lower(first: &str, second: &str, which: Which) -> (Input, u64) {
-        let pair = Pair::of_texts(SYMBOLS, [first, second]);
+    fn lower(n: usize, chains: Chains, which: Which) -> (Input, u64) {
+        let [first, second] = texts(n, chains);
+        let pair = Pair::of_texts(SYMBOLS, [&first, &second]);
         (Input::Lower(pair), chosen(which))
     }
     vec![
         deep("lower of i..i(x), i..i(y)", |n| {
-            lower(&chain("i", n, "x"), &chain("i", n, "y"), Which::First)
+            lower(n, ONE_SYMBOL, Which::First)
         }),
         deep("lower of i..i(x), j..j(x)", |n| {
-            lower(&chain("i", n, "x"), &chain("j", n, "x"), Which::Second)
+            lower(n, ABOVE, Which::Second)
         }),
         deep("lower of i..i(x), j..j(y)", |n| {
-            lower(&chain("i", n, "x"), &chain("j", n, "y"), Which::First)
+            lower(n, HIGHER_FIRST, Which::First)
         }),
         deep("lower of j..j(x), i..i(y)", |n| {
-            lower(&chain("j", n, "x"), &chain("i", n, "y"), Which::First)
+            lower(n, HIGHER_SECOND, Which::First)
         }),
     ]
 }
