@@ -1,5 +1,5 @@
 -- Terms one behind the other: two lists of them, the first k and the others, those that a node's byte begins, and variables alone. Assumes nothing.
--- Read first: specs/Flat, proofs/Flats (`unique`).
+-- Read first: specs/Flat, specs/Owed (IsNode).
 use mathlib.Core.Path.{_≡_, refl, sym, ap, _∙_}
 use mathlib.Core.Logic.{⊎-elim}
 use mathlib.Core.List.{List, [], _∷_, _++_, append-assoc}
