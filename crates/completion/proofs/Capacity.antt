@@ -142,7 +142,7 @@ pub data Listed : ℕ → Type 0 where
 pub end-listed : (e : End) → Listed (end-number e)
 unfolding end-number
 end-listed complete = is-complete refl
-end-listed (neither-above e) = is-neither-above refl
+end-listed neither-above = is-neither-above refl
 end-listed spent = is-spent refl
 end-listed too-large = is-too-large refl
 end-listed rules-full = is-rules-full refl

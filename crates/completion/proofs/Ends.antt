@@ -4,10 +4,10 @@ use mathlib.Core.Path.{_≡_}
 use mathlib.Core.Bool.{true, false}
 use mathlib.Core.Logic.{_⊎_}
 use mathlib.Core.List.{List, [], _∷_, _++_, List·Memᴰ}
-use mathlib.Core.Option.{some}
+use mathlib.Core.Option.{Option, none, some}
 use Prim.Native.Nat.{ℕ, suc, _≤_, _<_}
 use lib.ListN.{length}
-use Rattle.completion.proofs.Sentences.{new-rule, next-state}
+use Rattle.completion.proofs.Sentences.{AllPutBack, MayTake, new-rule, next-state}
 use Rattle.terms.specs.Term.{Term, Pair, same, size, pair-variables, renamed}
 use Rattle.terms.proofs.Shape.{zero≢one}
 use Rattle.terms.proofs.Below.{swapped}
@@ -18,7 +18,7 @@ use Rattle.rewriting.specs.Rewrite.{End, complete, neither-above, spent, too-la
 use Rattle.rewriting.proofs.Covers.{HoldsAt}
 use Rattle.rewriting.proofs.Holds.{Form, Forms, Outgrown}
 use Rattle.problem.specs.Problem.{rank-of, Problem}
-use Rattle.completion.specs.Turn.{overlapping, Candidate, scanned-input, State, Taken, candidates, kept, settled}
+use Rattle.completion.specs.Turn.{overlapping, Candidate, scanned-input, State, Taken, candidates, kept, waits-again, settled}
 
 -- Step 1: what is taken.
 abbrev pub inputs : Problem → List Candidate
@@ -71,6 +71,16 @@ pub data Oriented (P : Problem) (e : Pair) : Pair → Type 0 where
   as-taken : {f : Pair} → above (rank-of (P .symbols)) (e .left) (e .right) ≡ true → f ≡ renamed e → Oriented P e f
   other-way : {f : Pair} → above (rank-of (P .symbols)) (e .right) (e .left) ≡ true → f ≡ renamed (swapped e) → Oriented P e f
 
+-- "neither side above"
+pub record NeitherAbove (P : Problem) (e : Pair) : Type 0 where
+  pub not-left : above (rank-of (P .symbols)) (e .left) (e .right) ≡ false
+  pub not-right : above (rank-of (P .symbols)) (e .right) (e .left) ≡ false
+
+-- what `orient` answers
+abbrev pub OrientedAs : Problem → Pair → Option Pair → Type 0
+OrientedAs P e none = NeitherAbove P e
+OrientedAs P e (some f) = Oriented P e f
+
 -- Steps 2 to 5 passed: of the pair that was taken a rule with these sides is made.
 pub record Due (P : Problem) (s : State) (sides : Pair) : Type 0 where
   pub taken : Taken
@@ -99,6 +109,8 @@ pub data Next (P : Problem) (s : State) : State → Type 0 where
   makes : {s′ : State} (t : Taken) → Takes P s t → length (s .log) < 512 → same (t .pair .sides .left) (t .pair .sides .right) ≡ false →
       length (pair-variables (t .pair .sides)) ≤ 16 → (sides : Pair) → Oriented P (t .pair .sides) sides → suc (length (older-rules s sides)) ≤ 32 →
       (done : List Rule) → Rights (new-rule s sides) (older-rules s sides) done [] → s′ ≡ next-state s t sides (done ++ (new-rule s sides ∷ [])) → Next P s s′
+  puts-back : {s′ : State} (t : Taken) → Takes P s t → length (s .log) < 512 → same (t .pair .sides .left) (t .pair .sides .right) ≡ false →
+      length (pair-variables (t .pair .sides)) ≤ 16 → NeitherAbove P (t .pair .sides) → MayTake s → s′ ≡ waits-again s t → Next P s s′
 
 -- 0: nothing waits, the sides of each overlap have one normal form, and so have those of each input equation.
 abbrev pub SameCandidate : List Rule → Candidate → Type 0
@@ -108,17 +120,6 @@ pub record Certified (P : Problem) (s : State) : Type 0 where
   pub idle : s .waiting ≡ []
   pub overlaps : OverlapsSame (s .rules)
   pub inputs-same : Every (SameCandidate (s .rules)) (inputs P)
-
--- 20: "neither side above the other"
-pub record Neither (P : Problem) (s : State) (e : Pair) : Type 0 where
-  pub taken : Taken
-  pub takes : Takes P s taken
-  pub is-taken : e ≡ taken .pair .sides
-  pub differ : same (e .left) (e .right) ≡ false
-  pub not-left : above (rank-of (P .symbols)) (e .left) (e .right) ≡ false
-  pub not-right : above (rank-of (P .symbols)) (e .right) (e .left) ≡ false
-  pub few : length (pair-variables e) ≤ 16
-  pub room : length (s .log) < 512
 
 -- 22: "a term over 120 nodes, or a taken pair over 16 variables"
 abbrev pub SideOf : Pair → Term → Type 0
@@ -144,10 +145,10 @@ pub record LogFull (P : Problem) (s : State) : Type 0 where
   pub takes : Takes P s taken
   pub over : 512 ≤ length (s .log)
 
--- With so many units left, a turn that began with s ended so. 21 comes with none.
+-- With so many units left, a turn that began with s ended so. 20 comes when every one waiting has been put back, 21 with no unit.
 unfoldable pub Because : Problem → State → End → ℕ → Type 0
 Because P s complete left = Certified P s
-Because P s (neither-above e) left = Neither P s e
+Because P s neither-above left = AllPutBack s
 Because P s spent left = left ≡ 0
 Because P s too-large left = Large P s
 Because P s rules-full left = RulesFull P s

@@ -18,7 +18,7 @@ use Rattle.completion.specs.Turn.{take-pair, orient, normalise-rights, m
 -- a fact for the end 21, another for all others
 abbrev pub Unless : End → Type 0 → Type 0 → Type 0
 Unless complete A B = B
-Unless (neither-above e) A B = B
+Unless neither-above A B = B
 Unless spent A B = A
 Unless too-large A B = B
 Unless rules-full A B = B
@@ -88,7 +88,7 @@ module _ (L : (A : Type 0) → Paying A → Type 0) (k : Lawful L) where
 
   orient-lawful : (P : Problem) (e : Pair) → L Pair (orient P e)
   unfolding orient
-  orient-lawful P e = either-has (L _) _ _ _ (k .returned _ _) (either-has (L _) _ _ _ (k .returned _ _) (k .ended _ (neither-above e) tt))
+  orient-lawful P e = either-has (L _) _ _ _ (k .returned _ _) (either-has (L _) _ _ _ (k .returned _ _) (k .ended _ neither-above tt))
 
   rights-lawful : (before rules : List Rule) (new : Rule) → L (List Rule) (normalise-rights before rules new)
   unfolding normalise-rights

@@ -250,10 +250,10 @@ unfolding orient
 orient-free P e = go (above (rank-of (P .symbols)) (e .left) (e .right)) (above (rank-of (P .symbols)) (e .right) (e .left))
   where
     go : (b c : Bool) → Books {A = Pair}
-        (if b then return (renamed e) else if c then return (renamed (record { left = e .right; right = e .left })) else end-with (neither-above e)) nothing
+        (if b then return (renamed e) else if c then return (renamed (record { left = e .right; right = e .left })) else end-with neither-above) nothing
     go true c = unfold if_then_else_ in return-books _
     go false true = unfold if_then_else_ in return-books _
-    go false false = unfold if_then_else_ in end-books Pair (neither-above e)
+    go false false = unfold if_then_else_ in end-books Pair neither-above
 
 rights-books : (before rules : List Rule) (new : Rule) → Books (normalise-rights before rules new) (rights-events before rules new)
 unfolding normalise-rights rights-events

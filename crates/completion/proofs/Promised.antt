@@ -36,7 +36,7 @@ use Rattle.completion.proofs.Published.{run-derived, complete-derived}
 end-zero : (e : End) → (some (end-number e % 256) ≡ some 0) ↔ (e ≡ complete)
 unfolding end-number
 end-zero complete = (λ h. refl, λ h. refl)
-end-zero (neither-above e) = (λ h. absurd (zero≢one (cc)), λ h. absurd (zero≢one (cc)))
+end-zero neither-above = (λ h. absurd (zero≢one (cc)), λ h. absurd (zero≢one (cc)))
 end-zero spent = (λ h. absurd (zero≢one (cc)), λ h. absurd (zero≢one (cc)))
 end-zero too-large = (λ h. absurd (zero≢one (cc)), λ h. absurd (zero≢one (cc)))
 end-zero rules-full = (λ h. absurd (zero≢one (cc)), λ h. absurd (zero≢one (cc)))
@@ -51,7 +51,7 @@ entries-other (e ∷ log) = of-cons refl (entries-other log)
 forms-other : (e : End) → Every (λ (f : Field). eqb (f .tag) 0x12 ≡ false) (forms-field e)
 unfolding forms-field
 forms-other complete = of-none
-forms-other (neither-above e) = every-one refl
+forms-other neither-above = every-one refl
 forms-other spent = of-none
 forms-other too-large = of-none
 forms-other rules-full = of-none

@@ -20,7 +20,7 @@ turn-more P s s′ left left′ k e = subst (λ p. WithMore p k (turn P s (left 
 
 other : (e : End) (A B : Type 0) → Other e → Unless e A B → B
 other complete A B o h = h
-other (neither-above p) A B o h = h
+other neither-above A B o h = h
 other spent A B o h = absurd o
 other too-large A B o h = h
 other rules-full A B o h = h
@@ -28,7 +28,7 @@ other log-full A B o h = h
 
 unless : (e : End) (A B : Type 0) → A → (Other e → B) → Unless e A B
 unless complete A B a b = b tt
-unless (neither-above p) A B a b = b tt
+unless neither-above A B a b = b tt
 unless spent A B a b = a
 unless too-large A B a b = b tt
 unless rules-full A B a b = b tt

@@ -9,9 +9,9 @@ use Rattle.completion.proofs.Sentences.{turn-unpaid}
 use Rattle.rewriting.specs.Rewrite.{End, Paid, done, stop, and-then, _>>=_, pay}
 use Rattle.rewriting.proofs.Holds.{Holds, stop≢done}
 use Rattle.problem.specs.Problem.{Problem}
-use Rattle.completion.specs.Turn.{State, initial, settled, turn}
+use Rattle.completion.specs.Turn.{State, made-put-back, initial, waits-again, settled, turn}
 use Rattle.completion.proofs.Units.{rest-of-turn, left-of, Fair}
-use Rattle.completion.proofs.Ends.{Next, settles, makes, Because}
+use Rattle.completion.proofs.Ends.{Next, settles, makes, puts-back, Because}
 use Rattle.completion.proofs.Traced.{turn-traced}
 
 -- the states that turns lead to from the first one, with the units then left
@@ -28,10 +28,12 @@ turn-next P s s′ left left′ e = after P s left (done s′ left′) e
 
 -- A log entry a turn.
 pub next-entry : (P : Problem) (s s′ : State) → Next P s s′ → length (s′ .log) ≡ suc (length (s .log))
-unfolding settled
+unfolding settled waits-again
 next-entry P s s′ (settles t h room q e) = rw e (omega (arith, length-append (s .log) (record { origin = t .pair .origin; made = 0 } ∷ [])))
 next-entry P s s′ (makes t h room d few sides o live all r e) =
     rw e (omega (arith, length-append (s .log) (record { origin = t .pair .origin; made = suc (s .made) } ∷ [])))
+next-entry P s s′ (puts-back t h room d few n may e) =
+    rw e (omega (arith, length-append (s .log) (record { origin = t .pair .origin; made = made-put-back } ∷ [])))
 
 -- the turns before it
 unfoldable pub turns-done : {P : Problem} {s : State} {left : ℕ} → Reachable P s left → ℕ

@@ -63,7 +63,7 @@ module _ (P : Problem) (a : Accepted P) where
   forms-fit : (end : End) → run P .end ≡ end → FormsFit (length (run P .state .log)) (forms-field end)
   unfolding forms-field
   forms-fit complete q = no-forms _ (run-limits P a .log-few)
-  forms-fit (neither-above e) q =
+  forms-fit neither-above q =
       let h : Neither P (run P .state) e = run-neither P e q in
       one-forms (length (P .symbols)) (length (run P .state .log)) e (a .symbols-few) (h .room)
       (renamed-held (length (P .symbols)) 32 16 e (h .few) (neither-fits P a e h))

@@ -19,7 +19,7 @@ ScanEnd spent = Unit {0}
 ScanEnd too-large = Unit {0}
 ScanEnd rules-full = ⊥
 ScanEnd log-full = ⊥
-ScanEnd (neither-above e) = ⊥
+ScanEnd neither-above = ⊥
 
 -- with any units left, and whatever is answered
 abbrev E : End → ℕ → Type 0

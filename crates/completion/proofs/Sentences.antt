@@ -1,22 +1,26 @@
--- The steps of a turn as document 01 says them: each law is one of its sentences, of what `turn` and its parts come to when the steps before have
--- come to something. Assumes nothing.
+-- The steps of a turn as document 01 and document 02, Six, say them: each law is one of their sentences, of what `turn` and its parts come to when the
+-- steps before have come to something. Assumes nothing.
 -- Read first: specs/Turn.
-use mathlib.Core.Path.{_≡_, refl}
+use mathlib.Core.Path.{_≡_, refl, sym, ap, _∙_}
 use mathlib.Core.Bool.{true, false}
+use mathlib.Core.Logic.{_⊎_, inl, inr}
 use mathlib.Core.List.{List, [], _∷_, _++_}
+use mathlib.Core.Option.{Option, none, some}
 use Prim.Native.Nat.{ℕ, suc, _≤_, _<_}
+use native.Mathlib.Omega.{arith}
+use lib.Dec.{leb}
 use lib.ListN.{length}
-use borrow.Author.Tests.{le-leb, lt-ltb, le-ltb}
+use borrow.Author.Tests.{le-leb, lt-leb, lt-ltb, le-ltb}
 use Rattle.terms.specs.Base.{if_then_else_}
-use Rattle.terms.specs.Term.{Pair, same, pair-variables}
+use Rattle.terms.specs.Term.{Pair, same, pair-variables, renamed}
 use Rattle.order.specs.Order.{above}
 use Rattle.rewriting.specs.Overlap.{Rule}
 use Rattle.rewriting.specs.Rewrite.{End, neither-above, spent, too-large, rules-full, log-full, Paid, done, stop, return, end-with}
 use Rattle.rewriting.specs.Rewrite.{and-then, _>>=_, end-if, pay, normalise-pair, Paying}
-use Rattle.rewriting.proofs.Holds.{Holds, Pays, bind-holds, return-holds}
+use Rattle.rewriting.proofs.Holds.{Holds, Pays, bind-holds, return-holds, and-then-assoc}
 use Rattle.problem.specs.Problem.{rank-of, Problem}
 use Rattle.completion.specs.Turn.{Candidate, State, Taken, if-different, scan-inputs, scan, take-pair, orient, kept, removed}
-use Rattle.completion.specs.Turn.{make-rule, turn}
+use Rattle.completion.specs.Turn.{waits-again, if-oriented, make-rule, settled, end-if-all-put-back, turn}
 
 -- 1. "Pay a unit": with none left, the end is 21.
 pub turn-unpaid : (P : Problem) (s : State) → turn P s 0 ≡ stop spent 0
@@ -37,17 +41,62 @@ pub scan-takes-input : (rules : List Rule) (c : Candidate) (cs : List Candidate)
 unfolding scan scan-inputs _>>=_ and-then if-different if_then_else_ return
 scan-takes-input rules c cs forms units left h d = rw (h, d) refl
 
--- 2. "24 when a 513th log entry is due, at step 2 of the turn"
-pub turn-log-full : (P : Problem) (s : State) (units : ℕ) (t : Taken) (left : ℕ) → take-pair P (s .rules) (s .waiting) units ≡ done t left →
-    512 ≤ length (s .log) → turn P s (suc units) ≡ stop log-full left
-unfolding turn _>>=_ and-then pay end-if end-with
-turn-log-full P s units t left h full = rw (h, le-leb 512 (length (s .log)) full) refl
+-- Behind its unit: not every one waiting has been put back, and a pair is taken.
+abbrev pub taking : Problem → State → Paying Taken
+taking P s = end-if-all-put-back (s .waiting) (s .put-back) >>= λ _. take-pair P (s .rules) (s .waiting)
 
--- 4. "Neither side above: end 20."
-pub orient-neither : (P : Problem) (e : Pair) (units : ℕ) → above (rank-of (P .symbols)) (e .left) (e .right) ≡ false →
-    above (rank-of (P .symbols)) (e .right) (e .left) ≡ false → orient P e units ≡ stop (neither-above e) units
-unfolding orient if_then_else_ end-with
-orient-neither P e units a b = rw (a, b) refl
+-- "End 20 is given .. when some equation waits and every one waiting has been put back": as many as wait. "This is tested at the start of the next
+-- turn, after its unit is paid."
+pub record AllPutBack (s : State) : Type 0 where
+  pub some : 0 < length (s .waiting)
+  pub all : length (s .waiting) ≤ s .put-back
+
+pub taking-ends : (P : Problem) (s : State) (units : ℕ) → AllPutBack s → taking P s units ≡ stop neither-above units
+unfolding _>>=_
+taking-ends P s units h = ap (λ p. and-then p (λ _. take-pair P (s .rules) (s .waiting))) (go (s .waiting) (h .some) (h .all)) ∙ unfold and-then in refl
+  where
+    go : (cs : List Candidate) → 0 < length cs → length cs ≤ s .put-back → end-if-all-put-back cs (s .put-back) units ≡ stop neither-above units
+    go [] h k = absurd (omega arith)
+    go (c ∷ cs) h k =
+        unfold end-if-all-put-back end-if end-with in ap (λ b. end-if b neither-above units) (le-leb (suc (length cs)) (s .put-back) k)
+
+-- else a pair is taken: none waits, or fewer were put back than wait
+abbrev pub MayTake : State → Type 0
+MayTake s = (length (s .waiting) ≡ 0) ⊎ (s .put-back < length (s .waiting))
+
+pub taking-on : (P : Problem) (s : State) (units : ℕ) → MayTake s → taking P s units ≡ take-pair P (s .rules) (s .waiting) units
+unfolding _>>=_
+taking-on P s units h = ap (λ p. and-then p (λ _. take-pair P (s .rules) (s .waiting))) (go (s .waiting) h) ∙ unfold and-then in refl
+  where
+    go : (cs : List Candidate) → (length cs ≡ 0) ⊎ (s .put-back < length cs) → end-if-all-put-back cs (s .put-back) units ≡ done tt units
+    go [] h = unfold end-if-all-put-back return in refl
+    go (c ∷ cs) (inl h) = absurd (omega arith)
+    go (c ∷ cs) (inr h) =
+        unfold end-if-all-put-back end-if return in ap (λ b. end-if b neither-above units) (lt-leb (suc (length cs)) (s .put-back) h)
+
+-- the rest of a turn
+abbrev pub behind-taking : Problem → State → Taken → Paying State
+behind-taking P s t =
+    end-if (leb 512 (length (s .log))) log-full >>= λ _. if same (t .pair .sides .left) (t .pair .sides .right) then return (settled s t) else make-rule P s t
+
+pub turn-takes : (P : Problem) (s : State) (units : ℕ) → turn P s (suc units) ≡ and-then (taking P s units) (behind-taking P s)
+unfolding turn _>>=_ pay and-then
+turn-takes P s units =
+    sym (and-then-assoc (end-if-all-put-back (s .waiting) (s .put-back) units) (λ _. take-pair P (s .rules) (s .waiting)) (behind-taking P s))
+
+-- 2. "24 when a 513th log entry is due, at step 2 of the turn"
+pub turn-log-full : (P : Problem) (s : State) (units : ℕ) (t : Taken) (left : ℕ) → taking P s units ≡ done t left →
+    512 ≤ length (s .log) → turn P s (suc units) ≡ stop log-full left
+turn-log-full P s units t left h full = turn-takes P s units ∙ ap (λ p. and-then p (behind-taking P s)) h ∙ full-there
+  where
+    full-there : and-then (done t left) (behind-taking P s) ≡ stop log-full left
+    full-there = unfold and-then _>>=_ end-if end-with in rw (le-leb 512 (length (s .log)) full) refl
+
+-- 4. "An equation with neither side above now goes to the end of the waiting list"
+pub orient-neither : (P : Problem) (e : Pair) → above (rank-of (P .symbols)) (e .left) (e .right) ≡ false →
+    above (rank-of (P .symbols)) (e .right) (e .left) ≡ false → orient P e ≡ none
+unfolding orient if_then_else_
+orient-neither P e a b = rw (a, b) refl
 
 -- the new rule, and the state that it leads to
 abbrev pub new-rule : State → Pair → Rule
@@ -59,6 +108,7 @@ next-state s t sides rules = record {
   made = suc (s .made);
   waiting = t .waiting ++ removed (new-rule s sides) (s .rules);
   log = s .log ++ (record { origin = t .pair .origin; made = suc (s .made) } ∷ []);
+  put-back = 0;
 }
 
 -- whatever is paid for, with any answer and any end
@@ -78,24 +128,42 @@ pub record Behind (before after : List Candidate) : Type 0 where
   pub in-front : after ≡ before ++ others
 
 module _ (P : Problem) (s : State) (t : Taken) (units : ℕ) where
+  abbrev variables : ℕ
+  variables = length (pair-variables (t .pair .sides))
+
   -- 4. "The taken pair has at most 16 different variables, else 22."
-  pub make-many-variables : 16 < length (pair-variables (t .pair .sides)) → make-rule P s t units ≡ stop too-large units
+  pub make-many-variables : 16 < variables → make-rule P s t units ≡ stop too-large units
   unfolding make-rule _>>=_ and-then end-if end-with
-  make-many-variables many = rw (lt-ltb 16 (length (pair-variables (t .pair .sides))) many) refl
+  make-many-variables many = rw (lt-ltb 16 variables many) refl
+
+  -- then by the new rule's sides, if there are such
+  pub make-oriented : variables ≤ 16 → make-rule P s t units ≡ if-oriented s t (orient P (t .pair .sides)) units
+  unfolding make-rule _>>=_ and-then end-if return
+  make-oriented few = rw (le-ltb 16 variables few) refl
+
+  -- 4. "An equation with neither side above now goes to the end of the waiting list as its two normal forms"
+  pub make-waits-again : variables ≤ 16 → orient P (t .pair .sides) ≡ none → make-rule P s t units ≡ done (waits-again s t) units
+  make-waits-again few h = make-oriented few ∙ ap (λ o. if-oriented s t o units) h ∙ unfold if-oriented return in refl
 
   -- 6. "Over 32 live: 23."
-  pub make-many-rules : length (pair-variables (t .pair .sides)) ≤ 16 → (sides : Pair) (left : ℕ) → orient P (t .pair .sides) units ≡ done sides left →
-      32 < suc (length (kept (new-rule s sides) (s .rules))) → make-rule P s t units ≡ stop rules-full left
-  unfolding make-rule _>>=_ and-then end-if end-with return
-  make-many-rules few sides left h many =
-      rw (le-ltb 16 (length (pair-variables (t .pair .sides))) few, h, lt-ltb 32 (suc (length (kept (new-rule s sides) (s .rules)))) many) refl
+  pub make-many-rules : variables ≤ 16 → (sides : Pair) → orient P (t .pair .sides) ≡ some sides →
+      32 < suc (length (kept (new-rule s sides) (s .rules))) → make-rule P s t units ≡ stop rules-full units
+  make-many-rules few sides h many = make-oriented few ∙ ap (λ o. if-oriented s t o units) h ∙ full
+    where
+      full : if-oriented s t (some sides) units ≡ stop rules-full units
+      full = unfold if-oriented _>>=_ and-then end-if end-with in rw (lt-ltb 32 (suc (length (kept (new-rule s sides) (s .rules)))) many) refl
 
--- 6. "its two sides join the waiting list": behind those that wait, so that the oldest is taken first
-pub make-waits : (P : Problem) (s : State) (t : Taken) → Pays (λ (s′ : State). Behind (t .waiting) (s′ .waiting)) AnyEnd (make-rule P s t)
-unfolding make-rule
-make-waits P s t =
-    bind-holds _ _ (anything _) λ _ _.
-    bind-holds _ _ (anything _) λ sides _.
+-- what joins the waiting list joins it behind those that wait, so that the oldest is taken first: 6. "its two sides join the waiting list"; 4. "goes to
+-- the end of the waiting list"
+oriented-waits : (s : State) (t : Taken) (o : Option Pair) → Pays (λ (s′ : State). Behind (t .waiting) (s′ .waiting)) AnyEnd (if-oriented s t o)
+unfolding if-oriented
+oriented-waits s t none =
+    return-holds _ (record { others = record { origin = t .pair .origin; sides = renamed (t .pair .sides) } ∷ []; in-front = unfold waits-again in refl })
+oriented-waits s t (some sides) =
     bind-holds _ _ (anything _) λ _ _.
     bind-holds _ _ (anything _) λ rules _.
     return-holds _ (record { others = removed (new-rule s sides) (s .rules); in-front = refl })
+
+pub make-waits : (P : Problem) (s : State) (t : Taken) → Pays (λ (s′ : State). Behind (t .waiting) (s′ .waiting)) AnyEnd (make-rule P s t)
+unfolding make-rule
+make-waits P s t = bind-holds _ _ (anything _) λ _ _. oriented-waits s t (orient P (t .pair .sides))

@@ -29,7 +29,7 @@ stop-then : {A B : Type 0} (e : End) (left k : ℕ) (p : Paid A) (next : A → P
     WithMore {A = B} (stop e left) k (and-then p next)
 unfolding and-then
 stop-then complete left k p next h = ap (λ q. and-then q next) h
-stop-then (neither-above e) left k p next h = ap (λ q. and-then q next) h
+stop-then neither-above left k p next h = ap (λ q. and-then q next) h
 stop-then spent left k p next h = h
 stop-then too-large left k p next h = ap (λ q. and-then q next) h
 stop-then rules-full left k p next h = ap (λ q. and-then q next) h
@@ -52,7 +52,7 @@ return-steady a left k more e = ap (done a) e
 end-steady : (A : Type 0) (e : End) → Other e → Steady (end-with {A = A} e)
 unfolding end-with
 end-steady A complete o left k more e = ap (stop complete) e
-end-steady A (neither-above p) o left k more e = ap (stop (neither-above p)) e
+end-steady A neither-above o left k more e = ap (stop (neither-above p)) e
 end-steady A spent o left k more e = absurd o
 end-steady A too-large o left k more e = ap (stop too-large) e
 end-steady A rules-full o left k more e = ap (stop rules-full) e

@@ -3,12 +3,12 @@
 use mathlib.Core.Path.{_≡_, refl}
 use Prim.Native.Nat.{ℕ, zero, suc, _+_, _≤_, _<_}
 use native.Mathlib.Omega.{arith}
-use Rattle.terms.specs.Term.{Pair}
 use Rattle.rewriting.specs.Rewrite.{End, end-number, complete, neither-above, spent, too-large, rules-full, log-full, Paid, done, stop, and-then, _>>=_, pay}
 use Rattle.problem.specs.Problem.{Problem}
 use Rattle.completion.specs.Turn.{State, Finished, initial, turn, turns, run}
+use Rattle.completion.proofs.Sentences.{AllPutBack}
 use Rattle.completion.proofs.Units.{left-of, rest-of-turn}
-use Rattle.completion.proofs.Ends.{Certified, RulesFull, LogFull, Because, Neither, Large}
+use Rattle.completion.proofs.Ends.{Certified, RulesFull, LogFull, Because, Large}
 use Rattle.completion.proofs.Reachable.{Reachable, from-start, by-turn, after, turn-less, stop-left, reachable-units}
 
 -- How a run ended: the state that it leaves, in which a turn stopped.
@@ -49,9 +49,9 @@ pub run-complete : (P : Problem) → run P .end ≡ complete → Certified P (ru
 unfolding Because
 run-complete P e = let h = run-because P in rw e at h
 
-pub run-neither : (P : Problem) (e : Pair) → run P .end ≡ neither-above e → Neither P (run P .state) e
+pub run-neither : (P : Problem) → run P .end ≡ neither-above → AllPutBack (run P .state)
 unfolding Because
-run-neither P e q = let h = run-because P in rw q at h
+run-neither P e = let h = run-because P in rw e at h
 
 -- 21 only when all is paid
 pub run-spent : (P : Problem) → run P .end ≡ spent → run P .units ≡ P .budget
@@ -78,7 +78,7 @@ run-log-full P e = let h = run-because P in rw e at h
 full-number : (e : End) → (end-number e ≡ 23 → e ≡ rules-full) × (end-number e ≡ 24 → e ≡ log-full)
 unfolding end-number
 full-number complete = (λ h. absurd (omega arith), λ h. absurd (omega arith))
-full-number (neither-above p) = (λ h. absurd (omega arith), λ h. absurd (omega arith))
+full-number neither-above = (λ h. absurd (omega arith), λ h. absurd (omega arith))
 full-number spent = (λ h. absurd (omega arith), λ h. absurd (omega arith))
 full-number too-large = (λ h. absurd (omega arith), λ h. absurd (omega arith))
 full-number rules-full = (λ h. refl, λ h. absurd (omega arith))

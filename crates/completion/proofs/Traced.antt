@@ -1,28 +1,31 @@
 -- A turn comes to a next state, or to an end for its cause: the one proof that follows a turn step by step. Assumes nothing.
 -- Read first: specs/Turn, proofs/Ends.
 use mathlib.Core.Path.{_≡_, refl, sym, ap, subst, _∙_}
-use mathlib.Core.Bool.{false}
+use mathlib.Core.Bool.{Bool, true, false}
 use mathlib.Core.Logic.{inl, inr}
 use mathlib.Core.List.{List, [], _∷_, _++_, List·Memᴰ}
 use mathlib.Core.Option.{Option, none, some}
 use Prim.Native.Nat.{ℕ, suc, _≤_, _<_}
+use native.Mathlib.Omega.{arith}
 use lib.ListN.{length}
 use borrow.Author.Tests.{ltb-true, ltb-false, leb-true, leb-false}
-use Rattle.completion.proofs.Sentences.{new-rule, next-state}
+use Rattle.completion.proofs.Sentences.{MayTake, new-rule, next-state}
 use Rattle.terms.specs.Term.{Pair, same, pair-variables, renamed}
 use Rattle.terms.proofs.Shape.{none≢some, some-inj, same-dec}
-use Rattle.terms.specs.Base.{Every, of-none, of-cons}
+use Rattle.terms.specs.Base.{if_then_else_, Every, of-none, of-cons}
+use Rattle.terms.proofs.Below.{swapped}
 use Rattle.terms.proofs.Every.{every-of}
+use Rattle.order.specs.Order.{above}
 use Rattle.rewriting.specs.Overlap.{Rule, Overlap, overlap, Place, all-places}
 use Rattle.rewriting.specs.Rewrite.{End, complete, neither-above, spent, too-large, rules-full, log-full, Paying, normalise-pair}
 use Rattle.rewriting.proofs.Covers.{HoldsAt}
-use Rattle.rewriting.proofs.Holds.{Form, Forms, Pays, bind-holds, return-holds, end-with-holds, end-if-holds, if-holds, pay-holds, hold-holds}
+use Rattle.rewriting.proofs.Holds.{Form, Forms, Pays, bind-holds, pays-weaker, return-holds, end-with-holds, end-if-holds, if-holds, pay-holds, hold-holds}
 use Rattle.rewriting.proofs.Holds.{normalise-holds, normalise-pair-holds}
-use Rattle.problem.specs.Problem.{Problem}
+use Rattle.problem.specs.Problem.{rank-of, Problem}
 use Rattle.completion.specs.Turn.{overlapping, Candidate, State, Taken, scan-overlap, if-different, if-different-overlap, scan-inputs}
-use Rattle.completion.specs.Turn.{scan, take-pair, orient, normalise-rights, make-rule, turn}
-use Rattle.completion.proofs.Ends.{none≢waiting, inputs, Scanned, Source, of-waiting, of-overlap, of-input, Takes, Oriented, as-taken, other-way, Due}
-use Rattle.completion.proofs.Ends.{Rights, none-yet, one-more, older-rules, Next, settles, makes, SameForm, SameAt, OverlapsSame}
+use Rattle.completion.specs.Turn.{scan, take-pair, orient, normalise-rights, if-oriented, make-rule, end-if-all-put-back, turn}
+use Rattle.completion.proofs.Ends.{none≢waiting, inputs, Scanned, Source, of-waiting, of-overlap, of-input, Takes, as-taken, other-way, OrientedAs, Due}
+use Rattle.completion.proofs.Ends.{Rights, none-yet, one-more, older-rules, Next, settles, makes, puts-back, SameForm, SameAt, OverlapsSame}
 use Rattle.completion.proofs.Ends.{SameCandidate, Certified, Large, in-taking, in-overlap, in-right, variables, Because}
 
 module _ (P : Problem) (s : State) where
@@ -119,15 +122,15 @@ module _ (P : Problem) (s : State) where
   pub takes : Pays (Takes P s) E (take-pair P (s .rules) (s .waiting))
   takes = take-traced (s .waiting) refl
 
-  orient-traced : (t : Taken) → Takes P s t → length (s .log) < 512 → same (t .pair .sides .left) (t .pair .sides .right) ≡ false →
-      length (pair-variables (t .pair .sides)) ≤ 16 →
-      Pays (Oriented P (t .pair .sides)) E (orient P (t .pair .sides))
-  unfolding orient Because
-  orient-traced t h room d few =
-      if-holds _ _ _ (λ a. return-holds _ (as-taken a refl)) (λ a.
-      if-holds _ _ _ (λ b. return-holds _ (other-way b refl)) (λ b.
-      end-with-holds (neither-above (t .pair .sides))
-      (λ _. record { taken = t; takes = h; is-taken = refl; differ = d; not-left = a; not-right = b; few = few; room = room })))
+  oriented-as : (e : Pair) → OrientedAs P e (orient P e)
+  unfolding orient
+  oriented-as e = go (above (rank-of (P .symbols)) (e .left) (e .right)) (above (rank-of (P .symbols)) (e .right) (e .left)) refl refl
+    where
+      go : (b c : Bool) → above (rank-of (P .symbols)) (e .left) (e .right) ≡ b → above (rank-of (P .symbols)) (e .right) (e .left) ≡ c →
+          OrientedAs P e (if b then some (renamed e) else if c then some (renamed (swapped e)) else none)
+      go true c p q = unfold if_then_else_ in as-taken p refl
+      go false true p q = unfold if_then_else_ in other-way q refl
+      go false false p q = unfold if_then_else_ in record { not-left = p; not-right = q }
 
   module _ (sides : Pair) (due : Due P s sides) (live : suc (length (older-rules s sides)) ≤ 32) where
     abbrev new : Rule
@@ -142,24 +145,37 @@ module _ (P : Problem) (s : State) where
         (normalise-holds E (done ++ (old ∷ later) ++ (new ∷ [])) out-of-units (old .sides .right) (λ o. large (in-right sides due live done later old h o)))
         λ r f. rights-traced _ later (one-more h f refl)
 
-  make-traced : (t : Taken) → Takes P s t → length (s .log) < 512 → same (t .pair .sides .left) (t .pair .sides .right) ≡ false →
-      Pays (Next P s) E (make-rule P s t)
-  unfolding make-rule Because
-  make-traced t h room d =
-      bind-holds _ _ (end-if-holds _ too-large (λ q left. variables t h (ltb-true 16 _ q))) λ _ few.
-      bind-holds _ _ (orient-traced t h room d (ltb-false 16 _ few)) λ sides o.
-      let due : Due P s sides = record { taken = t; takes = h; room = room; differ = d; few = ltb-false 16 _ few; oriented = o } in
-      bind-holds _ _ (end-if-holds _ rules-full (λ q left. record { sides = sides; due = due; over = ltb-true 32 _ q })) λ _ live.
-      bind-holds _ _ (rights-traced sides due (ltb-false 32 _ live) [] (older-rules s sides) (none-yet refl refl)) λ rules g.
-      return-holds _
-      (makes t h room d (ltb-false 16 _ few) sides o (ltb-false 32 _ live) (g .0) (g .1) (ap (next-state s t sides) (g .2)))
+  module _ (may : MayTake s) (t : Taken) (h : Takes P s t) (room : length (s .log) < 512)
+      (d : same (t .pair .sides .left) (t .pair .sides .right) ≡ false) where
+    oriented-traced : length (pair-variables (t .pair .sides)) ≤ 16 → (o : Option Pair) → OrientedAs P (t .pair .sides) o → Pays (Next P s) E (if-oriented s t o)
+    unfolding if-oriented Because
+    oriented-traced few none o = return-holds _ (puts-back t h room d few o may refl)
+    oriented-traced few (some sides) o =
+        let due : Due P s sides = record { taken = t; takes = h; room = room; differ = d; few = few; oriented = o } in
+        bind-holds _ _ (end-if-holds _ rules-full (λ q left. record { sides = sides; due = due; over = ltb-true 32 _ q })) λ _ live.
+        bind-holds _ _ (rights-traced sides due (ltb-false 32 _ live) [] (older-rules s sides) (none-yet refl refl)) λ rules g.
+        return-holds _ (makes t h room d few sides o (ltb-false 32 _ live) (g .0) (g .1) (ap (next-state s t sides) (g .2)))
+
+    make-traced : Pays (Next P s) E (make-rule P s t)
+    unfolding make-rule Because
+    make-traced =
+        bind-holds _ _ (end-if-holds _ too-large (λ q left. variables t h (ltb-true 16 _ q))) λ _ few.
+        oriented-traced (ltb-false 16 _ few) (orient P (t .pair .sides)) (oriented-as (t .pair .sides))
+
+  all-put-back-traced : (waiting : List Candidate) → s .waiting ≡ waiting → Pays (λ _. MayTake s) E (end-if-all-put-back waiting (s .put-back))
+  unfolding end-if-all-put-back Because
+  all-put-back-traced [] w = return-holds tt (inl (ap length w))
+  all-put-back-traced (c ∷ cs) w =
+      pays-weaker _ (λ _ q. inr (rw w (leb-false (suc (length cs)) (s .put-back) q)))
+      (end-if-holds _ neither-above (λ q left. record { some = rw w (omega arith); all = rw w (leb-true (suc (length cs)) (s .put-back) q) }))
 
   pub turn-traced : Pays (Next P s) (Because P s) (turn P s)
   unfolding turn Because
   turn-traced =
       bind-holds _ _ (pay-holds out-of-units) λ _ _.
+      bind-holds _ _ (all-put-back-traced (s .waiting) refl) λ _ may.
       bind-holds _ _ takes λ t h.
       bind-holds _ _ (end-if-holds _ log-full (λ q left. record { taken = t; takes = h; over = leb-true 512 _ q })) λ _ room.
       if-holds _ _ _
       (λ b. return-holds _ (settles t h (leb-false 512 _ room) (same-dec (t .pair .sides .left) (t .pair .sides .right) .0 b) refl))
-      (λ b. make-traced t h (leb-false 512 _ room) b)
+      (λ b. make-traced may t h (leb-false 512 _ room) b)

@@ -2,42 +2,39 @@
 -- Assumes nothing.
 -- Read first: specs/Turn, proofs/Sentences.
 use mathlib.Core.Path.{_≡_, refl, sym, ap, _∙_}
-use mathlib.Core.Bool.{Bool, true, false}
+use mathlib.Core.Bool.{true, false}
 use mathlib.Core.List.{List, [], _∷_}
+use mathlib.Core.Option.{some}
 use Prim.Native.Nat.{ℕ, zero, suc, _≤_, _<_, _-_}
 use native.Mathlib.Omega.{arith}
-use lib.Dec.{ltb, leb}
+use lib.Dec.{leb}
 use lib.ListN.{length}
-use borrow.Author.Tests.{lt-leb, le-ltb, ltb-false}
+use borrow.Author.Tests.{lt-leb, le-ltb}
 use Rattle.terms.specs.Base.{if_then_else_}
 use Rattle.terms.specs.Term.{Pair, same, pair-variables}
-use Rattle.rewriting.proofs.Holds.{and-then-assoc, stop≢done}
 use Rattle.rewriting.specs.Overlap.{Rule, all-places}
-use Rattle.rewriting.specs.Rewrite.{End, too-large, rules-full, log-full, done, stop, Paying, return, end-with, and-then, _>>=_, end-if, pay}
+use Rattle.rewriting.specs.Rewrite.{End, rules-full, log-full, done, stop, Paying, return, and-then, _>>=_, end-if}
 use Rattle.rewriting.specs.Rewrite.{normalise-pair}
 use Rattle.problem.specs.Problem.{Problem}
 use Rattle.completion.specs.Turn.{scanned-input, Candidate, State, Taken, candidates, scan, take-pair, orient, kept, normalise-rights}
-use Rattle.completion.specs.Turn.{make-rule, settled, turn, Finished, initial, turns, run}
-pub use Rattle.completion.proofs.Sentences.{turn-unpaid, turn-log-full, new-rule, next-state}
-use Rattle.completion.proofs.Sentences.{make-many-rules}
+use Rattle.completion.specs.Turn.{if-oriented, make-rule, settled, turn, Finished, initial, turns, run}
+pub use Rattle.completion.proofs.Sentences.{turn-unpaid, turn-log-full, taking, AllPutBack, taking-ends, MayTake, taking-on, new-rule, next-state}
+pub use Rattle.completion.proofs.Sentences.{make-many-variables, make-waits-again, make-many-rules}
+use Rattle.completion.proofs.Sentences.{turn-takes, behind-taking, make-oriented}
 
 -- Step 1 behind its unit, and the rest of a turn.
 module _ (P : Problem) (s : State) (units : ℕ) where
-  abbrev behind-take : Taken → Paying State
-  behind-take t =
-      end-if (leb 512 (length (s .log))) log-full >>= λ _. if same (t .pair .sides .left) (t .pair .sides .right) then return (settled s t) else make-rule P s t
+  pub turn-stops : (e : End) (left : ℕ) → taking P s units ≡ stop e left → turn P s (suc units) ≡ stop e left
+  unfolding and-then
+  turn-stops e left h = turn-takes P s units ∙ ap (λ p. and-then p (behind-taking P s)) h
 
-  pub turn-stops : (e : End) (left : ℕ) → take-pair P (s .rules) (s .waiting) units ≡ stop e left → turn P s (suc units) ≡ stop e left
-  unfolding turn _>>=_ and-then pay
-  turn-stops e left h = ap (λ p. and-then p behind-take) h
-
-  module _ (t : Taken) (left : ℕ) (h : take-pair P (s .rules) (s .waiting) units ≡ done t left) where
+  module _ (t : Taken) (left : ℕ) (h : taking P s units ≡ done t left) where
     abbrev later : Unit {0} → Paying State
     later _ = if same (t .pair .sides .left) (t .pair .sides .right) then return (settled s t) else make-rule P s t
 
     rest : turn P s (suc units) ≡ and-then (end-if (leb 512 (length (s .log))) log-full left) later
-    unfolding turn _>>=_ and-then pay
-    rest = ap (λ p. and-then p behind-take) h
+    unfolding _>>=_ and-then
+    rest = turn-takes P s units ∙ ap (λ p. and-then p (behind-taking P s)) h
 
     past-log : length (s .log) < 512 →
         turn P s (suc units) ≡ (if same (t .pair .sides .left) (t .pair .sides .right) then return (settled s t) else make-rule P s t) left
@@ -52,63 +49,33 @@ module _ (P : Problem) (s : State) (units : ℕ) where
     unfolding if_then_else_
     turn-makes few e = past-log few ∙ ap (λ b. (if b then return (settled s t) else make-rule P s t) left) e
 
--- Steps 4 to 7. The first lines of `make-rule`: the variables are counted, and the pair is oriented
-abbrev pub oriented : Problem → Pair → Paying Pair
-oriented P e = end-if (ltb 16 (length (pair-variables e))) too-large >>= λ _. orient P e
+-- Steps 5 to 7, of a pair that was oriented
+module _ (P : Problem) (s : State) (t : Taken) (units : ℕ) (few : length (pair-variables (t .pair .sides)) ≤ 16) (sides : Pair)
+    (h : orient P (t .pair .sides) ≡ some sides) where
+  abbrev older : List Rule
+  older = kept (new-rule s sides) (s .rules)
 
--- the pair was oriented, so it had no more than 16 variables
-oriented-done : (P : Problem) (e sides : Pair) (units left : ℕ) → oriented P e units ≡ done sides left →
-    (length (pair-variables e) ≤ 16) × (orient P e units ≡ done sides left)
-unfolding _>>=_ and-then end-if end-with return
-oriented-done P e sides units left h = go (ltb 16 (length (pair-variables e))) refl h
-  where
-    go : (b : Bool) → ltb 16 (length (pair-variables e)) ≡ b → and-then (end-if b too-large units) (λ _. orient P e) ≡ done sides left →
-        (length (pair-variables e) ≤ 16) × (orient P e units ≡ done sides left)
-    go true q k = absurd (stop≢done k)
-    go false q k = (ltb-false 16 (length (pair-variables e)) q, k)
+  -- step 7
+  abbrev composed : Unit {0} → Paying State
+  composed _ = normalise-rights [] older (new-rule s sides) >>= λ rules. return (next-state s t sides rules)
 
-module _ (P : Problem) (s : State) (t : Taken) (units : ℕ) where
-  -- step 7, and step 6's count before it, for a new rule with these sides
-  abbrev composed : Pair → Unit {0} → Paying State
-  composed sides _ = normalise-rights [] (kept (new-rule s sides) (s .rules)) (new-rule s sides) >>= λ rules. return (next-state s t sides rules)
+  past-rules : suc (length older) ≤ 32 →
+      make-rule P s t units ≡ and-then (normalise-rights [] older (new-rule s sides) units) (λ rules. return (next-state s t sides rules))
+  past-rules live = make-oriented P s t units few ∙ ap (λ o. if-oriented s t o units) h ∙ within
+    where
+      within : if-oriented s t (some sides) units
+          ≡ and-then (normalise-rights [] older (new-rule s sides) units) (λ rules. return (next-state s t sides rules))
+      within = unfold if-oriented _>>=_ and-then end-if return in ap (λ b. and-then (end-if b rules-full units) composed) (le-ltb 32 (suc (length older)) live)
 
-  abbrev behind : Pair → Paying State
-  behind sides = end-if (ltb 32 (suc (length (kept (new-rule s sides) (s .rules))))) rules-full >>= composed sides
-
-  make-from : make-rule P s t units ≡ and-then (oriented P (t .pair .sides) units) behind
-  unfolding make-rule _>>=_
-  make-from = sym (and-then-assoc (end-if (ltb 16 (length (pair-variables (t .pair .sides)))) too-large units) (λ _. orient P (t .pair .sides)) behind)
-
-  pub make-stops : (e : End) (left : ℕ) → oriented P (t .pair .sides) units ≡ stop e left → make-rule P s t units ≡ stop e left
+  pub make-rights-stop : suc (length older) ≤ 32 → (e : End) (now : ℕ) → normalise-rights [] older (new-rule s sides) units ≡ stop e now →
+      make-rule P s t units ≡ stop e now
   unfolding and-then
-  make-stops e left h = make-from ∙ ap (λ p. and-then p behind) h
+  make-rights-stop live e now r = past-rules live ∙ ap (λ p. and-then p (λ rules. return (next-state s t sides rules))) r
 
-  module _ (sides : Pair) (left : ℕ) (h : oriented P (t .pair .sides) units ≡ done sides left) where
-    from : make-rule P s t units ≡ behind sides left
-    unfolding and-then
-    from = make-from ∙ ap (λ p. and-then p behind) h
-
-    pub make-rules-full : 32 < suc (length (kept (new-rule s sides) (s .rules))) → make-rule P s t units ≡ stop rules-full left
-    make-rules-full full =
-        let k = oriented-done P (t .pair .sides) sides units left h in
-        make-many-rules P s t units (k .0) sides left (k .1) full
-
-    past-rules : suc (length (kept (new-rule s sides) (s .rules))) ≤ 32 →
-        make-rule P s t units
-        ≡ and-then (normalise-rights [] (kept (new-rule s sides) (s .rules)) (new-rule s sides) left) (λ rules. return (next-state s t sides rules))
-    unfolding _>>=_ and-then end-if return
-    past-rules few = from ∙ ap (λ b. and-then (end-if b rules-full left) (composed sides)) (le-ltb 32 (suc (length (kept (new-rule s sides) (s .rules)))) few)
-
-    pub make-rights-stop : suc (length (kept (new-rule s sides) (s .rules))) ≤ 32 → (e : End) (now : ℕ) →
-        normalise-rights [] (kept (new-rule s sides) (s .rules)) (new-rule s sides) left ≡ stop e now → make-rule P s t units ≡ stop e now
-    unfolding and-then
-    make-rights-stop few e now r = past-rules few ∙ ap (λ p. and-then p (λ rules. return (next-state s t sides rules))) r
-
-    pub make-done : suc (length (kept (new-rule s sides) (s .rules))) ≤ 32 → (rules : List Rule) (now : ℕ) →
-        normalise-rights [] (kept (new-rule s sides) (s .rules)) (new-rule s sides) left ≡ done rules now → make-rule P s t units ≡ done
-        (next-state s t sides rules) now
-    unfolding and-then return
-    make-done few rules now r = past-rules few ∙ ap (λ p. and-then p (λ rules. return (next-state s t sides rules))) r
+  pub make-done : suc (length older) ≤ 32 → (rules : List Rule) (now : ℕ) → normalise-rights [] older (new-rule s sides) units ≡ done rules now →
+      make-rule P s t units ≡ done (next-state s t sides rules) now
+  unfolding and-then return
+  make-done live rules now r = past-rules live ∙ ap (λ p. and-then p (λ rules. return (next-state s t sides rules))) r
 
 -- Step 1: the scan, or the oldest waiting equation.
 module _ (P : Problem) (rules : List Rule) (units : ℕ) where

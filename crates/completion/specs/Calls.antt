@@ -15,7 +15,7 @@ use Rattle.order.specs.Order.{comparison}
 use Rattle.unify.specs.Unify.{Binding, mgu, under}
 use Rattle.rewriting.specs.Overlap.{Rule}
 use Rattle.rewriting.specs.Rewrite.{End, complete, neither-above, spent, too-large, rules-full, log-full, end-number}
-use Rattle.completion.specs.Turn.{Origin, waiting-input, removed-rule, scanned-input, overlapping, Entry, Finished, run}
+use Rattle.completion.specs.Turn.{Origin, waiting-input, removed-rule, scanned-input, overlapping, Candidate, Entry, Finished, run}
 
 unfoldable pub pair-bytes : Pair → List ℕ
 pair-bytes e = term-bytes (e .left) ++ term-bytes (e .right)
@@ -32,18 +32,22 @@ origin-bytes (removed-rule n) = 2 ∷ (number-bytes 2 n ++ number-bytes 2 0 ++ n
 origin-bytes (scanned-input n) = 3 ∷ (number-bytes 2 n ++ number-bytes 2 0 ++ number-bytes 1 0)
 origin-bytes (overlapping inner outer p) = 4 ∷ (number-bytes 2 inner ++ number-bytes 2 outer ++ number-bytes 1 p)
 
--- "13, once a log entry": where its pair came from, then "rule made in two (0 if settled)" [11.5]
+-- "13, once a log entry": where its pair came from, then "rule made in two (0 if settled)", ffff if put back [11.5]
 unfoldable pub entry-field : Entry → Field
 entry-field e = record { tag = 0x13; contents = origin-bytes (e .origin) ++ number-bytes 2 (e .made) }
 
--- "14, only with end 20: the two normal forms, renamed as a pair" [11.7]
-unfoldable pub forms-field : End → List Field
-forms-field complete = []
-forms-field (neither-above e) = record { tag = 0x14; contents = pair-bytes (renamed e) } ∷ []
-forms-field spent = []
-forms-field too-large = []
-forms-field rules-full = []
-forms-field log-full = []
+-- "14, only with end 20: the two normal forms, renamed as a pair": "Field 14 shows the oldest one waiting", as it is held [11.7]
+unfoldable pub oldest-field : List Candidate → List Field
+oldest-field [] = []
+oldest-field (oldest ∷ waiting) = record { tag = 0x14; contents = pair-bytes (oldest .sides) } ∷ []
+
+unfoldable pub forms-field : End → List Candidate → List Field
+forms-field complete waiting = []
+forms-field neither-above waiting = oldest-field waiting
+forms-field spent waiting = []
+forms-field too-large waiting = []
+forms-field rules-full waiting = []
+forms-field log-full waiting = []
 
 -- "tag 10, the end, one byte; 11, units, four bytes; 12, once a rule .. ascending; 13, once a log entry, oldest first; 14 .."
 -- [11.2 to 11.5, 11.7]
@@ -51,7 +55,7 @@ unfoldable pub result-fields : Finished → List Field
 result-fields f =
     record { tag = 0x10; contents = number-bytes 1 (end-number (f .end)) }
     ∷ record { tag = 0x11; contents = number-bytes 4 (f .units) }
-    ∷ (map rule-field (f .state .rules) ++ map entry-field (f .state .log) ++ forms-field (f .end))
+    ∷ (map rule-field (f .state .rules) ++ map entry-field (f .state .log) ++ forms-field (f .end) (f .state .waiting))
 
 unfoldable pub result-bytes : Finished → List ℕ
 result-bytes f = flatMap field-bytes (result-fields f)

@@ -14,7 +14,7 @@ use Rattle.problem.specs.Problem.{Symbol, rank-of}
 use Rattle.problem.specs.Over.{Over}
 use Rattle.rewriting.specs.Overlap.{Rule}
 use Rattle.rewriting.specs.Rewrite.{neither-above}
-use Rattle.completion.specs.Turn.{Finished}
+use Rattle.completion.specs.Turn.{Candidate, Finished}
 use Rattle.completion.specs.Calls.{result-bytes}
 
 -- "each at most 120 nodes"; "Variable n (0 to 15)"; "Every equation and rule held is so renamed." [2.4, 2.11, 16.3]
@@ -37,10 +37,15 @@ unfoldable pub RulesKeep : List Symbol → ℕ → List Rule → Type 0
 RulesKeep Σ before [] = Unit {0}
 RulesKeep Σ before (r ∷ rules) = RuleKeeps Σ before r × RulesKeep Σ (r .number) rules
 
+-- with end 20 some equation waits [9.19, 11.7]
+unfoldable pub OldestKeeps : List Symbol → List Candidate → Type 0
+OldestKeeps Σ [] = ⊥
+OldestKeeps Σ (oldest ∷ waiting) = PairKeeps Σ (oldest .sides)
+
 pub record Keeps (Σ : List Symbol) (f : Finished) : Type 0 where
   pub units-few : f .units ≤ most-budget
   pub rules-few : length (f .state .rules) ≤ most-rules
   pub rules-keep : RulesKeep Σ 0 (f .state .rules)
   pub log-few : length (f .state .log) ≤ most-entries
-  pub forms-keep : (e : Pair) → f .end ≡ neither-above e → PairKeeps Σ (renamed e)
+  pub forms-keep : f .end ≡ neither-above → OldestKeeps Σ (f .state .waiting)
   pub short : length (result-bytes f) ≤ most-result

@@ -80,7 +80,8 @@ pub record Promise (P : Problem) (result : List ℕ) : Type 0 where
   pub decide : end-in fields ≡ some 0 → Decides (P .symbols) (P .equations) rules
   -- Demand 2: by the six transitions the problem's equations lead to the rules of the fields 12, with what the turns left waiting; with end 0 to these
   -- rules alone, and no equation.
-  pub derived : Derivation (rank-of (P .symbols)) Properly (given P) (together rules (run P .state .waiting))
+  pub derived : Derivation (rank-of (P .symbols)) Properly (given P)
+      (together (rank-of (P .symbols)) rules (run P .state .waiting))
   pub derived-alone : end-in fields ≡ some 0 → Derivation (rank-of (P .symbols)) Properly (given P) ([] ⨾ sides-of rules)
 
 -- "Demand 3, the delivery theorem, is a promise of complete about the bytes it takes and leaves." [14.11]

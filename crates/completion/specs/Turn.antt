@@ -1,4 +1,5 @@
--- Document 01, "A turn": the run's state, the turn in its seven steps, and the run; sections 8 and 9 of docs/DEFINITION.md. Assumes nothing.
+-- Document 01, "A turn": the run's state, the turn in its seven steps, and the run; sections 8 and 9 of docs/DEFINITION.md. Document 02, Six: an
+-- equation with neither side above waits again. Assumes nothing.
 use mathlib.Core.Bool.{Bool}
 use mathlib.Core.List.{List, [], _∷_, _++_}
 use mathlib.Core.Option.{Option, none, some}
@@ -27,7 +28,10 @@ pub record Candidate : Type 0 where
   pub origin : Origin
   pub sides : Pair
 
--- a log entry; `made` is the "rule made .. (0 if settled)" [11.5]
+-- a log entry; `made` is the "rule made .. (0 if settled)"; of an equation that was put back "its entry has ffff (hexadecimal) as the rule made" [11.5]
+abbrev pub made-put-back : ℕ
+made-put-back = 0xffff
+
 pub record Entry : Type 0 where
   pub origin : Origin
   pub made : ℕ
@@ -35,12 +39,14 @@ pub record Entry : Type 0 where
 -- "The state is the live rules (numbered 1, 2, .. as made, numbers never reused, places reused), the waiting list (at first the equations in order),
 -- the log and the units." Places are the representation's.
 -- The rules stand ascending and the waiting list oldest first. The units that are left go beside the state, as `Paying` hands them on.
--- [8.1, 8.2]
+-- `put-back` counts the equations put back "since a rule was last made or an equation settled"; proofs/PutBack says which of the waiting list they are.
+-- [8.1, 8.2, 8.9]
 pub record State : Type 0 where
   pub rules : List Rule
   pub made : ℕ
   pub waiting : List Candidate
   pub log : List Entry
+  pub put-back : ℕ
 
 -- "Equations are numbered from 1." "Every equation and rule held is so renamed." [2.11, 3.8]
 unfoldable pub candidates : (ℕ → Origin) → ℕ → List Equation → List Candidate
@@ -49,7 +55,7 @@ candidates origin n (e ∷ es) = record { origin = origin n; sides = renamed (e 
 
 -- "the waiting list (at first the equations in order)" [8.3, 8.4]
 unfoldable pub initial : Problem → State
-initial P = record { rules = []; made = 0; waiting = candidates waiting-input 1 (P .equations); log = [] }
+initial P = record { rules = []; made = 0; waiting = candidates waiting-input 1 (P .equations); log = []; put-back = 0 }
 
 -- Step 1, the scan. "Test the size of the peak, of the left, of the right, then normalise left, then right."
 -- "Every equation and rule held is so renamed": the pair is renamed first, so no answer depends on which most general unifier was found.
@@ -101,12 +107,12 @@ take-pair P rules (c ∷ waiting) = do
   forms ← normalise-pair rules (c .sides)
   return (record { pair = record { origin = c .origin; sides = forms }; waiting = waiting })
 
--- Steps 4 and 5. "Neither side above: end 20." "The upper side becomes a new rule's left side." [9.11, 9.12]
-unfoldable pub orient : Problem → Pair → Paying Pair
+-- Step 5. "The upper side becomes a new rule's left side." None: neither side is above. [9.12]
+unfoldable pub orient : Problem → Pair → Option Pair
 orient P e =
-    if above (rank-of (P .symbols)) (e .left) (e .right) then return (renamed e)
-    else if above (rank-of (P .symbols)) (e .right) (e .left) then return (renamed (record { left = e .right; right = e .left }))
-    else end-with (neither-above e)
+    if above (rank-of (P .symbols)) (e .left) (e .right) then some (renamed e)
+    else if above (rank-of (P .symbols)) (e .right) (e .left) then some (renamed (record { left = e .right; right = e .left }))
+    else none
 
 -- Step 6. "whose left side the new rule rewrites" [9.13]
 unfoldable pub rewrites : Rule → Rule → Bool
@@ -133,12 +139,22 @@ normalise-rights before (old ∷ rules) new = do
   let old′ : Rule = record { number = old .number; sides = record { left = old .sides .left; right = r } }
   normalise-rights (before ++ (old′ ∷ [])) rules new
 
--- Steps 4 to 7. "The taken pair has at most 16 different variables, else 22." "The upper side becomes a new rule's left side." "Each older rule,
--- ascending, whose left side the new rule rewrites is removed .. Over 32 live: 23." [9.10 to 9.16]
-unfoldable pub make-rule : Problem → State → Taken → Paying State
-make-rule P s t = do
-  _ ← end-if (ltb most-variables (length (pair-variables (t .pair .sides)))) too-large
-  sides ← orient P (t .pair .sides)
+-- Step 4. "An equation with neither side above now goes to the end of the waiting list as its two normal forms, and its entry has ffff (hexadecimal)
+-- as the rule made." "An equation taken again is logged with its first kind, numbers and position": it keeps its origin. [9.11, 9.20]
+unfoldable pub waits-again : State → Taken → State
+waits-again s t = record {
+  rules = s .rules;
+  made = s .made;
+  waiting = t .waiting ++ (record { origin = t .pair .origin; sides = renamed (t .pair .sides) } ∷ []);
+  log = s .log ++ (record { origin = t .pair .origin; made = made-put-back } ∷ []);
+  put-back = suc (s .put-back);
+}
+
+-- Steps 5 to 7, of the new rule's sides if one side is above. "Each older rule, ascending, whose left side the new rule rewrites is removed .. Over 32
+-- live: 23." [9.13 to 9.16]
+unfoldable pub if-oriented : State → Taken → Option Pair → Paying State
+if-oriented s t none = return (waits-again s t)
+if-oriented s t (some sides) = do
   let new : Rule = record { number = suc (s .made); sides = sides }
   let older = kept new (s .rules)
   _ ← end-if (ltb most-rules (suc (length older))) rules-full
@@ -148,7 +164,14 @@ make-rule P s t = do
     made = new .number;
     waiting = t .waiting ++ removed new (s .rules);
     log = s .log ++ (record { origin = t .pair .origin; made = new .number } ∷ []);
+    put-back = 0;
   })
+
+-- Steps 4 to 7. "The taken pair has at most 16 different variables, else 22." [9.10]
+unfoldable pub make-rule : Problem → State → Taken → Paying State
+make-rule P s t = do
+  _ ← end-if (ltb most-variables (length (pair-variables (t .pair .sides)))) too-large
+  if-oriented s t (orient P (t .pair .sides))
 
 -- Step 3. "Equal forms: entry, settled." [9.9]
 unfoldable pub settled : State → Taken → State
@@ -157,13 +180,22 @@ settled s t = record {
   made = s .made;
   waiting = t .waiting;
   log = s .log ++ (record { origin = t .pair .origin; made = 0 } ∷ []);
+  put-back = 0;
 }
 
+-- "End 20 is given exactly when some equation waits and every one waiting has been put back since a rule was last made or an equation settled. This is
+-- tested at the start of the next turn, after its unit is paid." What is put back goes behind all others, so every one waiting has been put back when
+-- as many have been as wait; proofs/PutBack has the sentence itself. [9.19]
+unfoldable pub end-if-all-put-back : List Candidate → ℕ → Paying (Unit {0})
+end-if-all-put-back [] put-back = return tt
+end-if-all-put-back (c ∷ waiting) put-back = end-if (leb (suc (length waiting)) put-back) neither-above
+
 -- "A turn takes the run's state and hands back the next one." Step 1: "Pay a unit." Step 2: "24 when a 513th log entry is due".
--- [8.5, 9.1, 9.8]
+-- [8.5, 9.1, 9.8, 9.19]
 unfoldable pub turn : Problem → State → Paying State
 turn P s = do
   _ ← pay
+  _ ← end-if-all-put-back (s .waiting) (s .put-back)
   t ← take-pair P (s .rules) (s .waiting)
   _ ← end-if (leb most-entries (length (s .log))) log-full
   if same (t .pair .sides .left) (t .pair .sides .right) then return (settled s t) else make-rule P s t

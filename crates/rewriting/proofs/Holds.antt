@@ -156,7 +156,7 @@ module _ (E : End → ℕ → Type 0) (rules : List Rule) (out-of-units : E spen
 -- Normalising ends with spent or too large and with no other end.
 abbrev pub NormalEnd : End → Type 0
 NormalEnd complete = ⊥
-NormalEnd (neither-above e) = ⊥
+NormalEnd neither-above = ⊥
 NormalEnd spent = Unit {0}
 NormalEnd too-large = Unit {0}
 NormalEnd rules-full = ⊥
@@ -173,7 +173,7 @@ stop≢done q = zero≢one (cc)
 pub number-of-ending : (e : End) → number-of (ending e) ≡ end-number e
 unfolding number-of ending end-number
 number-of-ending complete = refl
-number-of-ending (neither-above q) = refl
+number-of-ending neither-above = refl
 number-of-ending spent = refl
 number-of-ending too-large = refl
 number-of-ending rules-full = refl

@@ -4,10 +4,10 @@ use Rattle.rewriting.specs.Rewrite.{End, complete, neither-above, spent,
 use Rattle.rewriting.specs.declared.End.{End as Ending}
 use Rattle.rewriting.specs.declared.End.the-variants.{Complete, NeitherAbove, Spent, TooLarge, RulesFull, LogFull}
 
--- the end of the code that an end of the definition is; the two forms of `neither-above` go beside it
+-- the end of the code that an end of the definition is
 unfoldable pub ending : End → Ending
 ending complete = Complete
-ending (neither-above e) = NeitherAbove
+ending neither-above = NeitherAbove
 ending spent = Spent
 ending too-large = TooLarge
 ending rules-full = RulesFull
