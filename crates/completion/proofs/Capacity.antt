@@ -8,6 +8,7 @@ use native.Mathlib.Omega.{arith}
 use lib.Dec.{ltb}
 use lib.ListN.{length, length-append}
 use borrow.Author.Tests.{ltb-false}
+use Rattle.limits.specs.Limits.{most-result}
 use Rattle.terms.specs.Base.{number-bytes, number-from}
 use Rattle.terms.specs.Term.{pair-variables}
 use Rattle.terms.proofs.Limits.{made-vars, variables-few, Bytes}
@@ -103,8 +104,8 @@ module _ (bytes : List ℕ) (P : Problem) (read : parse bytes ≡ ok P) where
       number-from 0 (number-bytes 2 (r .number)) ≡ r .number
   number-fits-two r rule i = number-back 2 (rule .number) (let a : rule .number ≤ _ = rule-fits r rule i .last in let b = made-few r in omega arith)
 
-  -- 4. The result.
-  pub result-few : length (result-bytes (run P)) ≤ 13_715
+  -- 4. The result: at most 13,726 bytes.
+  pub result-few : length (result-bytes (run P)) ≤ most-result
   result-few = result-length P (accepts bytes P read)
 
   pub result-bytes-fit : Bytes (result-bytes (run P))
@@ -113,7 +114,7 @@ module _ (bytes : List ℕ) (P : Problem) (read : parse bytes ≡ ok P) where
 -- What complete writes, if it does not refuse: bytes, and fewer than its buffer holds.
 pub record WritesWithin (buffer : ℕ) (r : List ℕ) : Type 0 where
   pub are-bytes : Bytes r
-  pub few : length r ≤ 13_715
+  pub few : length r ≤ most-result
   pub room : length r ≤ buffer
 
 pub buffer-enough : (buffer : ℕ) (u : Unit {0}) → enough buffer ≡ ok u → 16_384 ≤ buffer
@@ -126,7 +127,7 @@ complete-writes bytes buffer r e =
     from-bind _ _ r e λ u a e.
     from-bind _ _ r e λ P b e.
     let q : result-bytes (run P) ≡ r = cc in
-    let l : length (result-bytes (run P)) ≤ 13_715 = result-few bytes P b in
+    let l : length (result-bytes (run P)) ≤ most-result = result-few bytes P b in
     let k = buffer-enough buffer u a in
     rw (← q) (record { are-bytes = result-bytes-fit bytes P b; few = l; room = omega arith })
 

@@ -18,9 +18,9 @@ use Rattle.rewriting.proofs.Covers.{BothHold, all-places-hold}
 use Rattle.rewriting.proofs.Holds.{Reached}
 use Rattle.problem.specs.Problem.{rank-of, Equation, Problem}
 use Rattle.completion.specs.Turn.{Origin, removed-rule, Candidate, scanned-input, waiting-input, State, Taken, candidates, initial, rewrites}
-use Rattle.completion.specs.Turn.{kept, removed, settled}
+use Rattle.completion.specs.Turn.{kept, removed, waits-again, settled}
 use Rattle.completion.proofs.Ends.{Small, Source, of-waiting, of-overlap, of-input, Takes, Oriented, as-taken, other-way, Rights, none-yet}
-use Rattle.completion.proofs.Ends.{one-more, Next, settles, makes}
+use Rattle.completion.proofs.Ends.{one-more, Next, settles, makes, puts-back}
 use Rattle.completion.proofs.Reachable.{Reachable, from-start, by-turn, turn-next}
 
 -- Every rule is kept or joins the waiting list.
@@ -58,6 +58,7 @@ pub record Closed (P : Problem) (R W T : Pair → Type 0) : Type 0 where
   pub composed : (rules : List Rule) → Every (λ (r : Rule). R (r .sides)) rules → (e : Pair) (r : Term) → Reached rules (e .right) r → R e →
       R (record { left = e .left; right = r })
   pub put-off : (e : Pair) → R e → W e
+  pub put-again : (e : Pair) → T e → length (pair-variables e) ≤ 16 → W (renamed e)
 
 module _ (P : Problem) (R W T : Pair → Type 0) (k : Closed P R W T) where
   abbrev pub RuleHas : Rule → Type 0
@@ -106,8 +107,11 @@ module _ (P : Problem) (R W T : Pair → Type 0) (k : Closed P R W T) where
       )
 
   pub next-has : (s s′ : State) → Has s → Next P s s′ → Has s′
-  unfolding settled
+  unfolding settled waits-again
   next-has s s′ h (settles t g room q e) = rw e (record { rules = h .rules; waiting = taken-has s h t g .1 })
+  next-has s s′ h (puts-back t g room d few n may e) =
+      let a = taken-has s h t g in
+      rw e (record { rules = h .rules; waiting = every-append (a .1) (every-one (k .put-again (t .pair .sides) (a .0) few)) })
   next-has s s′ h (makes t g room d few sides o live done r e) =
       let a = taken-has s h t g in
       let n : R sides = oriented-has (t .pair .sides) sides (a .0) few o in

@@ -18,14 +18,15 @@ use Rattle.rewriting.specs.Rewrite.{step}
 use Rattle.rewriting.proofs.Relations.{Of, Normal}
 use Rattle.rewriting.proofs.Steps.{step-subst, step-plug}
 use Rattle.rewriting.proofs.Stepping.{StepBy, step-none}
-use Rattle.problem.specs.Problem.{Problem}
+use Rattle.problem.specs.Problem.{rank-of, Problem}
 use Rattle.completion.specs.Transitions.{Encompasses}
-use Rattle.completion.specs.Turn.{removed-rule, Candidate, State, initial, rewrites, kept, removed, settled}
+use Rattle.completion.specs.Turn.{removed-rule, Candidate, State, initial, rewrites, kept, removed, waits-again, settled}
 use Rattle.completion.proofs.Words.{ItemOf, item-of, rule-sides}
 use Rattle.completion.proofs.Sentences.{new-rule}
-use Rattle.completion.proofs.Ends.{Oriented, as-taken, other-way, Rights, none-yet, one-more, with-right, Next, settles, makes}
+use Rattle.completion.proofs.Ends.{Oriented, as-taken, other-way, Rights, none-yet, one-more, with-right, Next, settles, makes, puts-back}
 use Rattle.completion.proofs.Reachable.{Reachable, from-start, by-turn, turn-next}
-use Rattle.completion.proofs.Postponed.{Reduces, ReducesRemoved, Postponed, reachable-postponed, own-left, source-rest, inputs-not-removed}
+use Rattle.completion.proofs.Postponed.{Reduces, ReducesRemoved, Postponed, reachable-postponed, own-left, source-rest}
+use Rattle.completion.proofs.Postponed.{IsRule, equations-have, inputs-equations, put-back-equation}
 
 -- Free s l: no subterm of l is an instance of s.
 abbrev pub Free : Term → Term → Type 0
@@ -130,12 +131,12 @@ rights-lefts (one-more {before} {done} {later} {old} {r} g f e) =
     ∙ rights-lefts g
 
 -- The left sides of live rules are apart, and those of removed rules that wait are apart from them.
-abbrev FreeWaiting : List Term → Candidate → Type 0
-FreeWaiting ls c = (n : ℕ) → c .origin ≡ removed-rule n → Every (Free (c .sides .left)) ls
+abbrev FreeWaiting : (ℕ → ℕ) → List Term → Candidate → Type 0
+FreeWaiting rank ls c = IsRule rank c → Every (Free (c .sides .left)) ls
 
-record Spread (s : State) : Type 0 where
+record Spread (P : Problem) (s : State) : Type 0 where
   apart : Apart (lefts (s .rules))
-  waiting : Every (FreeWaiting (lefts (s .rules))) (s .waiting)
+  waiting : Every (FreeWaiting (rank-of (P .symbols)) (lefts (s .rules))) (s .waiting)
 
 -- The rules of the next state.
 module _ (s : State) (new : Rule) (composed : List Rule) (r : Rights new (kept new (s .rules)) composed [])
@@ -159,19 +160,21 @@ module _ (s : State) (new : Rule) (composed : List Rule) (r : Rights new (kept n
   with-new : (l : Term) → Every (Free l) (lefts (kept new (s .rules))) → Free l (new .sides .left) → Every (Free l) (lefts (composed ++ (new ∷ [])))
   with-new l h p = subst (Every (Free l)) (sym next-lefts) (every-append h (every-one p))
 
-  still-free : (c : Candidate) → ReducesRemoved (s .rules) c × FreeWaiting (lefts (s .rules)) c → FreeWaiting (lefts (composed ++ (new ∷ []))) c
-  still-free c (h, q) n e =
-      with-new (c .sides .left) (kept-lefts new (s .rules) (q n e)) (normal-free (s .rules) (c .sides .left) (new .sides .left) (h n e) normal)
+  still-free : (rank : ℕ → ℕ) (c : Candidate) → ReducesRemoved rank (s .rules) c × FreeWaiting rank (lefts (s .rules)) c →
+      FreeWaiting rank (lefts (composed ++ (new ∷ []))) c
+  still-free rank c (h, q) e =
+      with-new (c .sides .left) (kept-lefts new (s .rules) (q e)) (normal-free (s .rules) (c .sides .left) (new .sides .left) (h e) normal)
 
-  removed-waiting : Apart (lefts (s .rules)) → Every (FreeWaiting (lefts (composed ++ (new ∷ [])))) (removed new (s .rules))
+  removed-waiting : (rank : ℕ → ℕ) → Apart (lefts (s .rules)) → Every (FreeWaiting rank (lefts (composed ++ (new ∷ [])))) (removed new (s .rules))
   unfolding FreeTo
-  removed-waiting h =
-      every-map (λ c q n e. with-new (c .sides .left) (q .0) (q .1)) (every-both (removed-free new (s .rules) h) (removed-lefts new (s .rules) to-new))
+  removed-waiting rank h =
+      every-map (λ c q e. with-new (c .sides .left) (q .0) (q .1)) (every-both (removed-free new (s .rules) h) (removed-lefts new (s .rules) to-new))
 
-next-spread : (P : Problem) (s s′ : State) → Next P s s′ → Postponed s → Spread s → Spread s′
-unfolding settled
+next-spread : (P : Problem) (s s′ : State) → Next P s s′ → Postponed P s → Spread P s → Spread P s′
+unfolding settled waits-again
 next-spread P s s′ (settles t g room q e) p h = rw e (record { apart = h .apart; waiting = source-rest P s (g .of) (t .waiting) (g .source) (h .waiting) })
 next-spread P s s′ (makes t g room d few sides o live composed r e) p h =
+    let rank : ℕ → ℕ = rank-of (P .symbols) in
     let new : Rule = new-rule s sides in
     let normal : Normal (StepBy (s .rules)) (sides .left) =
     new-normal P (s .rules) (t .pair .sides) sides (step-none (s .rules) _ (g .forms .left .normal)) (step-none (s .rules) _ (g .forms .right .normal)) o in
@@ -180,24 +183,33 @@ next-spread P s s′ (makes t g room d few sides o live composed r e) p h =
       apart = next-apart s new composed r normal (h .apart);
       waiting =
           every-append
-          (every-map (still-free s new composed r normal) (source-rest P s (g .of) (t .waiting) (g .source) (every-both p (h .waiting))))
-          (removed-waiting s new composed r normal (h .apart));
+          (every-map (still-free s new composed r normal rank) (source-rest P s (g .of) (t .waiting) (g .source) (every-both p (h .waiting))))
+          (removed-waiting s new composed r normal rank (h .apart));
+    })
+next-spread P s s′ (puts-back t g room d few n may e) p h =
+    rw e
+    (record {
+      apart = h .apart;
+      waiting =
+          every-append (source-rest P s (g .of) (t .waiting) (g .source) (h .waiting))
+          (equations-have (rank-of (P .symbols)) (put-back-equation P (t .pair .origin) (t .pair .sides) n));
     })
 
-reachable-spread : (P : Problem) {s : State} {left : ℕ} → Reachable P s left → Spread s
+reachable-spread : (P : Problem) {s : State} {left : ℕ} → Reachable P s left → Spread P s
 unfolding initial
 reachable-spread P (from-start e b) =
-    rw e (record { apart = none-apart; waiting = inputs-not-removed (λ c. Every (Free (c .sides .left)) []) 1 (P .equations) })
+    let rank : ℕ → ℕ = rank-of (P .symbols) in
+    rw e (record { apart = none-apart; waiting = equations-have rank (inputs-equations rank 1 (P .equations)) })
 reachable-spread P (by-turn {s} {s′} {left} {left′} r e) = next-spread P s s′ (turn-next P s s′ left left′ e) (reachable-postponed P r) (reachable-spread P r)
 
 -- So in every state the published condition of Collapse holds of a removed rule, whichever live rule rewrites it.
-abbrev pub FreeRemoved : List Rule → Candidate → Type 0
-FreeRemoved rules c = (n : ℕ) → c .origin ≡ removed-rule n → (l r : Term) → Of (sides-of rules) l r → Free (c .sides .left) l
+abbrev pub FreeRemoved : (ℕ → ℕ) → List Rule → Candidate → Type 0
+FreeRemoved rank rules c = IsRule rank c → (l r : Term) → Of (sides-of rules) l r → Free (c .sides .left) l
 
 of-lefts : (Q : Term → Type 0) (rules : List Rule) → Every Q (lefts rules) → (l r : Term) → Of (sides-of rules) l r → Q l
 of-lefts Q rules h l r i =
     let a : ItemOf rule-sides rules l r = item-of rule-sides rules l r i in
     subst Q (a .is-left) (every-in (mapped-every left-of rules h) (a .is-item))
 
-pub reachable-free : (P : Problem) {s : State} {left : ℕ} → Reachable P s left → Every (FreeRemoved (s .rules)) (s .waiting)
-reachable-free P {s} r = every-map (λ c q n e l m i. of-lefts (Free (c .sides .left)) (s .rules) (q n e) l m i) (reachable-spread P r .waiting)
+pub reachable-free : (P : Problem) {s : State} {left : ℕ} → Reachable P s left → Every (FreeRemoved (rank-of (P .symbols)) (s .rules)) (s .waiting)
+reachable-free P {s} r = every-map (λ c q e l m i. of-lefts (Free (c .sides .left)) (s .rules) (q e) l m i) (reachable-spread P r .waiting)

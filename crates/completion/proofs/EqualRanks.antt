@@ -93,7 +93,8 @@ difference rank = problem (1 ∷ 0 ∷ 2 ∷ 1 ∷ 2 ∷ rank ∷ []) 9 (
     (node 2 (cons x (cons y nil)) ≈ node 1 (cons x (cons (node 0 (cons y nil)) nil))) ∷ [])
 
 pub differences :
-    (complete-call (difference 1) 16_384 ≡ ok (number-bytes 21 0x10_0001_14_11_0004_00000001_14_0007_02808101800081))
+    (complete-call (difference 1) 16_384
+    ≡ ok (number-bytes 32 0x10_0001_14_11_0004_00000002_13_0008_010001000000ffff_14_0007_02808101800081))
     × (complete-call (difference 2) 16_384
     ≡ ok (number-bytes 34 0x10_0001_00_11_0004_00000003_12_0009_0001_02808101800081_13_0008_0100010000000001))
 unfolding computes

@@ -83,8 +83,9 @@ pub instances :
     ≡ ok (number-bytes 31 0x10_0001_15_11_0004_00000002_12_0006_000101018080_13_0008_0100010000000001))
     -- 11. No equation, budget 9: end 0, units 1.
     × (complete-call (problem group 9 []) 16_384 ≡ ok (number-bytes 11 0x10_0001_00_11_0004_00000001))
-    -- 12. x*y = y*x, budget 9: end 20, units 1, field 14 holds 02 80 81 02 81 80.
-    × (complete-call (problem group 9 ((x * y ≈ y * x) ∷ [])) 16_384 ≡ ok (number-bytes 20 0x10_0001_14_11_0004_00000001_14_0006_028081028180))
+    -- 12. x*y = y*x, budget 9: end 20, field 14 holds 02 80 81 02 81 80; document 02, Six: "two turns and two units", one entry with ffff.
+    × (complete-call (problem group 9 ((x * y ≈ y * x) ∷ [])) 16_384
+    ≡ ok (number-bytes 31 0x10_0001_14_11_0004_00000002_13_0008_010001000000ffff_14_0006_028081028180))
     -- 13. x = x, budget 9: end 0, units 2, one settled entry.
     × (complete-call (problem group 9 ((x ≈ x) ∷ [])) 16_384 ≡ ok (number-bytes 22 0x10_0001_00_11_0004_00000002_13_0008_0100010000000000))
 unfolding computes

@@ -88,6 +88,7 @@ module _ (P : Problem) where
         oriented = renamed-good;
         composed = composed-good;
         put-off = λ e q. q .equal;
+        put-again = λ e q few. renamed-equal e q;
       }
 
   pub reachable-good : {s : State} {left : ℕ} → Reachable P s left → GoodRules (s .rules)

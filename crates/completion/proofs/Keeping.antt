@@ -5,22 +5,19 @@ use Prim.Native.Nat.{ℕ, _<_, _≤_}
 use native.Mathlib.Omega.{arith}
 use lib.ListN.{length}
 use Rattle.terms.specs.Base.{Every, of-cons}
-use Rattle.terms.specs.Term.{Pair, renamed}
-use Rattle.terms.proofs.Rename.{renamed-again}
 use Rattle.problem.specs.Problem.{Symbol, Problem}
 use Rattle.rewriting.specs.Overlap.{Rule}
-use Rattle.completion.specs.Turn.{State, run}
-use Rattle.completion.specs.Keeps.{PairKeeps, RulesKeep, Keeps}
-use Rattle.completion.proofs.Limits.{RuleFits, Ascending, numbers, Limits, Accepted, renamed-held, pair-keeps}
-use Rattle.completion.proofs.Ends.{Neither}
+use Rattle.completion.specs.Turn.{Candidate, State, run}
+use Rattle.completion.specs.Keeps.{RulesKeep, OldestKeeps, Keeps}
+use Rattle.completion.proofs.Limits.{CandidateFits, RuleFits, Ascending, numbers, Limits, Accepted, pair-keeps}
 use Rattle.completion.proofs.Stopped.{run-stops, run-units, run-neither}
-use Rattle.completion.proofs.Closed.{Closed, Has, reachable-has, taken-has}
+use Rattle.completion.proofs.Closed.{Closed, Has, reachable-has}
 use Rattle.completion.proofs.Invariant.{GoodRules, reachable-good}
-use Rattle.completion.proofs.Over.{OverPair, over-renamed}
+use Rattle.completion.proofs.Over.{OverPair}
 use Rattle.completion.proofs.OverRules.{OverRule, OverRules}
 use Rattle.completion.proofs.OverRun.{over-closed}
 use Rattle.completion.proofs.Renamed.{Renamed, run-renamed}
-use Rattle.completion.proofs.Kept.{run-limits, neither-fits}
+use Rattle.completion.proofs.Kept.{run-limits}
 use Rattle.completion.proofs.Result.{result-length}
 
 module _ (P : Problem) (a : Accepted P) where
@@ -50,12 +47,12 @@ module _ (P : Problem) (a : Accepted P) where
   has-over : Has P (OverRule Σ) (OverPair Σ) (OverPair Σ) over left
   has-over = reachable-has P (OverRule Σ) (OverPair Σ) (OverPair Σ) over (run-stops P .reachable)
 
-  neither-over : (e : Pair) → Neither P left e → OverPair Σ e
-  neither-over e h = rw (h .is-taken) (taken-has P (OverRule Σ) (OverPair Σ) (OverPair Σ) over left has-over (h .taken) (h .takes) .0)
-
-  neither-keeps : (e : Pair) → Neither P left e → PairKeeps Σ (renamed e)
-  neither-keeps e h =
-      pair-keeps Σ (renamed e) (renamed-held (length Σ) 32 16 e (h .few) (neither-fits P a e h)) (over-renamed Σ e (neither-over e h)) (renamed-again e)
+  -- something waits at end 20
+  oldest-keeps : (waiting : List Candidate) → 0 < length waiting → Every (CandidateFits (length Σ) 16 (left .made)) waiting →
+      Every (λ (c : Candidate). OverPair Σ (c .sides)) waiting → Every (λ (c : Candidate). Renamed (c .sides)) waiting → OldestKeeps Σ waiting
+  unfolding OldestKeeps
+  oldest-keeps [] l h o n = absurd (omega arith)
+  oldest-keeps (c ∷ waiting) l (of-cons h hs) (of-cons o os) (of-cons n ns) = pair-keeps Σ (c .sides) (h .fits) o n
 
   pub run-keeps : Keeps Σ (run P)
   run-keeps =
@@ -65,6 +62,6 @@ module _ (P : Problem) (a : Accepted P) where
         rules-keep = rules-keep 0 (left .rules) (limits .ascending) (limits .rules-fit) (has-over .rules) (run-renamed P .rules)
             (reachable-good P (run-stops P .reachable));
         log-few = limits .log-few;
-        forms-keep = λ e q. neither-keeps e (run-neither P e q);
-        short = omega (arith, result-length P a);
+        forms-keep = λ q. oldest-keeps (left .waiting) (run-neither P q .some) (limits .waiting-fit) (has-over .waiting) (run-renamed P .waiting);
+        short = result-length P a;
       }

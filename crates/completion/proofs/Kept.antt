@@ -2,14 +2,15 @@
 -- Read first: proofs/Limits, proofs/Closed.
 use mathlib.Core.Path.{_≡_, refl, sym, ap, _∙_, subst}
 use mathlib.Core.Bool.{Bool, true, false}
+use mathlib.Core.Logic.{_⊎_, inl, inr, ⊎-elim}
 use mathlib.Core.List.{List, [], _∷_, _++_, append-assoc, append-nil, map-append}
 use mathlib.Core.Option.{some}
 use Prim.Native.Nat.{ℕ, suc, _+_, _≤_, _<_}
 use native.Mathlib.Omega.{arith}
 use lib.ListN.{length, length-append, length-map}
-use Rattle.completion.proofs.Sentences.{new-rule, next-state}
+use Rattle.completion.proofs.Sentences.{MayTake, new-rule, next-state}
 use Rattle.terms.specs.Base.{if_then_else_, Every, of-none, of-cons}
-use Rattle.terms.specs.Term.{Term, Pair, size, renamed}
+use Rattle.terms.specs.Term.{Term, Pair, size, pair-variables, renamed}
 use Rattle.terms.proofs.Every.{every-head, every-tail, every-one, every-in, every-append, every-map, every-both, every-mapped, mapped-every}
 use Rattle.rewriting.specs.Overlap.{Rule, Overlap, overlap, Place, all-places}
 use Rattle.rewriting.specs.Rewrite.{step}
@@ -17,12 +18,13 @@ use Rattle.rewriting.proofs.Limits.{step-made, MaybeOverlap, overlap-made}
 use Rattle.rewriting.proofs.Covers.{all-places-hold}
 use Rattle.rewriting.proofs.Holds.{Reached, reached-keeps}
 use Rattle.problem.specs.Problem.{Problem}
-use Rattle.completion.specs.Turn.{Origin, overlapping, scanned-input, Candidate, State, Taken, rewrites, kept, removed, settled, run}
+use Rattle.completion.specs.Turn.{Origin, overlapping, scanned-input, Candidate, made-put-back, State, Taken, rewrites, kept, removed}
+use Rattle.completion.specs.Turn.{waits-again, settled, run}
 use Rattle.completion.proofs.Limits.{HeldTo, HeldPair, OriginFits, CandidateFits, RuleFits, EntryFits, Ascending, numbers, Limits, Accepted}
 use Rattle.completion.proofs.Limits.{later-origin, later-candidate, later-entry, pair-wide, renamed-held, few-variables, candidates-fit}
 use Rattle.completion.proofs.Limits.{initial-limits}
 use Rattle.completion.proofs.Ends.{inputs, Small, Source, of-waiting, of-overlap, of-input, Takes, Rights, none-yet, one-more, with-right}
-use Rattle.completion.proofs.Ends.{older-rules, Next, settles, makes, Neither}
+use Rattle.completion.proofs.Ends.{older-rules, Next, settles, makes, puts-back}
 use Rattle.completion.proofs.Closed.{Closed, Has, taken-has, next-has, kept-every, removed-every}
 use Rattle.completion.proofs.Reachable.{Reachable, from-start, by-turn, turn-next}
 use Rattle.completion.proofs.Stopped.{run-stops}
@@ -139,6 +141,7 @@ module _ (P : Problem) (ok : Accepted P) where
         oriented = λ e h few a. renamed-held symbols 32 16 e few h;
         composed = λ rules fit e r s h. record { left = h .left; right = reached-held symbols 16 (omega arith) rules fit (e .right) r s (h .right) };
         put-off = λ e h. h;
+        put-again = λ e h few. renamed-held symbols 32 16 e few h;
       }
 
   -- The turn that begins with s.
@@ -154,6 +157,8 @@ module _ (P : Problem) (ok : Accepted P) where
       pub fits : HeldPair symbols 32 (t .pair .sides)
       pub waiting-fits : Every (CandidateFits symbols 16 (s .made)) (t .waiting)
       pub room : length (s .rules) + suc (length (t .waiting)) ≤ 33
+      pub waiting-few : suc (length (t .waiting)) ≤ 32
+      pub behind : MayTake s → s .put-back ≤ length (t .waiting)
 
     inputs-fit : Every (CandidateFits symbols 16 (s .made)) (inputs P)
     unfolding OriginFits
@@ -161,22 +166,30 @@ module _ (P : Problem) (ok : Accepted P) where
         (let few : length (P .equations) ≤ 16 = ok .equations-few in omega arith) (ok .equations-fit)
 
     abbrev SourceFits : Origin → List Candidate → Type 0
-    SourceFits o cs = OriginFits (s .made) o × Every (CandidateFits symbols 16 (s .made)) cs × (length (s .rules) + suc (length cs) ≤ 33)
+    SourceFits o cs =
+        OriginFits (s .made) o × Every (CandidateFits symbols 16 (s .made)) cs × (length (s .rules) + suc (length cs) ≤ 33) × (suc (length cs) ≤ 32)
+        × (MayTake s → s .put-back ≤ length cs)
 
-    none-wait : (o : Origin) → OriginFits (s .made) o → SourceFits o []
-    none-wait o h = (h, of-none, (let l : length (s .rules) ≤ 32 = lim .live in omega arith))
+    none-wait : (o : Origin) → s .waiting ≡ [] → OriginFits (s .made) o → SourceFits o []
+    none-wait o w h =
+        let l : length (s .rules) ≤ 32 = lim .live in
+        let b : s .put-back ≤ length (s .waiting) = lim .put-back-few in
+        let n : length (s .waiting) ≡ 0 = ap length w in
+        (h, of-none, omega arith, omega arith, λ g. omega arith)
 
     source-fits : (c : Candidate) (cs : List Candidate) → Source P s c cs → SourceFits (c .origin) cs
     unfolding OriginFits
     source-fits c cs (of-waiting e) =
         let h : Every (CandidateFits symbols 16 (s .made)) (c ∷ cs) = subst (Every (CandidateFits symbols 16 (s .made))) e (lim .waiting-fit) in
         let l : length (s .rules) + length (c ∷ cs) ≤ 33 = subst (λ w. length (s .rules) + length w ≤ 33) e (lim .together) in
-        (every-head h .from, every-tail h, omega arith)
+        let m : length (c ∷ cs) ≤ 32 = subst (λ (w : List Candidate). length w ≤ 32) e (lim .waiting-few) in
+        let n : length (s .waiting) ≡ suc (length cs) = ap length e in
+        (every-head h .from, every-tail h, omega arith, omega arith, ⊎-elim (λ k. absurd (omega arith)) (λ k. omega arith))
     source-fits c cs (of-overlap at o z small e q) =
         let f : PlaceFits symbols (s .made) at = every-in (all-places-fit (s .rules) (lim .rules-fit)) (z .listed) in
-        rw (e, q) (none-wait (overlapping (at .inner .number) (at .outer .number) (at .position))
+        rw (e, q) (none-wait (overlapping (at .inner .number) (at .outer .number) (at .position)) (z .idle)
         (f .inner-fits .first, f .inner-fits .last, f .outer-fits .first, f .outer-fits .last, f .position-fits))
-    source-fits c cs (of-input w a i q) = rw q (none-wait (c .origin) (every-in inputs-fit i .from))
+    source-fits c cs (of-input w a i q) = rw q (none-wait (c .origin) w (every-in inputs-fit i .from))
 
     pub taken-fits : (t : Taken) → Takes P s t → TakenFits t
     taken-fits t g =
@@ -186,32 +199,56 @@ module _ (P : Problem) (ok : Accepted P) where
           fits = taken-has P (HeldPair symbols 16) (HeldPair symbols 16) (HeldPair symbols 32) held-closed s has t g .0;
           waiting-fits = a .1;
           room = a .2;
+          waiting-few = a .3;
+          behind = a .4;
         }
 
-    entry-fits : (t : Taken) (m k : ℕ) → TakenFits t → s .made ≤ m → k ≤ m →
+    entry-fits : (t : Taken) (m k : ℕ) → TakenFits t → s .made ≤ m → (k ≤ m) ⊎ (k ≡ made-put-back) →
         Every (EntryFits m) (s .log ++ (record { origin = t .pair .origin; made = k } ∷ []))
     entry-fits t m k f l h =
         every-append (every-map (later-entry (s .made) m l) (lim .log-fits))
         (every-one (record { from = later-origin (s .made) m l (t .pair .origin) (f .from); last = h }))
 
-    settled-limits : (t : Taken) → TakenFits t → length (s .log) < 512 → Limits symbols (settled s t)
-    unfolding settled
-    settled-limits t f room =
-        let logs : length (s .log ++ (record { origin = t .pair .origin; made = 0 } ∷ [])) ≡ length (s .log) + 1 =
-        length-append (s .log) (record { origin = t .pair .origin; made = 0 } ∷ []) in
-        let place : length (s .rules) + suc (length (t .waiting)) ≤ 33 = f .room in
-        let made : s .made ≤ length (s .log) = lim .made-few in
+    -- Limits of a state with the same rules and one entry more.
+    same-rules-limits : (t : Taken) (made : ℕ) (waiting : List Candidate) (back : ℕ) → TakenFits t → length (s .log) < 512 →
+        (made ≤ s .made) ⊎ (made ≡ made-put-back) → Every (CandidateFits symbols 16 (s .made)) waiting →
+        length waiting ≤ suc (length (t .waiting)) → back ≤ length waiting →
+        Limits symbols (record {
+          rules = s .rules;
+          made = s .made;
+          waiting = waiting;
+          log = s .log ++ (record { origin = t .pair .origin; made = made } ∷ []);
+          put-back = back;
+        })
+    same-rules-limits t made waiting back f room h fit few l =
+        let logs : length (s .log ++ (record { origin = t .pair .origin; made = made } ∷ [])) ≡ length (s .log) + 1 =
+        length-append (s .log) (record { origin = t .pair .origin; made = made } ∷ []) in
         record {
           live = lim .live;
           rules-fit = lim .rules-fit;
           ascending = lim .ascending;
-          made-few = omega arith;
+          made-few = omega (arith, lim .made-few);
           log-few = omega arith;
-          log-fits = entry-fits t (s .made) 0 f (omega arith) (omega arith);
-          waiting-fit = f .waiting-fits;
-          waiting-few = omega arith;
-          together = omega arith;
+          log-fits = entry-fits t (s .made) made f (omega arith) h;
+          waiting-fit = fit;
+          waiting-few = omega (arith, f .waiting-few);
+          together = omega (arith, f .room);
+          put-back-few = l;
         }
+
+    settled-limits : (t : Taken) → TakenFits t → length (s .log) < 512 → Limits symbols (settled s t)
+    unfolding settled
+    settled-limits t f room = same-rules-limits t 0 (t .waiting) 0 f room (inl (omega arith)) (f .waiting-fits) (omega arith) (omega arith)
+
+    put-back-limits : (t : Taken) → TakenFits t → MayTake s → length (s .log) < 512 → length (pair-variables (t .pair .sides)) ≤ 16 →
+        Limits symbols (waits-again s t)
+    unfolding waits-again
+    put-back-limits t f may room few =
+        let c : Candidate = record { origin = t .pair .origin; sides = renamed (t .pair .sides) } in
+        let waits : length (t .waiting ++ (c ∷ [])) ≡ length (t .waiting) + 1 = length-append (t .waiting) (c ∷ []) in
+        same-rules-limits t made-put-back (t .waiting ++ (c ∷ [])) (suc (s .put-back)) f room (inr refl)
+        (every-append (f .waiting-fits) (every-one {x = c} (record { from = f .from; fits = renamed-held symbols 32 16 (t .pair .sides) few (f .fits) })))
+        (omega arith) (omega (arith, f .behind may))
 
     -- Limits of the state with a new rule, whose rules are numbered like the older ones and it, and are held.
     made-limits : (t : Taken) (sides : Pair) (rules : List Rule) → TakenFits t → length (s .log) < 512 → suc (length (older-rules s sides)) ≤ 32 →
@@ -244,14 +281,16 @@ module _ (P : Problem) (ok : Accepted P) where
               rw same (ascending-last symbols (s .made) 0 older new (omega arith) (omega arith) older-fit (ascending-kept new 0 (s .rules) (lim .ascending)));
           made-few = omega arith;
           log-few = omega arith;
-          log-fits = entry-fits t m m f (omega arith) (omega arith);
+          log-fits = entry-fits t m m f (omega arith) (inl (omega arith));
           waiting-fit = every-map (later-candidate symbols 16 (s .made) m (omega arith)) (every-append (f .waiting-fits) (removed-fit new (lim .rules-fit)));
           waiting-few = omega arith;
           together = omega arith;
+          put-back-few = omega arith;
         }
 
     pub next-limits : (s′ : State) → Next P s s′ → Limits symbols s′
     next-limits s′ (settles t g room q e) = rw e (settled-limits t (taken-fits t g) room)
+    next-limits s′ (puts-back t g room d few n may e) = rw e (put-back-limits t (taken-fits t g) may room few)
     next-limits s′ (makes t g room d few sides o live done r e) =
         let h : HasHeld s′ =
         next-has P (HeldPair symbols 16) (HeldPair symbols 16) (HeldPair symbols 32) held-closed s s′ has (makes t g room d few sides o live done r e) in
@@ -265,7 +304,3 @@ module _ (P : Problem) (ok : Accepted P) where
 
   pub run-limits : Limits symbols (run P .state)
   run-limits = reachable-limits (run-stops P .reachable)
-
-  -- The two forms of end 20 fit.
-  pub neither-fits : (e : Pair) → Neither P (run P .state) e → HeldPair symbols 32 e
-  neither-fits e h = rw (h .is-taken) (taken-fits (run P .state) run-limits (h .taken) (h .takes) .fits)

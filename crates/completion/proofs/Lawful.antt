@@ -3,6 +3,7 @@
 use mathlib.Core.Bool.{Bool, true, false}
 use mathlib.Core.List.{List, [], _∷_}
 use mathlib.Core.Option.{Option, none, some}
+use Prim.Native.Nat.{ℕ}
 use lib.Dec.{ltb, leb}
 use lib.ListN.{length}
 use Rattle.terms.proofs.Shape.{either-has}
@@ -13,7 +14,7 @@ use Rattle.rewriting.specs.Rewrite.{End, complete, neither-above, spent, too-la
 use Rattle.rewriting.specs.Rewrite.{pay, hold, normalise, normalise-pair}
 use Rattle.problem.specs.Problem.{Problem}
 use Rattle.completion.specs.Turn.{Origin, Candidate, State, Taken, scan-overlap, if-different, if-different-overlap, scan-inputs, scan}
-use Rattle.completion.specs.Turn.{take-pair, orient, normalise-rights, make-rule, settled, turn}
+use Rattle.completion.specs.Turn.{take-pair, normalise-rights, if-oriented, make-rule, settled, end-if-all-put-back, turn}
 
 -- a fact for the end 21, another for all others
 abbrev pub Unless : End → Type 0 → Type 0 → Type 0
@@ -86,30 +87,36 @@ module _ (L : (A : Type 0) → Paying A → Type 0) (k : Lawful L) where
   take-lawful P rules [] = k .bound _ _ _ _ (scan-lawful rules _ _) λ c. k .returned _ _
   take-lawful P rules (c ∷ cs) = k .bound _ _ _ _ (pair-lawful rules (c .sides)) λ forms. k .returned _ _
 
-  orient-lawful : (P : Problem) (e : Pair) → L Pair (orient P e)
-  unfolding orient
-  orient-lawful P e = either-has (L _) _ _ _ (k .returned _ _) (either-has (L _) _ _ _ (k .returned _ _) (k .ended _ neither-above tt))
-
   rights-lawful : (before rules : List Rule) (new : Rule) → L (List Rule) (normalise-rights before rules new)
   unfolding normalise-rights
   rights-lawful before [] new = k .returned _ _
   rights-lawful before (old ∷ rules) new = k .bound _ _ _ _ (k .normalised _ (old .sides .right)) λ r. rights-lawful _ rules new
 
-  make-lawful : (P : Problem) (s : State) (t : Taken) → L State (make-rule P s t)
-  unfolding make-rule
-  make-lawful P s t =
-      k .bound _ _ _ _ (end-if-lawful _ too-large tt) λ _.
-      k .bound _ _ _ _ (orient-lawful P _) λ sides.
+  oriented-lawful : (s : State) (t : Taken) (o : Option Pair) → L State (if-oriented s t o)
+  unfolding if-oriented
+  oriented-lawful s t none = k .returned _ _
+  oriented-lawful s t (some sides) =
       k .bound _ _ _ _ (end-if-lawful _ rules-full tt) λ _.
       k .bound _ _ _ _ (rights-lawful [] _ _) λ rules.
       k .returned _ _
 
+  make-lawful : (P : Problem) (s : State) (t : Taken) → L State (make-rule P s t)
+  unfolding make-rule
+  make-lawful P s t = k .bound _ _ _ _ (end-if-lawful _ too-large tt) λ _. oriented-lawful s t _
+
+  all-put-back-lawful : (waiting : List Candidate) (n : ℕ) → L (Unit {0}) (end-if-all-put-back waiting n)
+  unfolding end-if-all-put-back
+  all-put-back-lawful [] n = k .returned _ tt
+  all-put-back-lawful (c ∷ waiting) n = end-if-lawful _ neither-above tt
+
   -- the turn behind its first unit
   pub rest-lawful : (P : Problem) (s : State) →
-      L State (take-pair P (s .rules) (s .waiting) >>= λ t.
+      L State (end-if-all-put-back (s .waiting) (s .put-back) >>= λ _.
+      take-pair P (s .rules) (s .waiting) >>= λ t.
       end-if (leb 512 (length (s .log))) log-full >>= λ _.
       if same (t .pair .sides .left) (t .pair .sides .right) then return (settled s t) else make-rule P s t)
   rest-lawful P s =
+      k .bound _ _ _ _ (all-put-back-lawful (s .waiting) (s .put-back)) λ _.
       k .bound _ _ _ _ (take-lawful P (s .rules) (s .waiting)) λ t.
       k .bound _ _ _ _ (end-if-lawful _ log-full tt) λ _.
       either-has (L _) _ _ _ (k .returned _ _) (make-lawful P s t)

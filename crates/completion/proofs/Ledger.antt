@@ -12,13 +12,14 @@ use lib.ListN.{length, length-append}
 use Rattle.terms.specs.Base.{if_then_else_, Every, of-none, of-cons}
 use Rattle.terms.specs.Term.{Term, Pair, same, size, pair-variables, renamed}
 use Rattle.terms.proofs.Every.{every-append}
-use Rattle.order.specs.Order.{above}
 use Rattle.rewriting.specs.Overlap.{Rule, Overlap, overlap, Place, all-places}
 use Rattle.rewriting.specs.Rewrite.{step, End, complete, neither-above, too-large, rules-full, log-full, Paid, done, stop, Paying, return, end-with}
 use Rattle.rewriting.specs.Rewrite.{and-then, _>>=_, end-if, pay, hold, normalise, normalise-pair}
-use Rattle.problem.specs.Problem.{Problem, rank-of}
-use Rattle.completion.specs.Turn.{Origin, scanned-input, Candidate, candidates, kept, State, Taken, Finished, initial, scan-overlap, if-different}
-use Rattle.completion.specs.Turn.{if-different-overlap, scan-inputs, scan, take-pair, orient, normalise-rights, make-rule, settled, turn, turns, run}
+use Rattle.problem.specs.Problem.{Problem}
+use Rattle.completion.specs.Turn.{Origin, Candidate, State, Taken, Finished, initial, scan-overlap, if-different, if-different-overlap, scan-inputs, scan}
+use Rattle.completion.specs.Turn.{take-pair, orient, normalise-rights, if-oriented, make-rule, settled, end-if-all-put-back, turn, turns, run}
+use Rattle.completion.proofs.Sentences.{new-rule}
+use Rattle.completion.proofs.Ends.{inputs, older-rules}
 use Rattle.completion.proofs.Units.{left-of}
 use Rattle.completion.proofs.Reachable.{Reachable, from-start, by-turn, next-entry, turn-next, turn-less}
 
@@ -82,7 +83,7 @@ scan-events rules inputs (at ∷ places) =
     also (overlap-events rules o) (scan-overlap rules o) λ forms. different-overlap-events forms (scan-events rules inputs places)
 
 unfoldable pub take-events : Problem → List Rule → List Candidate → Ledger
-take-events P rules [] = scan-events rules (candidates scanned-input 1 (P .equations)) (all-places [] rules)
+take-events P rules [] = scan-events rules (inputs P) (all-places [] rules)
 take-events P rules (c ∷ waiting) = pair-events rules (c .sides)
 
 unfoldable pub rights-events : List Rule → List Rule → Rule → Ledger
@@ -92,16 +93,20 @@ rights-events before (old ∷ rules) new =
     (normalise (before ++ (old ∷ rules) ++ (new ∷ [])) (old .sides .right)) λ r.
     rights-events (before ++ (record { number = old .number; sides = record { left = old .sides .left; right = r } } ∷ [])) rules new
 
+unfoldable pub oriented-events : State → Option Pair → Ledger
+oriented-events s none = nothing
+oriented-events s (some sides) =
+    also nothing (end-if (ltb 32 (suc (length (older-rules s sides)))) rules-full) λ _. rights-events [] (older-rules s sides) (new-rule s sides)
+
 unfoldable pub make-events : Problem → State → Taken → Ledger
 make-events P s t =
     also nothing (end-if (ltb 16 (length (pair-variables (t .pair .sides)))) too-large) λ _.
-    also nothing (orient P (t .pair .sides)) λ sides.
-    let new : Rule = record { number = suc (s .made); sides = sides } in
-    also nothing (end-if (ltb 32 (suc (length (kept new (s .rules))))) rules-full) λ _.
-    rights-events [] (kept new (s .rules)) new
+    oriented-events s (orient P (t .pair .sides))
 
 unfoldable pub rest-events : Problem → State → Ledger
-rest-events P s = also (take-events P (s .rules) (s .waiting)) (take-pair P (s .rules) (s .waiting)) λ t.
+rest-events P s =
+    also nothing (end-if-all-put-back (s .waiting) (s .put-back)) λ _.
+    also (take-events P (s .rules) (s .waiting)) (take-pair P (s .rules) (s .waiting)) λ t.
     also nothing (end-if (leb 512 (length (s .log))) log-full) λ _.
     if same (t .pair .sides .left) (t .pair .sides .right) then nothing else make-events P s t
 
@@ -165,10 +170,6 @@ unfolding end-if
 end-if-books true e = end-books (Unit {0}) e
 end-if-books false e = return-books tt
 
-hold-books : (t : Term) → Books (hold t) nothing
-unfolding hold
-hold-books t = end-if-books (ltb 120 (size t)) too-large
-
 if-books : {A : Type 0} (b : Bool) (m n : Paying A) (f g : Ledger) → Books m f → Books n g → Books {A = A} (if b then m else n) (if b then f else g)
 unfolding if_then_else_
 if-books true m n f g h k = h
@@ -204,12 +205,12 @@ pair-books rules e =
     last-books (normalise rules (e .right)) _ (normalise-events rules (e .right)) (normalise-books rules (e .right))
 
 overlap-books : (rules : List Rule) (o : Option Overlap) → Books (scan-overlap rules o) (overlap-events rules o)
-unfolding scan-overlap overlap-events
+unfolding scan-overlap overlap-events hold
 overlap-books rules none = return-books none
 overlap-books rules (some o) =
-    bind-books (hold (o .peak)) _ nothing _ (hold-books (o .peak)) λ _.
-    bind-books (hold (o .sides .left)) _ nothing _ (hold-books (o .sides .left)) λ _.
-    bind-books (hold (o .sides .right)) _ nothing _ (hold-books (o .sides .right)) λ _.
+    bind-books (hold (o .peak)) _ nothing _ (end-if-books (ltb 120 (size (o .peak))) too-large) λ _.
+    bind-books (hold (o .sides .left)) _ nothing _ (end-if-books (ltb 120 (size (o .sides .left))) too-large) λ _.
+    bind-books (hold (o .sides .right)) _ nothing _ (end-if-books (ltb 120 (size (o .sides .right))) too-large) λ _.
     last-books (normalise-pair rules (renamed (o .sides))) _ (pair-events rules (renamed (o .sides))) (pair-books rules (renamed (o .sides)))
 
 different-books : (origin : Origin) (forms : Pair) (next : Paying Candidate) (f : Ledger) → Books next f →
@@ -240,20 +241,8 @@ scan-books rules inputs (at ∷ ps) =
 
 take-books : (P : Problem) (rules : List Rule) (cs : List Candidate) → Books (take-pair P rules cs) (take-events P rules cs)
 unfolding take-pair take-events
-take-books P rules [] =
-    last-books (scan rules (candidates scanned-input 1 (P .equations)) (all-places [] rules)) _ _
-    (scan-books rules (candidates scanned-input 1 (P .equations)) (all-places [] rules))
+take-books P rules [] = last-books (scan rules (inputs P) (all-places [] rules)) _ _ (scan-books rules (inputs P) (all-places [] rules))
 take-books P rules (c ∷ cs) = last-books (normalise-pair rules (c .sides)) _ (pair-events rules (c .sides)) (pair-books rules (c .sides))
-
-orient-free : (P : Problem) (e : Pair) (left : ℕ) → Booked left (left-of (orient P e left)) (nothing left)
-unfolding orient
-orient-free P e = go (above (rank-of (P .symbols)) (e .left) (e .right)) (above (rank-of (P .symbols)) (e .right) (e .left))
-  where
-    go : (b c : Bool) → Books {A = Pair}
-        (if b then return (renamed e) else if c then return (renamed (record { left = e .right; right = e .left })) else end-with neither-above) nothing
-    go true c = unfold if_then_else_ in return-books _
-    go false true = unfold if_then_else_ in return-books _
-    go false false = unfold if_then_else_ in end-books Pair neither-above
 
 rights-books : (before rules : List Rule) (new : Rule) → Books (normalise-rights before rules new) (rights-events before rules new)
 unfolding normalise-rights rights-events
@@ -263,23 +252,32 @@ rights-books before (old ∷ rules) new =
     bind-books (normalise all (old .sides .right)) _ (normalise-events all (old .sides .right)) _ (normalise-books all (old .sides .right)) λ r.
     rights-books (before ++ (record { number = old .number; sides = record { left = old .sides .left; right = r } } ∷ [])) rules new
 
+oriented-books : (s : State) (t : Taken) (o : Option Pair) → Books (if-oriented s t o) (oriented-events s o)
+unfolding if-oriented oriented-events
+oriented-books s t none = return-books _
+oriented-books s t (some sides) =
+    bind-books (end-if (ltb 32 (suc (length (older-rules s sides)))) rules-full) _ nothing _ (end-if-books _ rules-full) λ _.
+    last-books (normalise-rights [] (older-rules s sides) (new-rule s sides)) _ _ (rights-books [] (older-rules s sides) (new-rule s sides))
+
 make-books : (P : Problem) (s : State) (t : Taken) → Books (make-rule P s t) (make-events P s t)
 unfolding make-rule make-events
 make-books P s t =
     bind-books (end-if (ltb 16 (length (pair-variables (t .pair .sides)))) too-large) _ nothing _ (end-if-books _ too-large) λ _.
-    bind-books (orient P (t .pair .sides)) _ nothing _ (orient-free P (t .pair .sides)) λ sides.
-    let new : Rule = record { number = suc (s .made); sides = sides } in
-    bind-books (end-if (ltb 32 (suc (length (kept new (s .rules))))) rules-full) _ nothing _ (end-if-books _ rules-full) λ _.
-    last-books (normalise-rights [] (kept new (s .rules)) new) _ (rights-events [] (kept new (s .rules)) new) (rights-books [] (kept new (s .rules)) new)
+    oriented-books s t (orient P (t .pair .sides))
+
+all-put-back-books : (waiting : List Candidate) (n : ℕ) → Books (end-if-all-put-back waiting n) nothing
+unfolding end-if-all-put-back
+all-put-back-books [] n = return-books tt
+all-put-back-books (c ∷ waiting) n = end-if-books _ neither-above
 
 -- Behind the unit of the turn there are steps only.
 pub rest-books : (P : Problem) (s : State) (left : ℕ) → Booked left (left-of (turn P s (suc left))) (rest-events P s left)
 unfolding turn rest-events _>>=_ and-then pay
 rest-books P s left =
+    bind-books (end-if-all-put-back (s .waiting) (s .put-back)) _ nothing _ (all-put-back-books (s .waiting) (s .put-back)) (λ _.
     bind-books (take-pair P (s .rules) (s .waiting)) _ (take-events P (s .rules) (s .waiting)) _ (take-books P (s .rules) (s .waiting)) (λ t.
     bind-books (end-if (leb 512 (length (s .log))) log-full) _ nothing _ (end-if-books _ log-full) λ _.
-    if-books (same (t .pair .sides .left) (t .pair .sides .right)) (return (settled s t)) (make-rule P s t) nothing (make-events P s t)
-    (return-books (settled s t)) (make-books P s t)) left
+    if-books _ (return (settled s t)) (make-rule P s t) nothing (make-events P s t) (return-books (settled s t)) (make-books P s t))) left
 
 -- how many turns were begun
 unfoldable pub begun : List Event → ℕ

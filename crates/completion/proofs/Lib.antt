@@ -9,6 +9,7 @@ pub mod Stopped
 pub mod Closed
 pub mod Invariant
 pub mod AtEnd
+pub mod PutBack
 pub mod Certificate
 pub mod Over
 pub mod OverRules

@@ -2,7 +2,7 @@
 -- nothing.
 -- Read first: specs/Turn, specs/Keeps, terms/proofs/Limits.
 use mathlib.Core.Path.{_≡_, refl, ap}
-use mathlib.Core.Logic.{⊎-elim}
+use mathlib.Core.Logic.{_⊎_, inl, inr, ⊎-elim}
 use mathlib.Core.List.{List, [], _∷_, map, List·Memᴰ·head, Memᴰ·append-left, Memᴰ·append-right}
 use Prim.Native.Nat.{ℕ, suc, _+_, _≤_, _<_}
 use native.Mathlib.Omega.{arith}
@@ -18,7 +18,8 @@ use Rattle.rewriting.specs.Overlap.{Rule}
 use Rattle.problem.specs.Problem.{Symbol, Equation, Problem}
 use Rattle.problem.specs.Over.{Over, OverAll}
 use Rattle.completion.proofs.Over.{OverPair, OverEquations}
-use Rattle.completion.specs.Turn.{Origin, waiting-input, removed-rule, scanned-input, overlapping, Candidate, Entry, State, candidates, initial}
+use Rattle.completion.specs.Turn.{Origin, waiting-input, removed-rule, scanned-input, overlapping, Candidate, made-put-back, Entry, State, candidates}
+use Rattle.completion.specs.Turn.{initial}
 use Rattle.completion.specs.Keeps.{PairKeeps}
 
 -- At most 120 nodes, symbols below n, variables below v.
@@ -46,9 +47,10 @@ pub record RuleFits (n made : ℕ) (r : Rule) : Type 0 where
   pub last : r .number ≤ made
   pub fits : HeldPair n 16 (r .sides)
 
+-- of an entry: the number of a rule that was made, 0 or ffff
 pub record EntryFits (made : ℕ) (e : Entry) : Type 0 where
   pub from : OriginFits made (e .origin)
-  pub last : e .made ≤ made
+  pub last : (e .made ≤ made) ⊎ (e .made ≡ made-put-back)
 
 -- strictly ascending, from above lo
 unfoldable pub Ascending : ℕ → List ℕ → Type 0
@@ -69,6 +71,7 @@ pub record Limits (n : ℕ) (s : State) : Type 0 where
   pub waiting-fit : Every (CandidateFits n 16 (s .made)) (s .waiting)
   pub waiting-few : length (s .waiting) ≤ 32
   pub together : length (s .rules) + length (s .waiting) ≤ 33
+  pub put-back-few : s .put-back ≤ length (s .waiting)
 
 -- What a problem that was accepted has.
 pub record Accepted (P : Problem) : Type 0 where
@@ -90,7 +93,7 @@ pub later-candidate : (n v a b : ℕ) → a ≤ b → (c : Candidate) → Candid
 later-candidate n v a b l c h = record { from = later-origin a b l (c .origin) (h .from); fits = h .fits }
 
 pub later-entry : (a b : ℕ) → a ≤ b → (e : Entry) → EntryFits a e → EntryFits b e
-later-entry a b l e h = record { from = later-origin a b l (e .origin) (h .from); last = omega arith }
+later-entry a b l e h = record { from = later-origin a b l (e .origin) (h .from); last = ⊎-elim (λ k. inl (omega arith)) inr (h .last) }
 
 -- More variables allowed.
 pub held-wide : (n v w : ℕ) → v ≤ w → (t : Term) → HeldTo n v t → HeldTo n w t
@@ -184,4 +187,5 @@ initial-limits P a =
       waiting-fit = candidates-fit _ 0 waiting-input (λ k l m. (l, m)) 1 (P .equations) (omega arith) (omega arith) (a .equations-fit);
       waiting-few = omega arith;
       together = omega arith;
+      put-back-few = omega arith;
     }

@@ -43,6 +43,7 @@ module _ (Σ : List Symbol) where
                 brings = λ x i. o .brings x (star-brings (of-brings Σ rules h) (reached-star s) x i);
               };
           put-off = λ e o. o .over;
+          put-again = λ e o few. over-renamed Σ e o;
         }
 
     -- All rules of every state of a run.

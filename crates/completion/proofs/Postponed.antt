@@ -1,16 +1,16 @@
 -- A rule that was removed and still waits: the live rules rewrite its left side, whatever turns follow, so its Collapse may be put off until it is
--- taken. Assumes nothing.
--- Read first: specs/Systems, proofs/Ends, proofs/Reachable.
+-- taken. All else that waits is an equation, what was put back included. Assumes nothing.
+-- Read first: specs/Systems, proofs/Ends, proofs/Reachable, proofs/PutBack (`renamed-neither`).
 use mathlib.Core.Path.{_≡_, refl, sym, ap, subst, _∙_}
-use mathlib.Core.Bool.{Bool, true, false}
+use mathlib.Core.Bool.{Bool, true, false, _&&_, and-false, false≢true}
 use mathlib.Core.Logic.{_⊎_, inl, inr, ⊎-elim}
 use mathlib.Core.List.{List, [], _∷_, _++_, List·Memᴰ, List·Memᴰ·head, List·Memᴰ·tail, List·Memᴰ·not-nil, List·Memᴰ·cases-cons, Memᴰ·append-left}
 use mathlib.Core.List.{Memᴰ·append-right, List·Memᴰ·append-cases}
 use Prim.Native.Nat.{ℕ, suc}
 use Rattle.terms.specs.Base.{if_then_else_, Every, of-none, of-cons}
-use Rattle.terms.specs.Term.{Term, subst-term}
-use Rattle.terms.proofs.Shape.{zero≢one, some-of}
-use Rattle.terms.proofs.Every.{every-append, every-map, every-tail}
+use Rattle.terms.specs.Term.{Term, Pair, renamed, subst-term}
+use Rattle.terms.proofs.Shape.{some-of}
+use Rattle.terms.proofs.Every.{every-one, every-append, every-map, every-tail}
 use Rattle.terms.proofs.Subst.{subst-var}
 use Rattle.terms.proofs.Context.{plug}
 use Rattle.rewriting.specs.Overlap.{Rule, sides-of}
@@ -19,12 +19,16 @@ use Rattle.rewriting.proofs.Relations.{Of, root}
 use Rattle.rewriting.proofs.Steps.{step-subst, step-plug}
 use Rattle.rewriting.proofs.Order.{StepAt, step-at}
 use Rattle.rewriting.proofs.Stepping.{StepBy, step-sound}
-use Rattle.problem.specs.Problem.{Equation, Problem}
-use Rattle.completion.specs.Turn.{waiting-input, removed-rule, Candidate, State, candidates, initial, rewrites, kept, removed, settled}
+use Rattle.problem.specs.Problem.{rank-of, Equation, Problem}
+use Rattle.completion.specs.Turn.{Origin, waiting-input, removed-rule, Candidate, State, candidates, initial}
+use Rattle.completion.specs.Turn.{rewrites, kept, removed, waits-again, settled}
+use Rattle.completion.specs.Systems.{from-removed, still-rule}
 use Rattle.completion.proofs.Words.{ItemOf, item-of, of-item, rule-sides}
 use Rattle.completion.proofs.Sentences.{new-rule}
-use Rattle.completion.proofs.Ends.{Source, of-waiting, of-overlap, of-input, Rights, none-yet, one-more, with-right, Next, settles, makes}
+use Rattle.completion.proofs.Ends.{Source, of-waiting, of-overlap, of-input, NeitherAbove, Rights, none-yet, one-more, with-right, Next}
+use Rattle.completion.proofs.Ends.{settles, makes, puts-back}
 use Rattle.completion.proofs.Reachable.{Reachable, from-start, by-turn, turn-next}
+use Rattle.completion.proofs.PutBack.{renamed-neither}
 
 -- a step leads from t
 abbrev pub Reduces : List Rule → Term → Type 0
@@ -108,33 +112,51 @@ module _ (new : Rule) (rules done : List Rule) (r : Rights new (kept new rules) 
   pub reduces-next : (t : Term) → Reduces rules t → Reduces next t
   reduces-next t h = reduces-on rules next left-reduces t h
 
--- What waits from a removed rule.
-abbrev pub ReducesRemoved : List Rule → Candidate → Type 0
-ReducesRemoved rules c = (n : ℕ) → c .origin ≡ removed-rule n → Reduces rules (c .sides .left)
+-- Of what waits, a rule still, and an equation.
+abbrev pub IsRule : (ℕ → ℕ) → Candidate → Type 0
+IsRule rank c = still-rule rank c ≡ true
 
-removed-reduce : (new : Rule) (rules : List Rule) → Every (ReducesRemoved (new ∷ [])) (removed new rules)
+abbrev pub IsEquation : (ℕ → ℕ) → Candidate → Type 0
+IsEquation rank c = still-rule rank c ≡ false
+
+-- What is said of rules alone holds of equations.
+pub equations-have : {Q : Candidate → Type 0} (rank : ℕ → ℕ) {cs : List Candidate} → Every (IsEquation rank) cs → Every (λ c. IsRule rank c → Q c) cs
+equations-have rank h = every-map (λ c e p. absurd (false≢true (sym e ∙ p))) h
+
+-- An input is an equation,
+pub inputs-equations : (rank : ℕ → ℕ) (n : ℕ) (es : List Equation) → Every (IsEquation rank) (candidates waiting-input n es)
+unfolding candidates still-rule from-removed
+inputs-equations rank n [] = of-none
+inputs-equations rank n (e ∷ es) = of-cons refl (inputs-equations rank (suc n) es)
+
+-- and so is what is put back, wherever it came from: neither side is above.
+neither-equation : (P : Problem) (o : Origin) (e : Pair) → NeitherAbove P e → IsEquation (rank-of (P .symbols)) (record { origin = o; sides = e })
+unfolding still-rule
+neither-equation P o e h = ap (λ b. from-removed o && b) (h .not-left) ∙ and-false (from-removed o)
+
+pub put-back-equation : (P : Problem) (o : Origin) (e : Pair) → NeitherAbove P e →
+    Every (IsEquation (rank-of (P .symbols))) (record { origin = o; sides = renamed e } ∷ [])
+put-back-equation P o e h = every-one (neither-equation P o (renamed e) (renamed-neither P e h))
+
+-- What waits from a removed rule, if it is a rule still.
+abbrev pub LeftReduces : List Rule → Candidate → Type 0
+LeftReduces rules c = Reduces rules (c .sides .left)
+
+abbrev pub ReducesRemoved : (ℕ → ℕ) → List Rule → Candidate → Type 0
+ReducesRemoved rank rules c = IsRule rank c → LeftReduces rules c
+
+removed-reduce : (new : Rule) (rules : List Rule) → Every (LeftReduces (new ∷ [])) (removed new rules)
 unfolding removed if_then_else_
 removed-reduce new [] = of-none
 removed-reduce new (old ∷ rules) = go (rewrites new old) refl (removed-reduce new rules)
   where
-    go : (b : Bool) → rewrites new old ≡ b → Every (ReducesRemoved (new ∷ [])) (removed new rules) →
-        Every (ReducesRemoved (new ∷ []))
-        (if b then (record { origin = removed-rule (old .number); sides = old .sides } ∷ removed new rules) else removed new rules)
-    go true e h = of-cons (λ n p. rewrites-reduces new old e) h
+    go : (b : Bool) → rewrites new old ≡ b → Every (LeftReduces (new ∷ [])) (removed new rules) →
+        Every (LeftReduces (new ∷ [])) (if b then (record { origin = removed-rule (old .number); sides = old .sides } ∷ removed new rules) else removed new rules)
+    go true e h = of-cons (rewrites-reduces new old e) h
     go false e h = h
 
-not-removed : (n k : ℕ) → waiting-input n ≡ removed-rule k → ⊥
-not-removed n k p = zero≢one (cc)
-
--- An input is no removed rule.
-pub inputs-not-removed : (Q : Candidate → Type 0) (n : ℕ) (es : List Equation) →
-    Every (λ (c : Candidate). (k : ℕ) → c .origin ≡ removed-rule k → Q c) (candidates waiting-input n es)
-unfolding candidates
-inputs-not-removed Q n [] = of-none
-inputs-not-removed Q n (e ∷ es) = of-cons (λ k p. absurd (not-removed n k p)) (inputs-not-removed Q (suc n) es)
-
-abbrev pub Postponed : State → Type 0
-Postponed s = Every (ReducesRemoved (s .rules)) (s .waiting)
+abbrev pub Postponed : Problem → State → Type 0
+Postponed P s = Every (ReducesRemoved (rank-of (P .symbols)) (s .rules)) (s .waiting)
 
 -- What waits behind the pair taken waited before.
 pub source-rest : {Q : Candidate → Type 0} (P : Problem) (s : State) (c : Candidate) (cs : List Candidate) → Source P s c cs → Every Q (s .waiting) → Every Q cs
@@ -142,17 +164,24 @@ source-rest {Q} P s c cs (of-waiting e) h = every-tail (subst (Every Q) e h)
 source-rest P s c cs (of-overlap at o z small e q) h = rw q of-none
 source-rest P s c cs (of-input w a i q) h = rw q of-none
 
-next-postponed : (P : Problem) (s s′ : State) → Next P s s′ → Postponed s → Postponed s′
-unfolding settled
+next-postponed : (P : Problem) (s s′ : State) → Next P s s′ → Postponed P s → Postponed P s′
+unfolding settled waits-again
 next-postponed P s s′ (settles t g room q e) h = rw e (source-rest P s (g .of) (t .waiting) (g .source) h)
 next-postponed P s s′ (makes t g room d few sides o live done r e) h =
     let new : Rule = new-rule s sides in
     rw e
     (every-append
-    (every-map (λ c q n p. reduces-next new (s .rules) done r (c .sides .left) (q n p)) (source-rest P s (g .of) (t .waiting) (g .source) h))
-    (every-map (λ c q n p. by-new new (s .rules) done r (c .sides .left) (q n p)) (removed-reduce new (s .rules))))
+    (every-map (λ c q p. reduces-next new (s .rules) done r (c .sides .left) (q p)) (source-rest P s (g .of) (t .waiting) (g .source) h))
+    (every-map (λ c q p. by-new new (s .rules) done r (c .sides .left) q) (removed-reduce new (s .rules))))
+next-postponed P s s′ (puts-back t g room d few n may e) h =
+    rw e
+    (every-append
+    (source-rest P s (g .of) (t .waiting) (g .source) h)
+    (equations-have (rank-of (P .symbols)) (put-back-equation P (t .pair .origin) (t .pair .sides) n)))
 
-pub reachable-postponed : (P : Problem) {s : State} {left : ℕ} → Reachable P s left → Postponed s
+pub reachable-postponed : (P : Problem) {s : State} {left : ℕ} → Reachable P s left → Postponed P s
 unfolding initial
-reachable-postponed P (from-start e b) = rw e (inputs-not-removed (λ c. Reduces [] (c .sides .left)) 1 (P .equations))
+reachable-postponed P (from-start e b) =
+    let rank : ℕ → ℕ = rank-of (P .symbols) in
+    rw e (equations-have rank (inputs-equations rank 1 (P .equations)))
 reachable-postponed P (by-turn {s} {s′} {left} {left′} r e) = next-postponed P s s′ (turn-next P s s′ left left′ e) (reachable-postponed P r)

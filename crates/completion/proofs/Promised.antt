@@ -17,8 +17,8 @@ use Rattle.rewriting.specs.Overlap.{Rule}
 use Rattle.rewriting.specs.Rewrite.{End, complete, neither-above, spent, too-large, rules-full, log-full, end-number}
 use Rattle.problem.specs.Problem.{ok, Problem, parse}
 use Rattle.problem.proofs.Reading.{from-bind, ok-injective}
-use Rattle.completion.specs.Turn.{Entry, run}
-use Rattle.completion.specs.Calls.{rule-field, entry-field, forms-field, result-fields, result-bytes, complete-call}
+use Rattle.completion.specs.Turn.{Candidate, Entry, run}
+use Rattle.completion.specs.Calls.{rule-field, entry-field, oldest-field, forms-field, result-fields, result-bytes, complete-call}
 use Rattle.completion.specs.Promise.{fields-of, one-byte, end-in, rules-in, Promise, Delivers}
 use Rattle.completion.proofs.Limits.{RuleFits, Accepted, Limits}
 use Rattle.completion.proofs.OverRules.{OverRule}
@@ -42,20 +42,25 @@ end-zero too-large = (λ h. absurd (zero≢one (cc)), λ h. absurd (zero≢one (
 end-zero rules-full = (λ h. absurd (zero≢one (cc)), λ h. absurd (zero≢one (cc)))
 end-zero log-full = (λ h. absurd (zero≢one (cc)), λ h. absurd (zero≢one (cc)))
 
--- the log and the two normal forms are no rules
+-- the log and the oldest one waiting are no rules
 entries-other : (log : List Entry) → Every (λ (f : Field). eqb (f .tag) 0x12 ≡ false) (map entry-field log)
 unfolding entry-field
 entries-other [] = of-none
 entries-other (e ∷ log) = of-cons refl (entries-other log)
 
-forms-other : (e : End) → Every (λ (f : Field). eqb (f .tag) 0x12 ≡ false) (forms-field e)
+oldest-other : (waiting : List Candidate) → Every (λ (f : Field). eqb (f .tag) 0x12 ≡ false) (oldest-field waiting)
+unfolding oldest-field
+oldest-other [] = of-none
+oldest-other (oldest ∷ waiting) = every-one refl
+
+forms-other : (e : End) (waiting : List Candidate) → Every (λ (f : Field). eqb (f .tag) 0x12 ≡ false) (forms-field e waiting)
 unfolding forms-field
-forms-other complete = of-none
-forms-other neither-above = every-one refl
-forms-other spent = of-none
-forms-other too-large = of-none
-forms-other rules-full = of-none
-forms-other log-full = of-none
+forms-other complete waiting = of-none
+forms-other neither-above waiting = oldest-other waiting
+forms-other spent waiting = of-none
+forms-other too-large waiting = of-none
+forms-other rules-full waiting = of-none
+forms-other log-full waiting = of-none
 
 module _ (bytes : List ℕ) (P : Problem) (read : parse bytes ≡ ok P) where
   accepted : Accepted P
@@ -93,10 +98,11 @@ module _ (bytes : List ℕ) (P : Problem) (read : parse bytes ≡ ok P) where
   pub rules-read : rules-in (P .symbols) (result-fields (run P)) ≡ ok (run P .state .rules)
   unfolding result-fields rules-in if_then_else_
   rules-read =
-      rw (append-assoc (map rule-field (run P .state .rules)) (map entry-field (run P .state .log)) (forms-field (run P .end)))
-      (rules-back (P .symbols) (accepted .symbols-few) (run P .state .rules) (map entry-field (run P .state .log) ++ forms-field (run P .end))
+      let forms : List Field = forms-field (run P .end) (run P .state .waiting) in
+      rw (append-assoc (map rule-field (run P .state .rules)) (map entry-field (run P .state .log)) forms)
+      (rules-back (P .symbols) (accepted .symbols-few) (run P .state .rules) (map entry-field (run P .state .log) ++ forms)
       (every-map rule-fits (every-both (reachable-over (P .symbols) P (accepted .equations-over) (run-stops P .reachable)) (limits .rules-fit)))
-      (no-rules (P .symbols) (accepted .symbols-few) _ (every-append (entries-other (run P .state .log)) (forms-other (run P .end)))))
+      (no-rules (P .symbols) (accepted .symbols-few) _ (every-append (entries-other (run P .state .log)) (forms-other (run P .end) (run P .state .waiting)))))
 
   pub run-promise : Promise P (result-bytes (run P))
   run-promise =

@@ -2,13 +2,13 @@
 -- state's are the input equations, and with end 0 no equation is left. On the way: the test of input equations at the scan never finds anything.
 -- Assumes nothing.
 -- Read first: specs/Transitions, specs/Systems, proofs/Derived, proofs/Soundness.
-use mathlib.Core.Path.{_≡_, refl, sym, ap, ap₂, subst, subst₂, _∙_}
+use mathlib.Core.Path.{_≡_, sym, ap, subst, subst₂, _∙_}
 use mathlib.Core.Bool.{false≢true}
 use mathlib.Core.Logic.{⊎-elim}
 use mathlib.Core.List.{List, [], _∷_, _++_, append-assoc, append-nil, List·Memᴰ, List·Memᴰ·not-nil, Memᴰ·append-left}
-use Prim.Native.Nat.{ℕ, suc}
+use Prim.Native.Nat.{ℕ}
 use Rattle.terms.specs.Base.{Every}
-use Rattle.terms.specs.Term.{Pair}
+use Rattle.terms.specs.Term.{Pair, renamed}
 use Rattle.terms.proofs.Shape.{same-dec}
 use Rattle.terms.proofs.Below.{swapped}
 use Rattle.terms.proofs.Every.{every-in, every-head}
@@ -20,60 +20,32 @@ use Rattle.rewriting.proofs.Sound.{sound-itself}
 use Rattle.rewriting.proofs.Stepping.{step-none}
 use Rattle.rewriting.proofs.Covers.{of-every}
 use Rattle.rewriting.proofs.Holds.{Forms, reached-star}
-use Rattle.problem.specs.Problem.{rank-of, Equation, Problem}
-use Rattle.completion.specs.Turn.{Origin, waiting-input, removed-rule, scanned-input, overlapping, Candidate, State, Taken, candidates, initial}
-use Rattle.completion.specs.Turn.{kept, removed, settled, turn, run}
+use Rattle.problem.specs.Problem.{rank-of, Problem}
+use Rattle.completion.specs.Turn.{waiting-input, scanned-input, overlapping, Candidate, State, Taken, candidates, initial, kept, removed}
+use Rattle.completion.specs.Turn.{waits-again, settled, turn, run}
 use Rattle.completion.specs.Transitions.{Properly, System, _⨾_, pair, Reordered, unmoved, behind, moved, delete, orient, reorder, turn-round}
-use Rattle.completion.specs.Transitions.{rename-rule, Derivation, written}
-use Rattle.completion.specs.Systems.{if-removed, waiting-equations, waiting-rules, together, system-of, given}
+use Rattle.completion.specs.Transitions.{rename-equation, rename-rule, also, Derivation, written}
+use Rattle.completion.specs.Systems.{waiting-equations, waiting-rules, together, system-of, given}
 use Rattle.completion.proofs.Sentences.{new-rule, next-state}
 use Rattle.completion.proofs.Words.{equation-sides}
 use Rattle.completion.proofs.Ends.{OverlapsSame, none≢waiting, Scanned, inputs, Source, of-waiting, of-overlap, of-input, Takes, Oriented}
-use Rattle.completion.proofs.Ends.{as-taken, other-way}
-use Rattle.completion.proofs.Ends.{Rights, Next, settles, makes}
+use Rattle.completion.proofs.Ends.{as-taken, other-way, NeitherAbove, Rights, Next, settles, makes, puts-back}
 use Rattle.completion.proofs.Reachable.{Reachable, from-start, by-turn, turn-next}
 use Rattle.completion.proofs.Stopped.{run-stops, run-complete}
-use Rattle.completion.proofs.Closed.{candidates-every}
+use Rattle.completion.proofs.Closed.{removed-every, candidates-every}
 use Rattle.completion.proofs.Invariant.{Good, GoodRules, Equal, good-closed, reachable-good}
 use Rattle.completion.proofs.AtEnd.{overlaps-same-join}
 use Rattle.completion.proofs.Reorders.{with-behind, with-before, put-back, exchanged, reordered-eq}
 use Rattle.completion.proofs.Soundness.{Both, Falls, derivation-falls, derived-sound, derived-falls}
 use Rattle.completion.proofs.Deriving.{derives, same-as, by-one, none-more}
 use Rattle.completion.proofs.Confluent.{conv-same-last}
-use Rattle.completion.proofs.Postponed.{ReducesRemoved, Postponed, reachable-postponed}
+use Rattle.completion.proofs.Postponed.{IsRule, IsEquation, inputs-equations, put-back-equation, ReducesRemoved, Postponed}
+use Rattle.completion.proofs.Postponed.{reachable-postponed}
 use Rattle.completion.proofs.Encompassed.{FreeRemoved, reachable-free}
-use Rattle.completion.proofs.Derived.{renamed-variants, sides-append, inputs-derive, waiting-derives, overlap-derives, kept-removed}
-use Rattle.completion.proofs.Derived.{removed-no-equation, rights-derive}
+use Rattle.completion.proofs.Derived.{renamed-variants, sides-append, waiting-sides, equations-behind, rules-behind, kept-removed, removed-still}
+use Rattle.completion.proofs.Derived.{inputs-derive, waiting-derives, overlap-derives, rights-derive}
 
--- Of inputs, none is a removed rule.
-inputs-no-rule : (n : ℕ) (es : List Equation) → waiting-rules (candidates waiting-input n es) ≡ []
-unfolding candidates waiting-rules if-removed
-inputs-no-rule n [] = refl
-inputs-no-rule n (e ∷ es) = inputs-no-rule (suc n) es
-
--- What waits, in two parts.
-if-removed-map : {A B : Type 0} (f : A → B) (o : Origin) (a b : A) → if-removed o (f a) (f b) ≡ f (if-removed o a b)
-unfolding if-removed
-if-removed-map f (waiting-input n) a b = refl
-if-removed-map f (removed-rule n) a b = refl
-if-removed-map f (scanned-input n) a b = refl
-if-removed-map f (overlapping i o p) a b = refl
-
-equations-append : (a b : List Candidate) → waiting-equations (a ++ b) ≡ waiting-equations a ++ waiting-equations b
-unfolding waiting-equations
-equations-append [] b = refl
-equations-append (c ∷ a) b =
-    ap (λ l. if-removed (c .origin) l (c .sides ∷ l)) (equations-append a b) ∙ if-removed-map (λ l. l ++ waiting-equations b) (c .origin)
-    (waiting-equations a) (c .sides ∷ waiting-equations a)
-
-rules-append : (a b : List Candidate) → waiting-rules (a ++ b) ≡ waiting-rules a ++ waiting-rules b
-unfolding waiting-rules
-rules-append [] b = refl
-rules-append (c ∷ a) b =
-    ap (λ l. if-removed (c .origin) (c .sides ∷ l) l) (rules-append a b) ∙ if-removed-map (λ l. l ++ waiting-rules b) (c .origin)
-    (c .sides ∷ waiting-rules a) (waiting-rules a)
-
--- Steps 4 to 7, from the pair taken among the equations.
+-- Steps 5 to 7, from the pair taken among the equations.
 module _ (P : Problem) (E W : List Pair) (rules : List Rule) where
   abbrev ranked : ℕ → ℕ
   ranked = rank-of (P .symbols)
@@ -84,17 +56,17 @@ module _ (P : Problem) (E W : List Pair) (rules : List Rule) where
 
   -- the new rule behind the kept ones, and the removed ones at the end
   made-reordered : (new : Rule) →
-      Reordered (new .sides ∷ (sides-of rules ++ W)) (sides-of (kept new rules) ++ (new .sides ∷ (W ++ waiting-rules (removed new rules))))
+      Reordered (new .sides ∷ (sides-of rules ++ W)) (sides-of (kept new rules) ++ (new .sides ∷ (W ++ waiting-sides (removed new rules))))
   made-reordered new =
       let K : List Pair = sides-of (kept new rules) in
-      let X : List Pair = waiting-rules (removed new rules) in
+      let X : List Pair = waiting-sides (removed new rules) in
       moved (behind (moved (with-behind W (kept-removed new rules)) (moved (reordered-eq (append-assoc K X W)) (with-before K (exchanged X W)))))
       (put-back (new .sides) K (W ++ X))
 
   made-derives : (new : Rule) (composed : List Rule) → Falls ranked (new .sides ∷ (sides-of rules ++ W)) → Rights new (kept new rules) composed [] →
-      Derivation ranked Properly (E ⨾ new .sides ∷ (sides-of rules ++ W)) (E ⨾ sides-of (composed ++ (new ∷ [])) ++ (W ++ waiting-rules (removed new rules)))
+      Derivation ranked Properly (E ⨾ new .sides ∷ (sides-of rules ++ W)) (E ⨾ sides-of (composed ++ (new ∷ [])) ++ (W ++ waiting-sides (removed new rules)))
   made-derives new composed f r =
-      let X : List Pair = W ++ waiting-rules (removed new rules) in
+      let X : List Pair = W ++ waiting-sides (removed new rules) in
       let start : Derivation ranked Properly (E ⨾ new .sides ∷ (sides-of rules ++ W)) (E ⨾ sides-of (kept new rules) ++ (new .sides ∷ X)) =
       written (reorder unmoved (made-reordered new)) in
       let q : sides-of (composed ++ []) ++ (new .sides ∷ X) ≡ sides-of (composed ++ (new ∷ [])) ++ X =
@@ -108,20 +80,21 @@ module _ (P : Problem) where
   abbrev rank : ℕ → ℕ
   rank = rank-of (P .symbols)
 
-  pub initial-derived : Derivation rank Properly (given P) (system-of (initial P))
-  unfolding initial together
+  pub initial-derived : Derivation rank Properly (given P) (system-of rank (initial P))
+  unfolding initial waiting-equations waiting-rules
   initial-derived =
+      let cs : List Candidate = candidates waiting-input 1 (P .equations) in
       subst₂ (Derivation rank Properly)
       (ap (λ E. E ⨾ []) (append-nil (equation-sides (P .equations))))
-      (ap₂ _⨾_ (append-nil _) (sym (inputs-no-rule 1 (P .equations))))
+      (ap (λ E. E ⨾ []) (append-nil (waiting-sides cs)) ∙ sym (equations-behind rank [] [] cs (inputs-equations rank 1 (P .equations))))
       (inputs-derive rank 1 (P .equations) [] [])
 
   -- Where nothing waits, the live rules are all.
-  idle-system : (s : State) → s .waiting ≡ [] → system-of s ≡ ([] ⨾ sides-of (s .rules))
+  idle-system : (s : State) → s .waiting ≡ [] → system-of rank s ≡ ([] ⨾ sides-of (s .rules))
   unfolding together waiting-equations waiting-rules
   idle-system s w = rw w (ap (λ R. [] ⨾ R) (append-nil (sides-of (s .rules))))
 
-  module _ (s : State) (derived : Derivation rank Properly (given P) (system-of s)) (good : GoodRules P (s .rules)) where
+  module _ (s : State) (derived : Derivation rank Properly (given P) (system-of rank s)) (good : GoodRules P (s .rules)) where
     -- When all overlaps have one form, so has each input equation.
     never-found : s .waiting ≡ [] → OverlapsSame (s .rules) → (c : Candidate) → List·Memᴰ c (inputs P) → (f : Pair) → Forms (s .rules) (c .sides) f →
         f .left ≡ f .right
@@ -146,73 +119,81 @@ module _ (P : Problem) where
 
     -- and what a turn takes enters the equations, in its forms.
     abbrev taking : Taken → System
-    taking t = t .pair .sides ∷ waiting-equations (t .waiting) ⨾ sides-of (s .rules) ++ waiting-rules (t .waiting)
+    taking t = t .pair .sides ∷ waiting-equations rank (t .waiting) ⨾ sides-of (s .rules) ++ waiting-rules rank (t .waiting)
 
-    taken-derives : Postponed s → Every (FreeRemoved (s .rules)) (s .waiting) → (t : Taken) → Takes P s t →
-        Derivation rank Properly (system-of s) (taking t)
+    taken-derives : Postponed P s → Every (FreeRemoved rank (s .rules)) (s .waiting) → (t : Taken) → Takes P s t →
+        Derivation rank Properly (system-of rank s) (taking t)
     unfolding together
     taken-derives p free t h = go (h .source)
       where
-        go : Source P s (h .of) (t .waiting) → Derivation rank Properly (system-of s) (taking t)
+        go : Source P s (h .of) (t .waiting) → Derivation rank Properly (system-of rank s) (taking t)
         go (of-waiting e) =
-            subst (λ l. Derivation rank Properly (waiting-equations l ⨾ sides-of (s .rules) ++ waiting-rules l) (taking t)) (sym e)
-            (waiting-derives rank (s .rules) (t .waiting) (h .of) (t .pair .sides) (every-head (subst (Every (ReducesRemoved (s .rules))) e p))
-            (every-head (subst (Every (FreeRemoved (s .rules))) e free)) (h .forms))
+            subst (λ l. Derivation rank Properly (together rank (s .rules) l) (taking t)) (sym e)
+            (waiting-derives rank (s .rules) (t .waiting) (h .of) (t .pair .sides) (every-head (subst (Every (ReducesRemoved rank (s .rules))) e p))
+            (every-head (subst (Every (FreeRemoved rank (s .rules))) e free)) (h .forms))
         go (of-overlap at o z small e q) =
-            subst (λ l. Derivation rank Properly (waiting-equations l ⨾ sides-of (s .rules) ++ waiting-rules l) (taking t)) (q ∙ sym (z .idle))
-            (overlap-derives rank (s .rules) (sides-of (s .rules) ++ waiting-rules (t .waiting)) (λ l r i. Memᴰ·append-left _ i) at o (z .listed)
-            (z .is) (waiting-equations (t .waiting)) (t .pair .sides)
+            subst (λ l. Derivation rank Properly (together rank (s .rules) l) (taking t)) (q ∙ sym (z .idle))
+            (overlap-derives rank (s .rules) (sides-of (s .rules) ++ waiting-rules rank (t .waiting)) (λ l r i. Memᴰ·append-left _ i) at o (z .listed)
+            (z .is) (waiting-equations rank (t .waiting)) (t .pair .sides)
             (subst (λ (c : Candidate). Forms (s .rules) (c .sides) (t .pair .sides)) e (h .forms)))
         go (of-input w a i q) = absurd (never-taken t h w a i)
 
     -- step 3
-    settled-derives : (t : Taken) → t .pair .sides .left ≡ t .pair .sides .right → Derivation rank Properly (system-of s) (taking t) →
-        Derivation rank Properly (system-of s) (system-of (settled s t))
+    settled-derives : (t : Taken) → t .pair .sides .left ≡ t .pair .sides .right → Derivation rank Properly (system-of rank s) (taking t) →
+        Derivation rank Properly (system-of rank s) (system-of rank (settled s t))
     unfolding together settled
     settled-derives t q d =
-        let E : List Pair = waiting-equations (t .waiting) in
-        let R : List Pair = sides-of (s .rules) ++ waiting-rules (t .waiting) in
+        let E : List Pair = waiting-equations rank (t .waiting) in
+        let R : List Pair = sides-of (s .rules) ++ waiting-rules rank (t .waiting) in
         derives rank d (subst (λ z. Derivation rank Properly (pair (t .pair .sides .left) z ∷ E ⨾ R) (E ⨾ R)) q (by-one rank delete (none-more rank)))
 
-    -- steps 4 to 7
-    rule-derives : (t : Taken) → Derivation rank Properly (system-of s) (taking t) → (sides : Pair) → Oriented P (t .pair .sides) sides →
+    -- step 4, put back: the forms wait behind the others, renamed
+    back-derives : (t : Taken) → Derivation rank Properly (system-of rank s) (taking t) → NeitherAbove P (t .pair .sides) →
+        Derivation rank Properly (system-of rank s) (system-of rank (waits-again s t))
+    unfolding waits-again
+    back-derives t d n =
+        let E : List Pair = waiting-equations rank (t .waiting) in
+        let e : Pair = t .pair .sides in
+        let put : Every (IsEquation rank) (record { origin = t .pair .origin; sides = renamed e } ∷ []) = put-back-equation P (t .pair .origin) e n in
+        subst (Derivation rank Properly (system-of rank s)) (sym (equations-behind rank (s .rules) (t .waiting) _ put))
+        (derives rank d (written (also (rename-equation (renamed-variants e)) (reorder (exchanged (renamed e ∷ []) E) unmoved))))
+
+    -- steps 5 to 7
+    rule-derives : (t : Taken) → Derivation rank Properly (system-of rank s) (taking t) → (sides : Pair) → Oriented P (t .pair .sides) sides →
         (composed : List Rule) → Rights (new-rule s sides) (kept (new-rule s sides) (s .rules)) composed [] →
-        Derivation rank Properly (system-of s) (system-of (next-state s t sides (composed ++ (new-rule s sides ∷ []))))
-    unfolding together
+        Derivation rank Properly (system-of rank s) (system-of rank (next-state s t sides (composed ++ (new-rule s sides ∷ []))))
     rule-derives t d sides o composed r =
         let new : Rule = new-rule s sides in
-        let E : List Pair = waiting-equations (t .waiting) in
-        let W : List Pair = waiting-rules (t .waiting) in
-        let c : Derivation rank Properly (system-of s) (E ⨾ sides ∷ (sides-of (s .rules) ++ W)) =
+        let E : List Pair = waiting-equations rank (t .waiting) in
+        let W : List Pair = waiting-rules rank (t .waiting) in
+        let c : Derivation rank Properly (system-of rank s) (E ⨾ sides ∷ (sides-of (s .rules) ++ W)) =
         derives rank d (oriented-derives P E W (s .rules) (sides-of (s .rules) ++ W) (t .pair .sides) sides o) in
         let falls : Falls rank (sides ∷ (sides-of (s .rules) ++ W)) = derived-falls rank (derives rank derived c) in
-        let E-is : E ≡ waiting-equations (t .waiting ++ removed new (s .rules)) =
-        sym (equations-append (t .waiting) (removed new (s .rules)) ∙ ap (λ l. E ++ l) (removed-no-equation new (s .rules)) ∙ append-nil E) in
-        let W-is : W ++ waiting-rules (removed new (s .rules)) ≡ waiting-rules (t .waiting ++ removed new (s .rules)) =
-        sym (rules-append (t .waiting) (removed new (s .rules))) in
-        subst₂ (λ a b. Derivation rank Properly (system-of s) (a ⨾ sides-of (composed ++ (new ∷ [])) ++ b)) E-is W-is
+        let rules : Every (IsRule rank) (removed new (s .rules)) = removed-every new (λ old q. removed-still rank old (q .down)) good in
+        subst (Derivation rank Properly (system-of rank s)) (sym (rules-behind rank (composed ++ (new ∷ [])) (t .waiting) (removed new (s .rules)) rules))
         (derives rank c (made-derives P E W (s .rules) new composed falls r))
 
-    next-derives : Postponed s → Every (FreeRemoved (s .rules)) (s .waiting) → (s′ : State) → Next P s s′ →
-        Derivation rank Properly (system-of s) (system-of s′)
+    next-derives : Postponed P s → Every (FreeRemoved rank (s .rules)) (s .waiting) → (s′ : State) → Next P s s′ →
+        Derivation rank Properly (system-of rank s) (system-of rank s′)
     next-derives p free s′ (settles t h room q e) = rw e (settled-derives t q (taken-derives p free t h))
     next-derives p free s′ (makes t h room n few sides o live composed r e) = rw e (rule-derives t (taken-derives p free t h) sides o composed r)
+    next-derives p free s′ (puts-back t h room d few n may e) = rw e (back-derives t (taken-derives p free t h) n)
 
   -- Every state of a run is derived from the input equations,
-  pub reachable-derived : {s : State} {left : ℕ} → Reachable P s left → Derivation rank Properly (given P) (system-of s)
+  pub reachable-derived : {s : State} {left : ℕ} → Reachable P s left → Derivation rank Properly (given P) (system-of rank s)
   reachable-derived (from-start e b) = rw e initial-derived
   reachable-derived (by-turn {s} {s′} {left} {left′} r e) =
-      let d : Derivation rank Properly (given P) (system-of s) = reachable-derived r in
+      let d : Derivation rank Properly (given P) (system-of rank s) = reachable-derived r in
       derives rank d (next-derives s d (reachable-good P r) (reachable-postponed P r) (reachable-free P r) s′ (turn-next P s s′ left left′ e))
 
   -- each turn that goes on by transitions from the state before it,
   pub turn-derives : {s : State} {left : ℕ} → Reachable P s left → (s′ : State) (left′ : ℕ) → turn P s left ≡ done s′ left′ →
-      Derivation rank Properly (system-of s) (system-of s′)
+      Derivation rank Properly (system-of rank s) (system-of rank s′)
   turn-derives {s} {left} r s′ left′ e =
       next-derives s (reachable-derived r) (reachable-good P r) (reachable-postponed P r) (reachable-free P r) s′ (turn-next P s s′ left left′ e)
 
   -- and so is what the run leaves; with end 0, as rules without an equation.
-  pub run-derived : Derivation rank Properly (given P) (system-of (run P .state))
+  pub run-derived : Derivation rank Properly (given P) (system-of rank (run P .state))
   run-derived = reachable-derived (run-stops P .reachable)
 
   pub complete-derived : run P .end ≡ complete → Derivation rank Properly (given P) ([] ⨾ sides-of (run P .state .rules))

@@ -69,6 +69,7 @@ module _ (P : Problem) where
         oriented = λ e q few a. oriented-renamed (rank-of (P .symbols)) e a;
         composed = composed-renamed;
         put-off = λ e q. q .unchanged;
+        put-again = λ e q few. renamed-again e;
       }
 
   -- Every state of a run.

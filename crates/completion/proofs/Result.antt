@@ -1,24 +1,23 @@
--- The result: at most 13,715 bytes, each below 256, and every field's length below 256. Assumes nothing.
+-- The result: at most 13,726 bytes, each below 256, and every field's length below 256. Assumes nothing.
 -- Read first: specs/Calls, proofs/Widths, proofs/Kept.
 use mathlib.Core.Path.{_≡_, refl, ap, _∙_}
 use mathlib.Core.List.{List, [], _∷_, _++_, map, flatMap}
-use Prim.Native.Nat.{ℕ, _+_, _*_, _≤_, _<_}
+use Prim.Native.Nat.{ℕ, _+_, _*_, _≤_}
 use native.Mathlib.Omega.{arith}
 use lib.ListN.{length, length-append}
+use Rattle.limits.specs.Limits.{most-result}
 use Rattle.terms.proofs.Lists.{flatMap-append}
 use Rattle.terms.specs.Base.{number-bytes, Field, field-bytes, Every, of-none, of-cons}
-use Rattle.terms.specs.Term.{Pair, renamed}
+use Rattle.terms.specs.Term.{Pair}
 use Rattle.terms.proofs.Limits.{Bytes, number-bytes-bytes, length-number-bytes}
 use Rattle.terms.proofs.Every.{every-head, every-tail, every-one, every-append, every-map, every-mapped, every-of}
 use Rattle.rewriting.specs.Overlap.{Rule}
 use Rattle.rewriting.specs.Rewrite.{End, complete, neither-above, spent, too-large, rules-full, log-full, end-number}
 use Rattle.problem.specs.Problem.{Problem}
-use Rattle.completion.specs.Turn.{Entry, run}
-use Rattle.completion.specs.Calls.{pair-bytes, rule-field, entry-field, forms-field, result-fields, result-bytes}
-use Rattle.completion.proofs.Limits.{HeldPair, RuleFits, Limits, Accepted, renamed-held}
-use Rattle.completion.proofs.Ends.{Neither}
-use Rattle.completion.proofs.Stopped.{run-neither}
-use Rattle.completion.proofs.Kept.{run-limits, neither-fits}
+use Rattle.completion.specs.Turn.{Candidate, Entry, run}
+use Rattle.completion.specs.Calls.{pair-bytes, rule-field, entry-field, oldest-field, forms-field, result-fields, result-bytes}
+use Rattle.completion.proofs.Limits.{HeldPair, CandidateFits, RuleFits, Limits, Accepted}
+use Rattle.completion.proofs.Kept.{run-limits}
 use Rattle.completion.proofs.Widths.{FieldFits, flat, flat-bytes, flat-cons, pair-bytes-length, pair-bytes-fit, rule-field-fits, entry-length}
 use Rattle.completion.proofs.Widths.{entry-field-fits}
 
@@ -42,35 +41,38 @@ entries-length (e ∷ log) =
     let k = entries-length log in
     omega (arith, flat-cons (entry-field e) (map entry-field log), entry-length e)
 
--- what is left of the room behind the log, and the two normal forms with end 20
+-- what is left of the room behind the log, and the oldest one waiting with end 20
 record FormsFit (log : ℕ) (fs : List Field) : Type 0 where
   fit : Every (FieldFits 242) fs
-  room : length (flat fs) + 11 * log ≤ 5864
+  room : length (flat fs) + 11 * log ≤ 5875
 
 no-forms : (log : ℕ) → log ≤ 512 → FormsFit log []
 no-forms log l = record { fit = of-none; room = unfold flatMap in omega arith }
 
-one-forms : (n log : ℕ) (e : Pair) → n ≤ 16 → log < 512 → HeldPair n 16 (renamed e) →
-    FormsFit log (record { tag = 0x14; contents = pair-bytes (renamed e) } ∷ [])
+one-forms : (n log : ℕ) (e : Pair) → n ≤ 16 → log ≤ 512 → HeldPair n 16 e → FormsFit log (record { tag = 0x14; contents = pair-bytes e } ∷ [])
 one-forms n log e l m h =
-    let c : length (pair-bytes (renamed e)) ≤ 240 = omega (arith, pair-bytes-length (renamed e), h .left .small, h .right .small) in
+    let c : length (pair-bytes e) ≤ 240 = omega (arith, pair-bytes-length e, h .left .small, h .right .small) in
     record {
-      fit = every-one (record { tag-fits = omega arith; contents-fit = pair-bytes-fit n l (renamed e) h; length-fits = omega arith });
-      room = let z : length (flat []) ≡ 0 = unfold flatMap in refl in omega (arith, flat-cons (record { tag = 0x14; contents = pair-bytes (renamed e) }) []);
+      fit = every-one (record { tag-fits = omega arith; contents-fit = pair-bytes-fit n l e h; length-fits = omega arith });
+      room = let z : length (flat []) ≡ 0 = unfold flatMap in refl in omega (arith, flat-cons (record { tag = 0x14; contents = pair-bytes e }) []);
     }
 
+oldest-fits : (n made log : ℕ) (waiting : List Candidate) → n ≤ 16 → log ≤ 512 → Every (CandidateFits n 16 made) waiting → FormsFit log (oldest-field waiting)
+unfolding oldest-field
+oldest-fits n made log [] l m h = no-forms log m
+oldest-fits n made log (oldest ∷ waiting) l m h = one-forms n log (oldest .sides) l m (every-head h .fits)
+
 module _ (P : Problem) (a : Accepted P) where
-  forms-fit : (end : End) → run P .end ≡ end → FormsFit (length (run P .state .log)) (forms-field end)
+  forms-fit : (end : End) → FormsFit (length (run P .state .log)) (forms-field end (run P .state .waiting))
   unfolding forms-field
-  forms-fit complete q = no-forms _ (run-limits P a .log-few)
-  forms-fit neither-above q =
-      let h : Neither P (run P .state) e = run-neither P e q in
-      one-forms (length (P .symbols)) (length (run P .state .log)) e (a .symbols-few) (h .room)
-      (renamed-held (length (P .symbols)) 32 16 e (h .few) (neither-fits P a e h))
-  forms-fit spent q = no-forms _ (run-limits P a .log-few)
-  forms-fit too-large q = no-forms _ (run-limits P a .log-few)
-  forms-fit rules-full q = no-forms _ (run-limits P a .log-few)
-  forms-fit log-full q = no-forms _ (run-limits P a .log-few)
+  forms-fit complete = no-forms _ (run-limits P a .log-few)
+  forms-fit neither-above =
+      oldest-fits (length (P .symbols)) (run P .state .made) (length (run P .state .log)) (run P .state .waiting) (a .symbols-few)
+      (run-limits P a .log-few) (run-limits P a .waiting-fit)
+  forms-fit spent = no-forms _ (run-limits P a .log-few)
+  forms-fit too-large = no-forms _ (run-limits P a .log-few)
+  forms-fit rules-full = no-forms _ (run-limits P a .log-few)
+  forms-fit log-full = no-forms _ (run-limits P a .log-few)
 
   pub fields-fit : Every (FieldFits 242) (result-fields (run P))
   unfolding result-fields
@@ -88,20 +90,20 @@ module _ (P : Problem) (a : Accepted P) where
       (every-append
       (rules-fit (length (P .symbols)) (run P .state .made) (a .symbols-few) (run P .state .rules) (run-limits P a .rules-fit))
       (entries-fit (run P .state .log)))
-      (forms-fit (run P .end) refl .fit)))
+      (forms-fit (run P .end) .fit)))
 
   -- every byte of the result is one
   pub result-is-bytes : Bytes (result-bytes (run P))
   unfolding result-bytes
   result-is-bytes = flat-bytes 242 (result-fields (run P)) fields-fit
 
-  -- 4 for the end, 7 for the units, 245 a rule, 11 an entry, 243 for two normal forms, which come with at most 511 entries
-  pub result-length : length (result-bytes (run P)) ≤ 13_715
+  -- 4 for the end, 7 for the units, 245 a rule, 11 an entry, 243 for the oldest one waiting
+  pub result-length : length (result-bytes (run P)) ≤ most-result
   unfolding result-bytes result-fields
   result-length =
       let rules : List Field = map rule-field (run P .state .rules) in
       let log : List Field = map entry-field (run P .state .log) in
-      let forms : List Field = forms-field (run P .end) in
+      let forms : List Field = forms-field (run P .end) (run P .state .waiting) in
       let lim : Limits (length (P .symbols)) (run P .state) = run-limits P a in
       let c1 = flat-cons (record { tag = 0x10; contents = number-bytes 1 (end-number (run P .end)) })
       (record { tag = 0x11; contents = number-bytes 4 (run P .units) } ∷ (rules ++ log ++ forms)) in
@@ -111,6 +113,6 @@ module _ (P : Problem) (a : Accepted P) where
       let r : length (flat rules) ≤ 245 * length (run P .state .rules) =
       rules-length (run P .state .rules) (rules-fit (length (P .symbols)) (run P .state .made) (a .symbols-few) (run P .state .rules) (lim .rules-fit)) in
       let l : length (flat log) ≡ 11 * length (run P .state .log) = entries-length (run P .state .log) in
-      let f : length (flat forms) + 11 * length (run P .state .log) ≤ 5864 = forms-fit (run P .end) refl .room in
+      let f : length (flat forms) + 11 * length (run P .state .log) ≤ 5875 = forms-fit (run P .end) .room in
       let live : length (run P .state .rules) ≤ 32 = lim .live in
       omega (arith, length-number-bytes 1 (end-number (run P .end)), length-number-bytes 4 (run P .units))

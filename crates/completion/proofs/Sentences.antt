@@ -12,7 +12,7 @@ use lib.Dec.{leb}
 use lib.ListN.{length}
 use borrow.Author.Tests.{le-leb, lt-leb, lt-ltb, le-ltb}
 use Rattle.terms.specs.Base.{if_then_else_}
-use Rattle.terms.specs.Term.{Pair, same, pair-variables, renamed}
+use Rattle.terms.specs.Term.{Pair, same, pair-variables}
 use Rattle.order.specs.Order.{above}
 use Rattle.rewriting.specs.Overlap.{Rule}
 use Rattle.rewriting.specs.Rewrite.{End, neither-above, spent, too-large, rules-full, log-full, Paid, done, stop, return, end-with}
@@ -45,6 +45,19 @@ scan-takes-input rules c cs forms units left h d = rw (h, d) refl
 abbrev pub taking : Problem → State → Paying Taken
 taking P s = end-if-all-put-back (s .waiting) (s .put-back) >>= λ _. take-pair P (s .rules) (s .waiting)
 
+-- Where none waits, or fewer were put back than wait, a pair is taken;
+abbrev pub MayTake : State → Type 0
+MayTake s = (length (s .waiting) ≡ 0) ⊎ (s .put-back < length (s .waiting))
+
+pub taking-on : (P : Problem) (s : State) (units : ℕ) → MayTake s → taking P s units ≡ take-pair P (s .rules) (s .waiting) units
+unfolding _>>=_
+taking-on P s units h = ap (λ p. and-then p (λ _. take-pair P (s .rules) (s .waiting))) (go (s .waiting) h) ∙ unfold and-then in refl
+  where
+    go : (cs : List Candidate) → (length cs ≡ 0) ⊎ (s .put-back < length cs) → end-if-all-put-back cs (s .put-back) units ≡ done tt units
+    go [] h = unfold end-if-all-put-back return in refl
+    go (c ∷ cs) (inl h) = absurd (omega arith)
+    go (c ∷ cs) (inr h) = unfold end-if-all-put-back end-if return in rw (lt-leb (suc (length cs)) (s .put-back) h) refl
+
 -- "End 20 is given .. when some equation waits and every one waiting has been put back": as many as wait. "This is tested at the start of the next
 -- turn, after its unit is paid."
 pub record AllPutBack (s : State) : Type 0 where
@@ -57,22 +70,7 @@ taking-ends P s units h = ap (λ p. and-then p (λ _. take-pair P (s .rules) (s 
   where
     go : (cs : List Candidate) → 0 < length cs → length cs ≤ s .put-back → end-if-all-put-back cs (s .put-back) units ≡ stop neither-above units
     go [] h k = absurd (omega arith)
-    go (c ∷ cs) h k =
-        unfold end-if-all-put-back end-if end-with in ap (λ b. end-if b neither-above units) (le-leb (suc (length cs)) (s .put-back) k)
-
--- else a pair is taken: none waits, or fewer were put back than wait
-abbrev pub MayTake : State → Type 0
-MayTake s = (length (s .waiting) ≡ 0) ⊎ (s .put-back < length (s .waiting))
-
-pub taking-on : (P : Problem) (s : State) (units : ℕ) → MayTake s → taking P s units ≡ take-pair P (s .rules) (s .waiting) units
-unfolding _>>=_
-taking-on P s units h = ap (λ p. and-then p (λ _. take-pair P (s .rules) (s .waiting))) (go (s .waiting) h) ∙ unfold and-then in refl
-  where
-    go : (cs : List Candidate) → (length cs ≡ 0) ⊎ (s .put-back < length cs) → end-if-all-put-back cs (s .put-back) units ≡ done tt units
-    go [] h = unfold end-if-all-put-back return in refl
-    go (c ∷ cs) (inl h) = absurd (omega arith)
-    go (c ∷ cs) (inr h) =
-        unfold end-if-all-put-back end-if return in ap (λ b. end-if b neither-above units) (lt-leb (suc (length cs)) (s .put-back) h)
+    go (c ∷ cs) h k = unfold end-if-all-put-back end-if end-with in rw (le-leb (suc (length cs)) (s .put-back) k) refl
 
 -- the rest of a turn
 abbrev pub behind-taking : Problem → State → Taken → Paying State
@@ -156,9 +154,8 @@ module _ (P : Problem) (s : State) (t : Taken) (units : ℕ) where
 -- what joins the waiting list joins it behind those that wait, so that the oldest is taken first: 6. "its two sides join the waiting list"; 4. "goes to
 -- the end of the waiting list"
 oriented-waits : (s : State) (t : Taken) (o : Option Pair) → Pays (λ (s′ : State). Behind (t .waiting) (s′ .waiting)) AnyEnd (if-oriented s t o)
-unfolding if-oriented
-oriented-waits s t none =
-    return-holds _ (record { others = record { origin = t .pair .origin; sides = renamed (t .pair .sides) } ∷ []; in-front = unfold waits-again in refl })
+unfolding if-oriented waits-again
+oriented-waits s t none = return-holds _ (record { others = _; in-front = refl })
 oriented-waits s t (some sides) =
     bind-holds _ _ (anything _) λ _ _.
     bind-holds _ _ (anything _) λ rules _.

@@ -52,7 +52,7 @@ return-steady a left k more e = ap (done a) e
 end-steady : (A : Type 0) (e : End) → Other e → Steady (end-with {A = A} e)
 unfolding end-with
 end-steady A complete o left k more e = ap (stop complete) e
-end-steady A neither-above o left k more e = ap (stop (neither-above p)) e
+end-steady A neither-above o left k more e = ap (stop neither-above) e
 end-steady A spent o left k more e = absurd o
 end-steady A too-large o left k more e = ap (stop too-large) e
 end-steady A rules-full o left k more e = ap (stop rules-full) e

@@ -147,7 +147,8 @@ module _ (P : Problem) (s : State) where
 
   module _ (may : MayTake s) (t : Taken) (h : Takes P s t) (room : length (s .log) < 512)
       (d : same (t .pair .sides .left) (t .pair .sides .right) ≡ false) where
-    oriented-traced : length (pair-variables (t .pair .sides)) ≤ 16 → (o : Option Pair) → OrientedAs P (t .pair .sides) o → Pays (Next P s) E (if-oriented s t o)
+    oriented-traced : length (pair-variables (t .pair .sides)) ≤ 16 → (o : Option Pair) → OrientedAs P (t .pair .sides) o →
+        Pays (Next P s) E (if-oriented s t o)
     unfolding if-oriented Because
     oriented-traced few none o = return-holds _ (puts-back t h room d few o may refl)
     oriented-traced few (some sides) o =
