@@ -1,7 +1,8 @@
 //! Fields, written and taken apart, and the fields of a result.
 
-use crate::run::{End, Entry, Origin, Outcome};
+use crate::run::{End, Entry, Outcome, PUT_BACK};
 use crate::term::Term;
+use crate::waiting::Origin;
 
 /// The tag of the end.
 pub const TAG_END: u8 = 0x10;
@@ -11,7 +12,7 @@ pub const TAG_UNITS: u8 = 0x11;
 pub const TAG_RULE: u8 = 0x12;
 /// The tag of a log entry.
 pub const TAG_ENTRY: u8 = 0x13;
-/// The tag of the two forms that could not be oriented.
+/// The tag of the equation shown with end 20.
 pub const TAG_PAIR: u8 = 0x14;
 /// The tag of a common instance.
 pub const TAG_INSTANCE: u8 = 0x15;
@@ -32,6 +33,13 @@ pub fn split_fields(mut bytes: &[u8]) -> impl Iterator<Item = (u8, &[u8])> {
         bytes = next;
         Some((tag, contents))
     })
+}
+
+/// The entries of a result whose pair was put back: kind, numbers, position.
+pub fn put_back_entries(result: &[u8]) -> impl Iterator<Item = &[u8]> {
+    let entries = split_fields(result).filter(|(tag, _)| *tag == TAG_ENTRY);
+    let put_back = entries.map(|(_, entry)| entry.strip_suffix(&PUT_BACK.to_be_bytes()));
+    put_back.flatten()
 }
 
 /// The result bytes of a run.
@@ -79,7 +87,7 @@ fn entry_bytes(entry: &Entry) -> [u8; 8] {
     };
     let [first_high, first_low] = first.to_be_bytes();
     let [second_high, second_low] = u16::to_be_bytes(second);
-    let [made_high, made_low] = entry.made.to_be_bytes();
+    let [made_high, made_low] = entry.made.number().to_be_bytes();
     [
         kind,
         first_high,

@@ -4,10 +4,11 @@
 //! The answers are written out, so that every engine can be held to them.
 
 use crate::calls::{CompareAnswer, UnifyAnswer};
-use crate::fields::{split_fields, TAG_RULE};
+use crate::fields::{split_fields, TAG_ENTRY, TAG_PAIR, TAG_RULE};
 use crate::notation::Theory;
 use crate::order::Order;
 use crate::problem::Refusal;
+use crate::put_back;
 use crate::theories::{self, power, GROUP, PAPERS};
 use std::ops::Range;
 
@@ -34,35 +35,65 @@ pub struct Ended {
     pub rules: usize,
     /// Rules that must be among them, both sides in one byte string.
     pub printed: Vec<Vec<u8>>,
+    /// The whole log and field 14, where they are given.
+    pub logged: Option<Logged>,
+}
+
+/// The entries of a result, and its field 14.
+#[derive(Clone, Debug, Default, PartialEq, Eq)]
+pub struct Logged {
+    pub entries: Vec<Vec<u8>>,
+    pub pair: Option<Vec<u8>>,
+}
+
+impl Logged {
+    fn fits(&self, result: &[u8]) -> bool {
+        contents(result, TAG_ENTRY).eq(&self.entries) && contents(result, TAG_PAIR).eq(&self.pair)
+    }
+}
+
+/// The contents of a result's fields of a tag.
+fn contents(result: &[u8], tag: u8) -> impl Iterator<Item = &[u8]> {
+    let fields = split_fields(result).filter(move |(found, _)| *found == tag);
+    fields.map(|(_, contents)| contents)
 }
 
 impl Ended {
     pub(crate) fn new(end: u8, units: u32, rules: usize) -> Ended {
-        let printed = Vec::new();
         Ended {
             end,
             units,
             rules,
-            printed,
+            printed: Vec::new(),
+            logged: None,
         }
     }
 
     /// End 0 with these rules and no others.
-    fn complete(units: u32, printed: &[Vec<u8>]) -> Ended {
+    pub(crate) fn complete(units: u32, printed: &[Vec<u8>]) -> Ended {
         Ended {
             printed: printed.to_vec(),
             ..Ended::new(0, units, printed.len())
         }
     }
 
+    /// The same with this log and this field 14.
+    pub(crate) fn with_log(self, entries: Vec<Vec<u8>>, pair: Option<Vec<u8>>) -> Ended {
+        Ended {
+            logged: Some(Logged { entries, pair }),
+            ..self
+        }
+    }
+
     /// Whether a result holds this.
     pub fn fits(&self, result: &[u8]) -> bool {
-        let rules = split_fields(result).filter(|(tag, _)| *tag == TAG_RULE);
-        let sides: Vec<&[u8]> = rules.map(|(_, contents)| &contents[2..]).collect();
+        let rules = contents(result, TAG_RULE);
+        let sides: Vec<&[u8]> = rules.map(|contents| &contents[2..]).collect();
         result[3] == self.end
             && result[7..11] == self.units.to_be_bytes()
             && sides.len() == self.rules
             && self.printed.iter().all(|rule| sides.contains(&&rule[..]))
+            && self.logged.iter().all(|logged| logged.fits(result))
     }
 }
 
@@ -73,6 +104,7 @@ pub fn cases() -> Vec<Case> {
     list.extend(terms_of_runs());
     list.extend(instances());
     list.extend(equal_ranks());
+    list.extend(put_back::cases());
     list.extend(counts());
     list.extend(budgets());
     list.push(refused("empty problem", Vec::new(), 4, 0));
@@ -101,8 +133,8 @@ fn run(name: &str, theory: &Theory, ended: Ended, second: usize) -> Case {
     }
 }
 
-/// One equation over the symbols of groups, with the nodes of its left side.
-fn single(
+/// One equation over three symbols, with the nodes of its left side.
+pub(crate) fn single(
     name: &str,
     theory: &Theory,
     ended: Ended,
@@ -131,7 +163,7 @@ fn papers() -> Vec<Case> {
     let expected = [
         (Ended::complete(86, &fragment), 23),
         (Ended::complete(51, &fragment), 23),
-        (Ended::new(20, 1101, 21), 23),
+        (Ended::new(20, 1102, 21), 23),
         (Ended::complete(126, &group), 23),
         (Ended::complete(55, &arithmetic), 27),
         (Ended::complete(37, &arithmetic), 27),
@@ -180,7 +212,7 @@ fn instances() -> Vec<Case> {
         let (left, right) = (power("i", n, "x"), power("i", 58, "e"));
         Theory::new(GROUP).equation(&format!("*({left},x) = *(y,{right})"))
     };
-    let ended = || Ended::new(20, 1, 0);
+    let ended = || Ended::new(20, 2, 0);
     let written = (Order::Neither, UnifyAnswer::Written(123));
     let large = (Order::Neither, UnifyAnswer::TooLarge);
     vec![
@@ -195,7 +227,7 @@ fn equal_ranks() -> Vec<Case> {
     let (equal, higher) = (theories::difference(1), theories::difference(2));
     let rules = theories::arithmetic_rules().sides(&[1, 2, 3, 4, 5, 6, 9, 10]);
     let delivered = Ended::complete(55, &rules);
-    let (stuck, made) = (|| Ended::new(20, 1, 0), || Ended::new(0, 3, 1));
+    let (stuck, made) = (|| Ended::new(20, 2, 0), || Ended::new(0, 3, 1));
     let neither = (Order::Neither, UnifyAnswer::None);
     let above = (Order::LeftAbove, UnifyAnswer::None);
     let (first, third) = (one("f(g(x)) = g(x)"), one("f(f(x)) = g(x)"));

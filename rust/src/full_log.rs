@@ -15,13 +15,27 @@ pub fn settled(length: usize, padding: usize) -> Theory {
     padded(after_descents(&[length; 3], "", &[]), padding)
 }
 
-/// An equation with neither side above.
+/// An equation with neither side above; a removed rule that is settled waits
+/// behind it.
 pub fn neither_above(length: usize, padding: usize) -> Theory {
     let equations = ["k(P2(b),y,z) = m(y,z)", "k(a,y,z) = m(z,y)"];
     padded(
         after_descents(&[length; 3], "b/0 m/2 k/3", &equations),
         padding,
     )
+}
+
+/// Two equations with neither side above; a removed rule that is settled
+/// waits behind them.
+pub fn two_put_back(length: usize, padding: usize) -> Theory {
+    let equations = [
+        "k(P2(b),y,z) = m(y,z)",
+        "k(a,y,z) = m(z,y)",
+        "n(P2(b),y,z) = m(y,m(z,y))",
+        "n(a,y,z) = m(z,m(y,z))",
+    ];
+    let theory = after_descents(&[length; 3], "b/0 m/2 k/3 n/3", &equations);
+    padded(theory, padding)
 }
 
 /// A pair whose left side grows to 132 nodes.

@@ -22,6 +22,7 @@ pub mod order;
 pub mod overlap;
 pub mod pairs;
 pub mod problem;
+pub mod put_back;
 pub mod questions;
 pub mod record;
 pub mod rules;
@@ -30,6 +31,7 @@ pub mod settle;
 pub mod term;
 pub mod theories;
 pub mod unification;
+pub mod waiting;
 
 pub use calls::{compare, complete, subterm, unify};
 pub use calls::{CompareAnswer, CompleteAnswer, UnifyAnswer};

@@ -272,6 +272,7 @@ fn entries() -> Vec<Case> {
         ask("512 entries", &ENTRY, 512, SAME),
         ask("513 entries", &ENTRY, 513, refused(13, 5652)),
         ask("only the kind is read", &other_kind, 2, SAME),
+        ask("put back", &[1, 0, 1, 0, 0, 0, 0xff, 0xff], 1, SAME),
         ask("kind 0", &[0; 8], 1, refused(13, 20)),
         ask("kind 5", &[5; 8], 1, refused(13, 20)),
         ask("entry of 7", &[1; 7], 1, refused(13, 20)),

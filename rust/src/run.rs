@@ -2,8 +2,8 @@
 //!
 //! A turn takes an equation (waiting, or from the scan), orients its normal
 //! forms into a rule, collapses older left sides and composes older right
-//! sides. Its changes are kept only when the whole turn succeeds; units stay
-//! paid either way.
+//! sides; or it puts the forms back to wait, if neither is above. Its changes
+//! are kept only when the whole turn succeeds; units stay paid either way.
 
 use crate::matching::matches_somewhere;
 use crate::normalise::{normalise, Stop, Units};
@@ -13,48 +13,54 @@ use crate::problem::{Problem, Signature};
 use crate::rules::{Rule, RuleSet};
 use crate::term::{rename_pair, Term};
 use crate::unification::Unifier;
+use crate::waiting::{Equation, Origin, Waiting};
 use crate::{MAX_LOG, MAX_NODES, MAX_RULES, MAX_VARIABLES};
-use std::collections::VecDeque;
 use std::rc::Rc;
 
 /// The end of a run that is complete.
 pub const END_COMPLETE: u8 = 0;
-/// The end at a pair with neither side above the other.
+/// The end where every equation that waits was put back.
 pub const END_UNORIENTABLE: u8 = 20;
 /// All ends.
 pub const ENDS: [u8; 6] = [END_COMPLETE, END_UNORIENTABLE, 21, 22, 23, 24];
 
-/// Where a taken equation comes from.
+/// The rule made, in the log entry of a pair that was put back.
+pub const PUT_BACK: u16 = 0xffff;
+
+/// What became of a taken pair.
 #[derive(Clone, Copy, Debug, PartialEq, Eq)]
-pub enum Origin {
-    WaitingInput {
-        equation: u16,
-    },
-    WaitingRule {
-        rule: u16,
-    },
-    ScannedInput {
-        equation: u16,
-    },
-    Overlap {
-        inner: u16,
-        outer: u16,
-        position: u8,
-    },
+pub enum Made {
+    /// Its two normal forms were equal.
+    Settled,
+    /// The rule of this number.
+    Rule(u16),
+    /// Neither form was above: they wait.
+    PutBack,
 }
 
-/// A log entry: what was taken and the rule made of it, 0 if settled.
+impl Made {
+    /// The rule made as a log entry has it.
+    pub fn number(self) -> u16 {
+        match self {
+            Made::Settled => 0,
+            Made::Rule(number) => number,
+            Made::PutBack => PUT_BACK,
+        }
+    }
+}
+
+/// A log entry: where a taken pair came from and what became of it.
 #[derive(Clone, Copy, Debug, PartialEq, Eq)]
 pub struct Entry {
     pub origin: Origin,
-    pub made: u16,
+    pub made: Made,
 }
 
 /// How a run ends.
 #[derive(Clone, Debug, PartialEq, Eq)]
 pub enum End {
     Complete,
-    /// The two normal forms, renamed as a pair.
+    /// The two sides of the oldest equation waiting, as it is held.
     Unorientable(Term, Term),
     Stopped(Stop),
 }
@@ -102,19 +108,11 @@ pub fn run(problem: &Problem) -> Outcome {
     }
 }
 
-/// A pair of terms and where it comes from.
-#[derive(Clone, Debug)]
-struct Equation {
-    left: Term,
-    right: Term,
-    origin: Origin,
-}
-
 struct State<'p> {
     signature: &'p Signature,
     inputs: &'p [(Term, Term)],
     rules: RuleSet,
-    waiting: VecDeque<Equation>,
+    waiting: Waiting,
     log: Vec<Entry>,
     units: Units,
     /// Number of the next rule.
@@ -124,16 +122,11 @@ struct State<'p> {
 
 impl<'p> State<'p> {
     fn new(signature: &'p Signature, budget: u32, inputs: &'p [(Term, Term)]) -> State<'p> {
-        let waiting = (1..).zip(inputs).map(|(equation, (left, right))| Equation {
-            left: left.clone(),
-            right: right.clone(),
-            origin: Origin::WaitingInput { equation },
-        });
         State {
             signature,
             inputs,
             rules: RuleSet::default(),
-            waiting: waiting.collect(),
+            waiting: Waiting::new(inputs),
             log: Vec::new(),
             units: Units::new(budget),
             next: 1,
@@ -144,26 +137,38 @@ impl<'p> State<'p> {
     /// One turn.
     fn turn(&mut self) -> Result<(), End> {
         self.units.pay()?;
+        if let Some(oldest) = self.waiting.stuck() {
+            let (left, right) = (oldest.left.clone(), oldest.right.clone());
+            return Err(End::Unorientable(left, right));
+        }
         let taken = self.take()?;
         if self.log.len() == MAX_LOG {
             return Err(Stop::LogFull.into());
         }
-        let made = if taken.left == taken.right {
-            0
-        } else {
-            let (left, right) = self.orient(&taken)?;
-            self.add_rule(left, right)?
-        };
-        self.log.push(Entry {
-            origin: taken.origin,
-            made,
-        });
+        let origin = taken.origin;
+        let made = self.dispose(taken)?;
+        self.log.push(Entry { origin, made });
         Ok(())
+    }
+
+    /// Settles the taken pair, makes a rule of it or puts it back.
+    fn dispose(&mut self, taken: Equation) -> Result<Made, Stop> {
+        if taken.left == taken.right {
+            self.waiting.changed();
+            return Ok(Made::Settled);
+        }
+        match self.orient(&taken)? {
+            Some((left, right)) => self.add_rule(left, right).map(Made::Rule),
+            None => {
+                self.waiting.put_back(taken);
+                Ok(Made::PutBack)
+            }
+        }
     }
 
     /// The pair of normal forms the turn is about.
     fn take(&mut self) -> Result<Equation, End> {
-        if let Some(waiting) = self.waiting.pop_front() {
+        if let Some(waiting) = self.waiting.take() {
             let (left, right) = self.normal_forms(&waiting.left, &waiting.right)?;
             let origin = waiting.origin;
             return Ok(Equation {
@@ -232,21 +237,18 @@ impl<'p> State<'p> {
         Ok(None)
     }
 
-    /// The pair with its upper side first, renamed.
-    fn orient(&self, taken: &Equation) -> Result<(Term, Term), End> {
+    /// The pair with its upper side first, renamed; none if neither is above.
+    fn orient(&self, taken: &Equation) -> Result<Option<(Term, Term)>, Stop> {
         let (left, right) = (&taken.left, &taken.right);
         let variables = left.variables() | right.variables();
         if variables.count_ones() > MAX_VARIABLES {
-            return Err(Stop::Size.into());
+            return Err(Stop::Size);
         }
-        match compare(left, right, self.signature) {
-            Order::LeftAbove => Ok(rename_pair(left, right)),
-            Order::RightAbove => Ok(rename_pair(right, left)),
-            Order::Identical | Order::Neither => {
-                let (left, right) = rename_pair(left, right);
-                Err(End::Unorientable(left, right))
-            }
-        }
+        Ok(match compare(left, right, self.signature) {
+            Order::LeftAbove => Some(rename_pair(left, right)),
+            Order::RightAbove => Some(rename_pair(right, left)),
+            Order::Identical | Order::Neither => None,
+        })
     }
 
     /// Adds a rule: collapses, then composes, then keeps the new state.
@@ -261,11 +263,8 @@ impl<'p> State<'p> {
         }
         let rules = self.compose(RuleSet::new(live))?;
         self.rules = rules;
-        self.waiting.extend(removed.iter().map(|rule| Equation {
-            left: rule.left.clone(),
-            right: rule.right.clone(),
-            origin: Origin::WaitingRule { rule: rule.number },
-        }));
+        self.waiting.join(&removed);
+        self.waiting.changed();
         self.next += 1;
         Ok(number)
     }

@@ -136,12 +136,19 @@ pub fn endless_rules() -> Theory {
 /// At most six outer rules times inner rules: each pair of them overlaps
 /// and makes one rule more, (outer + 1)(inner + 1) - 1 in all.
 pub fn products(outer: usize, inner: usize) -> Theory {
+    with_products(outer, inner, "", &[])
+}
+
+/// Products with further symbols, "m/2 k/3", ranked above the others as they
+/// are named, and equations. The last rule that an overlap makes is
+/// B(u,t^n(0)) = e(u,s^n(0)), n inner rules and B the last outer symbol.
+pub fn with_products(outer: usize, inner: usize, symbols: &str, equations: &[&str]) -> Theory {
+    let lower = ["0/0", "s/1", "t/1", "b/1", "e/2"];
     let names = ["A", "B", "C", "D", "E", "F"];
-    let mut signature = "0/0/0 s/1/1 t/1/2 b/1/3 e/2/4".to_string();
-    for (i, name) in names.iter().enumerate() {
-        signature += &format!(" {name}/2/{}", i + 5);
-    }
-    let mut theory = Theory::new(&signature);
+    let own = lower.into_iter().map(String::from);
+    let own = own.chain(names.iter().map(|name| format!("{name}/2")));
+    let further = symbols.split_whitespace().map(String::from);
+    let mut theory = Theory::new(&ranked(own.chain(further)));
     for j in 1..=inner {
         let (from, to) = (power("s", j, "0"), power("t", j, "0"));
         theory = theory.equation(&format!("b({from}) = {to}"));
@@ -149,7 +156,14 @@ pub fn products(outer: usize, inner: usize) -> Theory {
     for name in &names[..outer] {
         theory = theory.equation(&format!("{name}(u,b(x)) = e(u,x)"));
     }
-    theory
+    theory.equations(equations)
+}
+
+/// A signature of names with arities, "s/1", whose ranks ascend from 0.
+fn ranked(symbols: impl Iterator<Item = String>) -> String {
+    let ranked = (0..).zip(symbols);
+    let list: Vec<String> = ranked.map(|(rank, s)| format!("{s}/{rank}")).collect();
+    list.join(" ")
 }
 
 /// P_k(s^n(x)) = a loses one s a rule, and each new rule removes the one
@@ -165,9 +179,8 @@ pub fn after_descents(lengths: &[usize], symbols: &str, equations: &[&str]) -> T
     let chains = (0..lengths.len()).map(|k| format!("P{k}/1"));
     let names = ["a/0", "s/1", "u/1"].map(String::from).into_iter();
     let further = symbols.split_whitespace().map(String::from);
-    let ranked = (0..).zip(names.chain(chains).chain(further));
-    let signature: Vec<String> = ranked.map(|(rank, s)| format!("{s}/{rank}")).collect();
-    let mut theory = Theory::new(&signature.join(" ")).equation("u(a) = a");
+    let signature = ranked(names.chain(chains).chain(further));
+    let mut theory = Theory::new(&signature).equation("u(a) = a");
     for (k, n) in lengths.iter().enumerate() {
         theory = theory
             .equation(&format!("u(P{k}(s(x))) = P{k}(x)"))

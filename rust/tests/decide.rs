@@ -75,14 +75,15 @@ fn every_truncation() {
 fn every_truncation_after_end_20() {
     let equations = ["*(x,e) = x", "*(*(x,e),y) = *(y,*(x,e))"];
     let record = completed(&Theory::new(GROUP).equations(&equations), 9);
-    assert_eq!(record.len(), 40);
+    assert_eq!(record.len(), 51);
     for length in 0..=record.len() {
         let expected = match length {
             0..=3 => refused(13, 0),
             4..=10 => refused(13, 4),
             11..=19 => refused(13, 11),
             20..=30 => refused(13, 20),
-            31..=39 => refused(13, 31),
+            31..=41 => refused(13, 31),
+            42..=50 => refused(13, 42),
             _ => refused(14, 0),
         };
         let found = ask(GROUP, "x = x", 9, &record[..length]);

@@ -6,6 +6,7 @@ use common::{bytes, completed, hex, refusal, rule_sides, run, Fields};
 use kb_engine::cases;
 use kb_engine::full_log;
 use kb_engine::notation::Theory;
+use kb_engine::put_back::simplified::groups_with_unit;
 use kb_engine::theories::{self, GROUP, PAPERS};
 
 const BUDGET: u32 = 1_000_000;
@@ -19,9 +20,10 @@ fn end_and_units(theory: &Theory) -> (u8, u32) {
 fn end_20_keeps_the_state_and_shows_the_pair() {
     let theory = Theory::new(GROUP).equations(&["*(x,e) = x", "*(*(x,e),y) = *(y,*(x,e))"]);
     let fields = run(&theory, BUDGET);
-    assert_eq!((fields.end, fields.units), (20, 4));
+    assert_eq!((fields.end, fields.units), (20, 5));
     assert_eq!(rule_sides(&fields), ["02800080"]);
-    assert_eq!(fields.log, [bytes("01 0001 0000 00 0001")]);
+    let put_back = bytes("01 0002 0000 00 ffff");
+    assert_eq!(fields.log, [bytes("01 0001 0000 00 0001"), put_back]);
     assert_eq!(hex(&fields.pair.unwrap()), "028081028180");
 }
 
@@ -51,7 +53,7 @@ fn assert_21_at_every_unit(theory: &Theory) {
 /// Live rules are among those the log says were made.
 fn assert_numbers_follow(fields: &Fields) {
     let made = fields.log.iter().map(|e| u16::from_be_bytes([e[6], e[7]]));
-    let made: Vec<u16> = made.filter(|n| *n > 0).collect();
+    let made: Vec<u16> = made.filter(|n| ![0, 0xffff].contains(n)).collect();
     assert!(made.iter().copied().eq(1..=made.len() as u16));
     assert!(fields.rules.iter().all(|(n, _)| made.contains(n)));
     assert!(fields.rules.windows(2).all(|w| w[0].0 < w[1].0));
@@ -70,6 +72,7 @@ fn end_21_at_every_unit() {
         Theory::new(GROUP).equation("x = x"),
     ];
     list.iter().for_each(assert_21_at_every_unit);
+    assert_21_at_every_unit(&groups_with_unit());
 }
 
 #[test]
@@ -125,7 +128,7 @@ fn end_22_by_an_astronomic_peak() {
 
 #[test]
 fn end_22_by_17_variables() {
-    assert_eq!(end_and_units(&theories::many_variables(12)), (20, 3));
+    assert_eq!(end_and_units(&theories::many_variables(12)), (20, 4));
     assert_eq!(end_and_units(&theories::many_variables(13)), (22, 3));
     let fields = run(&theories::many_variables_oriented(12), BUDGET);
     assert_eq!((fields.end, fields.rules.len()), (0, 3));
@@ -167,7 +170,9 @@ fn end_24_by_the_513th_entry() {
     assert_eq!(end_and_entries(full_log::settled(84, 0)), (0, 511));
     assert_eq!(end_and_entries(full_log::settled(84, 1)), (0, 512));
     assert_eq!(end_and_entries(full_log::settled(84, 2)), (24, 512));
-    assert_eq!(end_and_entries(full_log::neither_above(83, 5)), (20, 511));
+    assert_eq!(end_and_entries(full_log::neither_above(83, 2)), (20, 511));
+    assert_eq!(end_and_entries(full_log::neither_above(83, 3)), (20, 512));
+    assert_eq!(end_and_entries(full_log::neither_above(83, 4)), (24, 512));
     assert_eq!(end_and_entries(full_log::neither_above(84, 0)), (24, 512));
     assert_eq!(end_and_entries(full_log::many_variables(83, 2)), (22, 511));
     assert_eq!(end_and_entries(full_log::many_variables(83, 3)), (24, 512));

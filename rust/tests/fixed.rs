@@ -2,6 +2,7 @@
 
 mod common;
 
+use kb_engine::fields::{push_field, TAG_ENTRY, TAG_PAIR};
 use kb_engine::fixed::{self, Case};
 use kb_engine::theories::{self, PAPERS};
 use kb_engine::{compare, complete, subterm, unify};
@@ -41,11 +42,32 @@ fn a_wrong_result_does_not_fit() {
         };
         assert!(ended.fits(&result[..count]));
         // The end, the units, the first rule's left side if it is given.
-        let places = if ended.printed.is_empty() { 2 } else { 3 };
-        for place in [3, 10, 16].into_iter().take(places) {
+        let mut places = vec![3, 10];
+        places.extend((!ended.printed.is_empty()).then_some(16));
+        // The last byte of a log or of field 14 if they are given.
+        let logged = ended.logged.iter().any(|l| !l.entries.is_empty());
+        places.extend(logged.then_some(count - 1));
+        for place in places {
             result[place] ^= 1;
             assert!(!ended.fits(&result[..count]), "{}", case.name);
             result[place] ^= 1;
+        }
+    }
+}
+
+/// An entry or a field 14 more than is given does not fit either.
+#[test]
+fn a_longer_log_does_not_fit() {
+    let given = |case: &Case| case.complete.as_ref().is_ok_and(|e| e.logged.is_some());
+    let cases: Vec<Case> = fixed::cases().into_iter().filter(given).collect();
+    assert!(cases.len() > 100, "{}", cases.len());
+    for case in cases {
+        let mut result = common::result_of(&case.problem).unwrap();
+        let whole = result.len();
+        for (tag, contents) in [(TAG_ENTRY, &[1; 8][..]), (TAG_PAIR, &[0x80; 2])] {
+            push_field(&mut result, tag, contents);
+            assert!(!case.complete.as_ref().unwrap().fits(&result));
+            result.truncate(whole);
         }
     }
 }

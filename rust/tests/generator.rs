@@ -3,12 +3,14 @@
 mod common;
 
 use common::result_of;
+use kb_engine::fields::put_back_entries;
 use kb_engine::generate::ranks::{ranks, Ranks};
 use kb_engine::generate::{self, damage, pairs, records};
 use kb_engine::lower::which;
 use kb_engine::pairs::Pair;
 use kb_engine::problem::Problem;
 use kb_engine::questions::Question;
+use kb_engine::run::END_COMPLETE;
 use kb_engine::{compare, complete, decide, subterm, unify};
 use kb_engine::{CompareAnswer, CompleteAnswer, DecideAnswer, UnifyAnswer, Which};
 use kb_engine::{MAX_NODES, MAX_RECORD, MIN_RESULT};
@@ -68,6 +70,28 @@ fn symbols_share_ranks_in_a_third() {
     let (some, all) = (of(Ranks::SomeEqual).count(), of(Ranks::AllEqual).count());
     assert!(3 * (some + all) as u64 >= COUNT, "{some} and {all}");
     assert!(20 * all as u64 >= COUNT, "{all}");
+}
+
+/// Equations with neither side above are put back in many results: in some
+/// the run completes, in some one of them is put back again, also one from a
+/// removed rule.
+#[test]
+fn equations_wait_in_many_problems() {
+    let results = (0..COUNT).filter_map(|index| result_of(&generate::problem(1, index)));
+    let (mut waited, mut completed, mut again, mut removed) = (0, 0, 0, 0);
+    for result in results {
+        let origins: Vec<&[u8]> = put_back_entries(&result).collect();
+        let twice = |i: usize| origins[..i].contains(&origins[i]);
+        let of_rules = |i: &usize| origins[*i][0] == 2;
+        waited += !origins.is_empty() as u64;
+        completed += (!origins.is_empty() && result[3] == END_COMPLETE) as u64;
+        again += (0..origins.len()).any(twice) as u64;
+        removed += (0..origins.len()).filter(of_rules).any(twice) as u64;
+    }
+    assert!(4 * waited > COUNT, "{waited}");
+    assert!(60 * completed > COUNT, "{completed}");
+    assert!(10 * again > COUNT, "{again}");
+    assert!(240 * removed > COUNT, "{removed}");
 }
 
 #[test]

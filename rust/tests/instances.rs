@@ -105,9 +105,10 @@ fn instance_11_no_equation() {
 #[test]
 fn instance_12_commutativity() {
     let fields = run(&group("*(x,y) = *(y,x)"), 9);
-    assert_eq!((fields.end, fields.units), (20, 1));
+    assert_eq!((fields.end, fields.units), (20, 2));
     assert_eq!(hex(&fields.pair.unwrap()), "028081028180");
-    assert!(fields.rules.is_empty() && fields.log.is_empty());
+    assert!(fields.rules.is_empty());
+    assert_eq!(fields.log, [common::bytes("01 0001 0000 00 ffff")]);
 }
 
 #[test]

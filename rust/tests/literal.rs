@@ -2,40 +2,33 @@
 
 mod common;
 
-use common::literal::{apply, rename, Bytes, Symbols};
-use common::{completed, hex, literal_run, result_of};
+use common::literal::{apply, rename};
+use common::{completed, hex, literal_run, parts, result_of, Fields};
 use kb_engine::generate::records::{self, exhaustive};
 use kb_engine::problem::Problem;
 use kb_engine::questions::{self, Question};
-use kb_engine::{cases, generate};
+use kb_engine::{cases, fixed, generate};
 use kb_engine::{compare, decide, unify, CompareAnswer, DecideAnswer, UnifyAnswer, MIN_RESULT};
 use std::collections::{BTreeSet, HashMap};
 
 const SEED: u64 = 20;
 /// Longer runs are left to the comparison of engines.
 const MOST_BUDGET: u32 = 60;
-/// Of the stored runs.
+/// Of the stored and the fixed runs.
 const MOST_UNITS: u32 = 2000;
-
-/// Symbols and equations of a problem the engine's reader accepts.
-fn parts(problem: &Problem) -> (Symbols, Vec<(Bytes, Bytes)>) {
-    let table = &problem.bytes[3..3 + problem.bytes[2] as usize];
-    let symbols = table.chunks(2).map(|pair| (pair[0], pair[1])).collect();
-    let side = |range: &std::ops::Range<usize>| problem.bytes[range.clone()].to_vec();
-    let equations = problem
-        .equations
-        .iter()
-        .map(|e| (side(&e.left), side(&e.right)));
-    (Symbols(symbols), equations.collect())
-}
 
 fn problems(count: u64) -> impl Iterator<Item = Vec<u8>> {
     (0..count).map(|index| generate::problem(SEED, index))
 }
 
+/// Whether some equation was put back.
+fn put_back(fields: &Fields) -> bool {
+    fields.log.iter().any(|entry| entry[6..] == [0xff, 0xff])
+}
+
 #[test]
 fn runs_follow_the_definitions() {
-    let mut decided = 0;
+    let (mut decided, mut waited, mut simplified) = (0, 0, 0);
     for mut bytes in problems(if cfg!(debug_assertions) { 1000 } else { 8000 }) {
         let Ok(problem) = Problem::read(&bytes) else {
             continue;
@@ -48,31 +41,54 @@ fn runs_follow_the_definitions() {
             expected.count = fields.count;
             assert_eq!(fields, expected, "{}", hex(&bytes));
             decided += 1;
+            waited += put_back(&fields) as usize;
+            simplified += (put_back(&fields) && fields.end == 0) as usize;
         }
     }
-    assert!(decided > 500, "only {decided}");
+    let found = [decided, waited, simplified];
+    assert!(
+        decided > 500 && waited > 300 && simplified > 10,
+        "{found:?}"
+    );
 }
 
-/// The cases of complete_run, but for the longest runs.
-#[test]
-fn stored_runs_follow_the_definitions() {
+/// How many of these problems run as the definitions say, the longest runs
+/// left out.
+fn literal_runs(problems: impl Iterator<Item = (String, Vec<u8>)>) -> usize {
     let mut decided = 0;
-    for case in cases::complete::cases().list() {
-        let Ok(problem) = Problem::read(&case.problem) else {
+    for (name, bytes) in problems {
+        let Ok(problem) = Problem::read(&bytes) else {
             continue;
         };
-        let fields = completed(&case.problem);
+        let fields = completed(&bytes);
         if fields.units > MOST_UNITS {
             continue;
         }
         let (symbols, equations) = parts(&problem);
         if let Some(mut expected) = literal_run::run(symbols, problem.budget, &equations) {
             expected.count = fields.count;
-            assert_eq!(fields, expected, "{}", case.name);
+            assert_eq!(fields, expected, "{name}");
             decided += 1;
         }
     }
-    assert!(decided > 90, "only {decided}");
+    decided
+}
+
+/// The cases of complete_run.
+#[test]
+fn stored_runs_follow_the_definitions() {
+    let cases = cases::complete::cases();
+    let stored = cases.list().iter();
+    let decided = literal_runs(stored.map(|case| (case.name.clone(), case.problem.clone())));
+    assert!(decided > 110, "only {decided}");
+}
+
+/// The fixed problems, among them those whose equations wait.
+#[test]
+fn fixed_runs_follow_the_definitions() {
+    let fixed = fixed::cases().into_iter();
+    let decided = literal_runs(fixed.map(|case| (case.name, case.problem)));
+    assert!(decided > 350, "only {decided}");
 }
 
 #[test]

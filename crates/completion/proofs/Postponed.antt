@@ -151,7 +151,8 @@ removed-reduce new [] = of-none
 removed-reduce new (old ∷ rules) = go (rewrites new old) refl (removed-reduce new rules)
   where
     go : (b : Bool) → rewrites new old ≡ b → Every (LeftReduces (new ∷ [])) (removed new rules) →
-        Every (LeftReduces (new ∷ [])) (if b then (record { origin = removed-rule (old .number); sides = old .sides } ∷ removed new rules) else removed new rules)
+        Every (LeftReduces (new ∷ []))
+        (if b then (record { origin = removed-rule (old .number); sides = old .sides } ∷ removed new rules) else removed new rules)
     go true e h = of-cons (rewrites-reduces new old e) h
     go false e h = h
 

@@ -79,7 +79,7 @@ module _ (tab rules : List ℕ) (k count units : ℕ) (t out out′ : List ℕ) 
       go : (before : List Rule) (old : Rule) (after : List Rule) (p : Paid Term) → NormalIs tab out′ units o p →
           OneIs tab rules before old after (record { verdict = Ends (end-of f); units = units - o .paid }) p
       go before old after (done x left) e = absurd (subst Stopped (sym g ∙ e .0) s)
-      go before old after (stop c left) e = let q = stopped-end (stopping c f (subst (FormStops c) g (e .0))) in (ap Ends (q .0), omega (arith, e .1), q .1)
+      go before old after (stop c left) e = (ap Ends (stopped-end (stopping c f (subst (FormStops c) g (e .0)))), omega (arith, e .1))
 
   -- the answer is written
   module _ (len : ℕ) (normal : o .form ≡ Normal len) (rules′ : List ℕ) (written : PutRight rules k (take (len - 0) (drop 0 out′)) rules′) where

@@ -3,9 +3,9 @@ use mathlib.Core.Path.{_≡_}
 use mathlib.Core.List.{List, [], _∷_, _++_, map}
 use Prim.Native.Nat.{ℕ, _+_, _<_, _≤_}
 use lib.ListN.{length}
-use Rattle.terms.specs.Term.{Term, Pair}
+use Rattle.terms.specs.Term.{Term}
 use Rattle.rewriting.specs.Overlap.{Rule, sides-of}
-use Rattle.rewriting.specs.Rewrite.{Paid, done, stop, normalise, End, neither-above}
+use Rattle.rewriting.specs.Rewrite.{Paid, done, stop, normalise}
 use Rattle.rewriting.specs.Ends.{ending}
 use Rattle.rewriting.specs.declared.Verdict.the-variants.{GoesOn, Ends}
 use Rattle.slots.specs.Slots.{slot, mark-of, Layout, Stored}
@@ -26,15 +26,11 @@ pub record RightsOnly (a e : ℕ) (slots slots′ : List ℕ) : Type 0 where
   pub behind : (i : ℕ) → e ≤ i → slot slots′ i ≡ slot slots i
   pub layout : (n : ℕ) → Layout slots n → Layout slots′ n
 
--- the end is none that holds two forms
-abbrev pub NoForms : End → Type 0
-NoForms e = (g : Pair) → e ≡ neither-above g → ⊥
-
 -- `compose_one`: that rule's right side is normalised
 abbrev pub OneIs : List ℕ → List ℕ → List Rule → Rule → List Rule → Composed → Paid Term → Type 0
 OneIs tab rules before old after o (done y left) =
     (o .verdict ≡ GoesOn) × (o .units ≡ left) × Stored tab rules 0 (sides-of before ++ (record { left = old .sides .left; right = y } ∷ sides-of after))
-OneIs tab rules before old after o (stop e left) = (o .verdict ≡ Ends (ending e)) × (o .units ≡ left) × NoForms e
+OneIs tab rules before old after o (stop e left) = (o .verdict ≡ Ends (ending e)) × (o .units ≡ left)
 
 pub record One (tab rules rules′ : List ℕ) (k count units : ℕ) (o : Composed) : Type 0 where
   pub only : RightsOnly k (k + 1) rules rules′
@@ -46,7 +42,7 @@ pub record One (tab rules rules′ : List ℕ) (k count units : ℕ) (o : Compos
 abbrev pub AllIs : List ℕ → List ℕ → List Rule → Composed → Paid (List Rule) → Type 0
 AllIs tab rules rs o (done rs′ left) =
     (o .verdict ≡ GoesOn) × (o .units ≡ left) × Stored tab rules 0 (sides-of rs′) × (map (λ r. r .number) rs′ ≡ map (λ r. r .number) rs)
-AllIs tab rules rs o (stop e left) = (o .verdict ≡ Ends (ending e)) × (o .units ≡ left) × NoForms e
+AllIs tab rules rs o (stop e left) = (o .verdict ≡ Ends (ending e)) × (o .units ≡ left)
 
 pub record All (tab rules rules′ : List ℕ) (count units : ℕ) (o : Composed) : Type 0 where
   pub only : RightsOnly 0 count rules rules′

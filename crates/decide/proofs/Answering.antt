@@ -35,7 +35,7 @@ use Rattle.decide.proofs.Right.{Told, Answered, answered, about-rules}
 zero-end : (e : End) → Says (e ≡ complete) (eqb (end-number e) 0)
 unfolding end-number
 zero-end complete = refl
-zero-end (neither-above p) = λ h. zero≢one (cc)
+zero-end neither-above = λ h. zero≢one (cc)
 zero-end spent = λ h. zero≢one (cc)
 zero-end too-large = λ h. zero≢one (cc)
 zero-end rules-full = λ h. zero≢one (cc)

@@ -36,7 +36,7 @@ form-last Σ rules good s t o f = (star-word Σ rules good (reached-star (f .rea
 end-told : (q : Question) (e : End) → NormalEnd e → Told q (numbered (end-number e))
 unfolding Told end-number
 end-told q complete h = absurd h
-end-told q (neither-above p) h = absurd h
+end-told q neither-above h = absurd h
 end-told q spent h = inl refl
 end-told q too-large h = inr refl
 end-told q rules-full h = absurd h

@@ -49,7 +49,7 @@ leave-done {c} {len} {units} d k h l = subst (λ z. LeftNormal c len units z) (s
 -- a stop is no normal form
 pub stops-not : (e : End) {s : Step} → StepStops e s → s ≡ Normal → ⊥
 stops-not complete h z = h
-stops-not (neither-above e) h z = h
+stops-not neither-above h z = h
 stops-not spent h z = zero≢one (cc)
 stops-not too-large h z = zero≢one (cc)
 stops-not rules-full h z = h

@@ -1,8 +1,6 @@
 -- A term that comes to no normal form: with which end it stops. Assumes nothing.
 -- Read first: specs/Settled (FormStops).
 use mathlib.Core.Path.{_≡_, refl, sym, ap, _∙_, subst}
-use Rattle.terms.specs.Term.{Pair}
-use Rattle.terms.proofs.Shape.{zero≢one}
 use Rattle.rewriting.specs.Rewrite.{End, complete, neither-above, spent, too-large, rules-full, log-full}
 use Rattle.rewriting.specs.Ends.{ending}
 use Rattle.rewriting.specs.declared.End.{End as Ending}
@@ -28,7 +26,7 @@ pub data Stopping (x : End) (f : Form) : Type 0 where
 
 pub stopping : (x : End) (f : Form) → FormStops x f → Stopping x f
 stopping complete f h = absurd h
-stopping (neither-above p) f h = absurd h
+stopping neither-above f h = absurd h
 stopping spent f h = no-unit refl h
 stopping too-large f h = no-room refl h
 stopping rules-full f h = absurd h
@@ -38,7 +36,7 @@ pub stopped-form : {x : End} {f : Form} → Stopping x f → Stopped f
 stopped-form (no-unit e h) = subst Stopped (sym h) tt
 stopped-form (no-room e h) = subst Stopped (sym h) tt
 
-pub stopped-end : {x : End} {f : Form} → Stopping x f → (end-of f ≡ ending x) × ((g : Pair) → x ≡ neither-above g → ⊥)
+pub stopped-end : {x : End} {f : Form} → Stopping x f → end-of f ≡ ending x
 unfolding ending
-stopped-end (no-unit e h) = (ap end-of h ∙ sym (ap ending e), λ g q. zero≢one (cc))
-stopped-end (no-room e h) = (ap end-of h ∙ sym (ap ending e), λ g q. zero≢one (cc))
+stopped-end (no-unit e h) = ap end-of h ∙ sym (ap ending e)
+stopped-end (no-room e h) = ap end-of h ∙ sym (ap ending e)

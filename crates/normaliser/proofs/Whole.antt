@@ -35,7 +35,7 @@ use Rattle.normaliser.proofs.Sequence.{iterate-step, normalise-normal, 
 form-stops : (e : End) (s : Step) (n : ℕ) → StepStops e s → FormStops e (form-after s n)
 unfolding form-after
 form-stops complete s n h = h
-form-stops (neither-above e) s n h = h
+form-stops neither-above s n h = h
 form-stops spent s n h = ap (λ s. form-after s n) h
 form-stops too-large s n h = ap (λ s. form-after s n) h
 form-stops rules-full s n h = h

@@ -41,7 +41,7 @@ pub record LeftNormal (c len units : ℕ) (o : Out) : Type 0 where
 -- which ends a walk over a term can come to: a normaliser stops with these two only
 abbrev pub StepStops : End → Step → Type 0
 StepStops complete s = ⊥
-StepStops (neither-above e) s = ⊥
+StepStops neither-above s = ⊥
 StepStops spent s = s ≡ Spent
 StepStops too-large s = s ≡ TooLarge
 StepStops rules-full s = ⊥
@@ -88,7 +88,7 @@ form-after NoTerm len = TooLargeForm
 
 abbrev pub FormStops : End → Form → Type 0
 FormStops complete f = ⊥
-FormStops (neither-above e) f = ⊥
+FormStops neither-above f = ⊥
 FormStops spent f = f ≡ SpentForm
 FormStops too-large f = f ≡ TooLargeForm
 FormStops rules-full f = ⊥

@@ -1,4 +1,4 @@
--- Two sides, renamed in a buffer, cut again and put into a slot with a number, are the renamed pair, with variables below 16. Assumes nothing.
+-- Two sides, renamed in a buffer, cut again and put into a slot with a mark, are the renamed pair, with variables below 16. Assumes nothing.
 -- Read first: specs/Orients (Placed), naming/proofs/Pairs, slots/proofs/Layouts.
 use mathlib.Core.Path.{_≡_, ap, ap₂, _∙_}
 use mathlib.Core.List.{List, [], _++_}
@@ -12,8 +12,7 @@ use Rattle.naming.proofs.Few.{names-few}
 use Rattle.naming.proofs.Pairs.{wf-low, left-cut, right-cut, renamed-left-wf, renamed-right-wf}
 use Rattle.fields.specs.Puts.{patched}
 use Rattle.fields.proofs.Appending.{both-front}
-use Rattle.completion.specs.Calls.{origin-bytes}
-use Rattle.slots.specs.Slots.{slot-width, Sides, PutSides, PutMark, numbered-bytes}
+use Rattle.slots.specs.Slots.{slot-width, Sides, PutSides, PutMark}
 use Rattle.slots.proofs.Layouts.{layout-zeros, layout-put, pair-put, pair-mark}
 use Rattle.orient.specs.Orients.{LowBytes, Placed}
 
@@ -40,12 +39,11 @@ module _ (left right d d₁ d₂ : List ℕ) (p : d₁ ≡ patched 0 left d) (q 
           right-bytes = right-cut e u v d₃ rest w (length left) (length left + length right - length left) m (omega arith);
         }
 
-    pub in-slot : (number : ℕ) (mark one one′ : List ℕ) → mark ≡ numbered-bytes 2 number →
+    pub in-slot : (mark one one′ : List ℕ) →
         PutSides (replicate slot-width 0) 0 (take (length left - 0) d₃) (take (length left + length right - length left) (drop (length left) d₃)) one →
-        PutMark one 0 mark one′ → Placed left right number one′
-    unfolding origin-bytes
-    in-slot number mark one one′ m s t = record {
+        PutMark one 0 mark one′ → Placed left right mark one′
+    in-slot mark one one′ s t = record {
       layout = layout-put (layout-put layout-zeros (s .only) (s .short)) (t .only) (t .short (s .short));
-      marked = t .mark-is ∙ m;
-      rule = λ tab e h few. pair-mark t (pair-put s (renamed-sides tab e h few));
+      marked = t .mark-is;
+      pair = λ tab e h few. pair-mark t (pair-put s (renamed-sides tab e h few));
     }

@@ -1,13 +1,13 @@
-// Steps 4 and 5 of a turn: the taken pair's variables are counted, and its upper side becomes the left side of a new rule.
-ghost use mathlib.Core.List.{[], _∷_, _++_, List·Memᴰ};
-ghost use Prim.Native.Nat.{ℕ, _<_, _≤_};
+// Steps 4 and 5 of a turn: the taken pair's variables are counted, and its upper side becomes the left side of a new rule; with neither side above
+// the pair is renamed as it is, to wait again.
+ghost use mathlib.Core.Path.{_≡_};
+ghost use mathlib.Core.List.{[], _∷_, _++_};
+ghost use Prim.Native.Nat.{_≤_};
 ghost use lib.ListN.{length};
-ghost use Rattle.limits.specs.Limits.{most-nodes, variables-end};
+ghost use Rattle.limits.specs.Limits.{most-nodes, origin-width};
 ghost use Rattle.slots.specs.Slots.{Layout};
-ghost use Rattle.orient.specs.Orients.{IsUpper, Placed, RuleOf};
+ghost use Rattle.orient.specs.Orients.{LowBytes, LowPair, IsUpper, Placed, RuleOf, Renames};
 ghost use Rattle.orient.specs.Seen.{Seen, Counted};
-use rewriting::End;
-use rewriting::Verdict;
 use slots::SLOT;
 use slots::origins;
 
@@ -48,11 +48,13 @@ pub fn variable_count(left: &[u8], right: &[u8]) -> u32
     u32::count_ones(seen)
 }
 
-// Which side of a taken pair is above, or how the turn ends.
+// Which side of a taken pair is above.
 pub enum Above {
     Left,
     Right,
-    Ends(End),
+    Neither,
+    // Over 16 variables.
+    TooMany,
 }
 
 fn upper(left: &[u8], right: &[u8], table: &[u8]) -> Above
@@ -60,7 +62,7 @@ fn upper(left: &[u8], right: &[u8], table: &[u8]) -> Above
     ensures { λ r. ⌜ IsUpper (now (table .entry)) (now (left .entry)) (now (right .entry)) r ⌝ }
 {
     if variable_count(left, right) > MOST_VARIABLES {
-        return Above::Ends(End::TooLarge);
+        return Above::TooMany;
     }
     if order::above(left, right, table) {
         return Above::Left;
@@ -68,13 +70,14 @@ fn upper(left: &[u8], right: &[u8], table: &[u8]) -> Above
     if order::above(right, left, table) {
         return Above::Right;
     }
-    Above::Ends(End::NeitherAbove)
+    Above::Neither
 }
 
-// The rule from one term to another, renamed, with its number, in a slot.
-fn placed(left: &[u8], right: &[u8], number: u16) -> [u8; SLOT]
-    requires { ⌜ (length (now left) ≤ most-nodes) × (length (now right) ≤ most-nodes) × ((b : ℕ) → List·Memᴰ b (now left ++ now right) → b < variables-end) ⌝ }
-    ensures { λ r. ⌜ Placed (now (left .entry)) (now (right .entry)) number r ⌝ }
+// The pair of one term and another, renamed, with its mark, in a slot.
+fn placed(left: &[u8], right: &[u8], mark: &[u8]) -> [u8; SLOT]
+    requires { ⌜ (length (now left) ≤ most-nodes) × (length (now right) ≤ most-nodes) × LowBytes (now left ++ now right) ⌝ }
+    requires { ⌜ length (now mark) ≡ origin-width ⌝ }
+    ensures { λ r. ⌜ Placed (now (left .entry)) (now (right .entry)) (now (mark .entry)) r ⌝ }
 {
     let n = left.len();
     let e = n + right.len();
@@ -85,15 +88,23 @@ fn placed(left: &[u8], right: &[u8], number: u16) -> [u8; SLOT]
     let mut one = [0u8; SLOT];
     let both = &out[..];
     slots::put_sides(&mut one, 0, &both[0..n], &both[n..e]);
-    let mark = origins::numbered(origins::REMOVED_RULE, number);
-    slots::put_mark(&mut one, 0, &mark);
+    slots::put_mark(&mut one, 0, mark);
     one
 }
 
-// The new rule in a slot, where the turn goes on.
+// What a taken pair comes to.
+pub enum Way {
+    Rule,
+    // Neither side is above the other.
+    Neither,
+    // Over 16 variables.
+    TooLarge,
+}
+
+// The new rule in a slot, where there is one.
 pub struct Oriented {
     pub rule: [u8; SLOT],
-    pub verdict: Verdict,
+    pub way: Way,
 }
 
 // The rule that the pair in a slot becomes, with its number.
@@ -103,18 +114,32 @@ pub fn rule_of(pair: &[u8], table: &[u8], number: u16) -> Oriented
 {
     let left = slots::left(pair, 0);
     let right = slots::right(pair, 0);
+    let mark = origins::numbered(origins::REMOVED_RULE, number);
     match upper(left, right, table) {
         Above::Left => Oriented {
-            rule: placed(left, right, number),
-            verdict: Verdict::GoesOn,
+            rule: placed(left, right, &mark),
+            way: Way::Rule,
         },
         Above::Right => Oriented {
-            rule: placed(right, left, number),
-            verdict: Verdict::GoesOn,
+            rule: placed(right, left, &mark),
+            way: Way::Rule,
         },
-        Above::Ends(end) => Oriented {
+        Above::Neither => Oriented {
             rule: [0u8; SLOT],
-            verdict: Verdict::Ends(end),
+            way: Way::Neither,
+        },
+        Above::TooMany => Oriented {
+            rule: [0u8; SLOT],
+            way: Way::TooLarge,
         },
     }
+}
+
+// The pair in a slot, renamed as it stands, with its mark.
+pub fn renamed(pair: &[u8]) -> [u8; SLOT]
+    requires { ⌜ Layout (now pair) 1 × LowPair (now pair) ⌝ }
+    ensures { λ r. ⌜ Renames (now (pair .entry)) r ⌝ }
+{
+    let mark = slots::mark(pair, 0);
+    placed(slots::left(pair, 0), slots::right(pair, 0), &mark)
 }

@@ -13,7 +13,7 @@ use lib.Seq.{take-at, drop-at}
 use borrow.Author.Tests.{eq-eqb, lt-ltb, le-ltb, le-leb}
 use Rattle.limits.specs.Limits.{most-symbols, most-budget, most-rules, most-entries, most-number, most-record, two-byte-values}
 use Rattle.terms.specs.Base.{if_then_else_, number-bytes, member, Field, field-bytes}
-use Rattle.terms.specs.Term.{Pair, renamed, size}
+use Rattle.terms.specs.Term.{Pair, size}
 use Rattle.terms.proofs.Lists.{flatMap-append}
 use Rattle.terms.proofs.Limits.{length-number-bytes}
 use Rattle.terms.proofs.Numerals.{number-back}
@@ -22,9 +22,9 @@ use Rattle.reading.proofs.Reading.{bind-ok}
 use Rattle.problem.specs.Problem.{ok, _>>=_, refuse-if, Symbol}
 use Rattle.rewriting.specs.Overlap.{Rule}
 use Rattle.rewriting.specs.Rewrite.{End, complete, neither-above, spent, too-large, rules-full, log-full, end-number}
-use Rattle.completion.specs.Turn.{Origin, waiting-input, removed-rule, scanned-input, overlapping, Entry, Finished}
-use Rattle.completion.specs.Calls.{pair-bytes, rule-field, origin-bytes, entry-field, forms-field, result-fields, result-bytes}
-use Rattle.completion.specs.Keeps.{PairKeeps, RuleKeeps, RulesKeep, Keeps}
+use Rattle.completion.specs.Turn.{Origin, waiting-input, removed-rule, scanned-input, overlapping, Candidate, Entry, Finished}
+use Rattle.completion.specs.Calls.{pair-bytes, rule-field, origin-bytes, entry-field, oldest-field, forms-field, result-fields, result-bytes}
+use Rattle.completion.specs.Keeps.{PairKeeps, RuleKeeps, RulesKeep, OldestKeeps, Keeps}
 use Rattle.completion.proofs.Widths.{flat, pair-bytes-length, rule-length, entry-length}
 use Rattle.record.specs.Fields.{one-field, fields-there, read-rule, read-forms}
 use Rattle.record.specs.Record.{RuleAt, listed-end, read-end, read-units, number-before, read-rule-at, read-kind, nothing-behind, last-field}
@@ -38,7 +38,7 @@ use Rattle.record.proofs.Back.{placed, one-back, end-of, OtherTag, Back
 end-fits : (e : End) → (listed-end (end-number e) ≡ true) × (end-number e < 256)
 unfolding listed-end end-number member
 end-fits complete = (refl, omega arith)
-end-fits (neither-above e) = (refl, omega arith)
+end-fits neither-above = (refl, omega arith)
 end-fits spent = (refl, omega arith)
 end-fits too-large = (refl, omega arith)
 end-fits rules-full = (refl, omega arith)
@@ -98,22 +98,27 @@ kinds-back at before [] = none-back
 kinds-back at before (e ∷ log) = one-more {f = entry-field e} refl (omega (arith, entry-length e)) (kind-back e at) (kinds-back _ _ log)
 
 -- 14, or nothing
-abbrev from-forms : End → List ℕ
-from-forms e = flat (forms-field e)
+abbrev from-forms : End → List Candidate → List ℕ
+from-forms e waiting = flat (forms-field e waiting)
 
-forms-tag : (tag : ℕ) (e : End) → eqb 0x14 tag ≡ false → OtherTag tag (from-forms e)
-unfolding forms-field flatMap field-bytes
-forms-tag tag complete h = tt
-forms-tag tag (neither-above e) h = h
-forms-tag tag spent h = tt
-forms-tag tag too-large h = tt
-forms-tag tag rules-full h = tt
-forms-tag tag log-full h = tt
+oldest-tag : (tag : ℕ) (waiting : List Candidate) → eqb 0x14 tag ≡ false → OtherTag tag (flat (oldest-field waiting))
+unfolding oldest-field flatMap field-bytes
+oldest-tag tag [] h = tt
+oldest-tag tag (c ∷ waiting) h = h
 
-log-tag : (log : List Entry) (e : End) → OtherTag 0x12 (flat (map entry-field log) ++ from-forms e)
+forms-tag : (tag : ℕ) (e : End) (waiting : List Candidate) → eqb 0x14 tag ≡ false → OtherTag tag (from-forms e waiting)
+unfolding forms-field flatMap
+forms-tag tag complete waiting h = tt
+forms-tag tag neither-above waiting h = oldest-tag tag waiting h
+forms-tag tag spent waiting h = tt
+forms-tag tag too-large waiting h = tt
+forms-tag tag rules-full waiting h = tt
+forms-tag tag log-full waiting h = tt
+
+log-tag : (log : List Entry) (e : End) (waiting : List Candidate) → OtherTag 0x12 (flat (map entry-field log) ++ from-forms e waiting)
 unfolding flatMap field-bytes entry-field
-log-tag [] e = forms-tag 0x12 e refl
-log-tag (d ∷ log) e = refl
+log-tag [] e waiting = forms-tag 0x12 e waiting refl
+log-tag (d ∷ log) e waiting = refl
 
 module _ (Σ : List Symbol) (few : length Σ ≤ most-symbols) where
   -- 12
@@ -154,19 +159,25 @@ module _ (Σ : List Symbol) (few : length Σ ≤ most-symbols) where
       ∙ one-back wrong-record (read-forms Σ) at f [] e s (pair-back Σ few e (at + 3) k) in
       rw b refl
 
-  last-back : (e : End) (at : ℕ) → ((p : Pair) → e ≡ neither-above p → PairKeeps Σ (renamed p)) → last-field Σ (end-number e) at (from-forms e) ≡ ok tt
+  last-oldest : (waiting : List Candidate) (at : ℕ) → OldestKeeps Σ waiting → last-field Σ 20 at (flat (oldest-field waiting)) ≡ ok tt
+  unfolding OldestKeeps oldest-field flatMap
+  last-oldest [] at h = absurd h
+  last-oldest (c ∷ waiting) at h = ap (last-field Σ 20 at) (append-nil _) ∙ last-forms (c .sides) at h
+
+  last-back : (e : End) (waiting : List Candidate) (at : ℕ) → (e ≡ neither-above → OldestKeeps Σ waiting) →
+      last-field Σ (end-number e) at (from-forms e waiting) ≡ ok tt
   unfolding forms-field flatMap end-number
-  last-back complete at h = last-none _ at refl
-  last-back (neither-above e) at h = ap (last-field Σ 20 at) (append-nil _) ∙ last-forms (renamed e) at (h e refl)
-  last-back spent at h = last-none _ at refl
-  last-back too-large at h = last-none _ at refl
-  last-back rules-full at h = last-none _ at refl
-  last-back log-full at h = last-none _ at refl
+  last-back complete waiting at h = last-none _ at refl
+  last-back neither-above waiting at h = last-oldest waiting at (h refl)
+  last-back spent waiting at h = last-none _ at refl
+  last-back too-large waiting at h = last-none _ at refl
+  last-back rules-full waiting at h = last-none _ at refl
+  last-back log-full waiting at h = last-none _ at refl
 
   module _ (f : Finished) (k : Keeps Σ f) where
     -- what stands behind the units, and behind the rules
     abbrev from-log : List ℕ
-    from-log = flat (map entry-field (f .state .log)) ++ from-forms (f .end)
+    from-log = flat (map entry-field (f .state .log)) ++ from-forms (f .end) (f .state .waiting)
 
     abbrev from-rules : List ℕ
     from-rules = flat (map rule-field (f .state .rules)) ++ from-log
@@ -175,9 +186,10 @@ module _ (Σ : List Symbol) (few : length Σ ≤ most-symbols) where
     unfolding result-bytes result-fields flatMap
     laid =
         ap (λ l. field-bytes (field-10 (f .end)) ++ (field-bytes (field-11 (f .units)) ++ l))
-        (flatMap-append field-bytes (map rule-field (f .state .rules) ++ map entry-field (f .state .log)) (forms-field (f .end))
-        ∙ ap (λ l. l ++ from-forms (f .end)) (flatMap-append field-bytes (map rule-field (f .state .rules)) (map entry-field (f .state .log)))
-        ∙ append-assoc (flat (map rule-field (f .state .rules))) (flat (map entry-field (f .state .log))) (from-forms (f .end)))
+        (flatMap-append field-bytes (map rule-field (f .state .rules) ++ map entry-field (f .state .log)) (forms-field (f .end) (f .state .waiting))
+        ∙ ap (λ l. l ++ from-forms (f .end) (f .state .waiting))
+        (flatMap-append field-bytes (map rule-field (f .state .rules)) (map entry-field (f .state .log)))
+        ∙ append-assoc (flat (map rule-field (f .state .rules))) (flat (map entry-field (f .state .log))) (from-forms (f .end) (f .state .waiting)))
 
     back-10 : one-field wrong-record 0x10 read-end 0 (result-bytes f) ≡ ok
         (record { part = end-number (f .end); end = 4; rest = field-bytes (field-11 (f .units)) ++ from-rules })
@@ -200,13 +212,14 @@ module _ (Σ : List Symbol) (few : length Σ ≤ most-symbols) where
     unfolding number-before
     back-12 =
         there-back wrong-record 0x12 (read-rule-at Σ) (rules-at-back 11 none (f .state .rules) (k .rules-keep)) most-rules
-        (omega (arith, length-rules-at 11 (f .state .rules), k .rules-few)) from-log (log-tag (f .state .log) (f .end))
+        (omega (arith, length-rules-at 11 (f .state .rules), k .rules-few)) from-log (log-tag (f .state .log) (f .end) (f .state .waiting))
 
     back-13 : (at : ℕ) → fields-there wrong-record 0x13 (λ _ f. read-kind f) most-entries none at from-log ≡ ok
-        (record { part = kinds-of (f .state .log); end = end-of at (map entry-field (f .state .log)); rest = from-forms (f .end) })
+        (record { part = kinds-of (f .state .log); end = end-of at (map entry-field (f .state .log)); rest = from-forms (f .end) (f .state .waiting) })
     back-13 at =
         there-back wrong-record 0x13 (λ _ f. read-kind f) (kinds-back at none (f .state .log)) most-entries
-        (omega (arith, length-map (f .state .log) (λ (e : Entry). kind-of (e .origin)), k .log-few)) (from-forms (f .end)) (forms-tag 0x13 (f .end) refl)
+        (omega (arith, length-map (f .state .log) (λ (e : Entry). kind-of (e .origin)), k .log-few)) (from-forms (f .end) (f .state .waiting))
+        (forms-tag 0x13 (f .end) (f .state .waiting) refl)
 
     -- What was written is what is read: the rules' fields begin behind the eleven bytes of the end and the units.
     pub record-back : read-record Σ (result-bytes f) ≡ ok (record { end = end-number (f .end); units = f .units; rules = rules-at 11 (f .state .rules) })
@@ -217,4 +230,4 @@ module _ (Σ : List Symbol) (few : length Σ ≤ most-symbols) where
         ∙ bind-ok _ back-11
         ∙ bind-ok _ back-12
         ∙ bind-ok _ (back-13 (end-of 11 (map rule-field (f .state .rules))))
-        ∙ bind-ok _ (last-back (f .end) _ (k .forms-keep))
+        ∙ bind-ok _ (last-back (f .end) (f .state .waiting) _ (k .forms-keep))

@@ -1,6 +1,4 @@
-pub mod RuleField
+pub mod PairField
 pub mod Listing
-pub mod Forms
-pub mod Lowness
 pub mod Whole
 pub mod Meaning

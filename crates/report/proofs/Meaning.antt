@@ -1,42 +1,39 @@
--- The fields written from slots, log and forms are the result fields of the run that these stand for. Assumes nothing.
--- Read first: run/specs/Runs (RanIs), state/specs/Run (Represents), completion/specs/Calls (result-bytes), proofs/Lowness, proofs/Whole.
+-- The fields written from slots and log are the result fields of the run that these stand for. Assumes nothing.
+-- Read first: run/specs/Runs (RanIs), state/specs/Run (Represents), completion/specs/Calls (result-bytes), proofs/Whole.
 use mathlib.Core.Path.{_≡_, refl, sym, ap, ap₂, subst, _∙_}
-use mathlib.Core.Bool.{true}
 use mathlib.Core.List.{List, [], _∷_, _++_, map, flatMap, append-assoc, append-nil}
 use Prim.Native.Nat.{ℕ, suc, _+_, _*_}
 use native.Mathlib.Omega.{arith}
 use lib.ListN.{length, take, drop, length-append, take-append-drop}
 use lib.Seq.{take-at, drop-at, drop-drop}
-use Rattle.limits.specs.Limits.{most-apart, origin-width}
+use borrow.Author.Tests.{lt-ltb, le-ltb}
+use Rattle.limits.specs.Limits.{origin-width}
 use Rattle.terms.specs.Base.{if_then_else_, number-bytes, Field, field-bytes}
-use Rattle.terms.specs.Term.{Pair, renamed}
 use Rattle.terms.proofs.Lists.{flatMap-append}
 use Rattle.terms.proofs.Limits.{length-number-bytes}
 use Rattle.rewriting.specs.Overlap.{Rule}
 use Rattle.rewriting.specs.Rewrite.{End, complete, neither-above, spent, too-large, rules-full, log-full, end-number}
 use Rattle.rewriting.specs.Ends.{ending, number-of as end-of}
+use Rattle.rewriting.specs.declared.End.{End as Ending}
+use Rattle.rewriting.specs.declared.End.the-variants.{NeitherAbove}
 use Rattle.rewriting.proofs.Holds.{number-of-ending}
-use Rattle.slots.specs.Slots.{slot, left-of, right-of, Sides, PairAt, MarkedAt, Holds}
+use Rattle.slots.specs.Slots.{slot, MarkedAt, Holds}
 use Rattle.slots.proofs.Listing.{all-first, all-rest}
-use Rattle.naming.specs.Names.{renamed-bytes}
-use Rattle.naming.proofs.Renaming.{Low}
-use Rattle.naming.proofs.Pairs.{wf-low, renamed-pair}
 use Rattle.completion.specs.Turn.{Origin, waiting-input, removed-rule, scanned-input, overlapping, Candidate, Entry, Finished}
-use Rattle.completion.specs.Calls.{pair-bytes, rule-field, origin-bytes, entry-field, forms-field, result-fields, result-bytes, Writes}
+use Rattle.completion.specs.Calls.{pair-bytes, rule-field, origin-bytes, entry-field, oldest-field, forms-field, result-fields, result-bytes, Writes}
 use Rattle.fields.specs.Puts.{tagged}
 use Rattle.inputs.specs.Inputs.{marked}
 use Rattle.state.specs.Run.{logged-width, logged, as-removed, held}
-use Rattle.state.proofs.Rows.{rule-number}
+use Rattle.state.proofs.Rows.{row, held-rows, length-held, length-rows, row-at, rule-number}
 use Rattle.run.specs.declared.Ran.{Ran}
 use Rattle.run.specs.Runs.{RanIs}
-use Rattle.report.specs.Fields.{slot-field, slot-fields, logged-field, logged-fields, low, forms-bytes, forms-if}
-use Rattle.report.proofs.Lowness.{term-low}
+use Rattle.report.specs.Fields.{pair-field, slot-field, slot-fields, logged-field, logged-fields, oldest-if}
 use Rattle.report.proofs.Whole.{all-bytes}
 
 -- Fields 12.
 module _ (tab slots : List ℕ) where
   one-field : (k : ℕ) (r : Rule) → MarkedAt tab slots k (marked (as-removed r)) → slot-field slots k ≡ rule-field r
-  unfolding slot-field rule-field pair-bytes as-removed
+  unfolding slot-field pair-field rule-field pair-bytes as-removed
   one-field k r h =
       let s = h .pair .sides in
       ap (tagged 0x12) (ap₂ _++_ (rule-number (slot slots k) (r .number) (h .mark)) (ap₂ _++_ (s .left-bytes) (s .right-bytes)))
@@ -81,32 +78,32 @@ module _ (log : List ℕ) where
       ap₂ _∷_ (one-entry k e here) (entries-are (suc k) es rest behind)
 
 -- Field 14.
-pair-renamed : (e : Pair) → Low (e .left) → Low (e .right) → renamed-bytes (pair-bytes e) ≡ pair-bytes (renamed e)
-unfolding pair-bytes
-pair-renamed e l r = renamed-pair e l r
+module _ (tab slots : List ℕ) where
+  oldest-is : (c : Candidate) (k : ℕ) → MarkedAt tab slots k (marked c) →
+      field-bytes (pair-field 0x14 [] slots k) ≡ field-bytes (tagged 0x14 (pair-bytes (c .sides)))
+  unfolding pair-field pair-bytes
+  oldest-is c k h = let s = h .pair .sides in ap (λ z. field-bytes (tagged 0x14 z)) (ap₂ _++_ (s .left-bytes) (s .right-bytes))
 
-pair-is : (tab left right : List ℕ) (e : Pair) → Sides most-apart tab left right e → left ++ right ≡ pair-bytes e
-unfolding pair-bytes
-pair-is tab left right e k = ap₂ _++_ (k .left-bytes) (k .right-bytes)
+  -- what waits stands behind the rules
+  oldest-are : (rs : List Rule) (ws : List Candidate) (live count : ℕ) → live ≡ length rs → count ≡ length (held rs ws) →
+      Holds tab slots 0 (map marked (held rs ws)) → oldest-if NeitherAbove slots live count ≡ flatMap field-bytes (oldest-field ws)
+  unfolding oldest-if oldest-field flatMap if_then_else_
+  oldest-are rs [] live count l n h = rw (le-ltb live count (omega (arith, length-held rs []))) refl
+  oldest-are rs (c ∷ ws) live count l n h =
+      let m : MarkedAt tab slots live (marked c) =
+      row-at tab slots live (map row rs) (marked c) (map marked ws) (subst (λ z. Holds tab slots 0 z) (held-rows rs (c ∷ ws)) h) (length-rows rs ∙ sym l) in
+      rw (lt-ltb live count (omega (arith, length-held rs (c ∷ ws))))
+      (oldest-is c live m ∙ sym (append-nil (field-bytes (tagged 0x14 (pair-bytes (c .sides))))))
 
-forms-are : (tab one : List ℕ) (x : End) → ((e : Pair) → x ≡ neither-above e → PairAt most-apart tab one 0 e) →
-    forms-if (ending x) one ≡ flatMap field-bytes (forms-field x)
-unfolding forms-if ending forms-bytes forms-field flatMap if_then_else_
-forms-are tab one complete f = refl
-forms-are tab one (neither-above e) f =
-    let left : List ℕ = left-of (slot one 0) in
-    let right : List ℕ = right-of (slot one 0) in
-    let k : Sides most-apart tab left right e = f e refl .sides in
-    let x : low left ≡ true = term-low tab (e .left) (k .left-wf) left (k .left-bytes) in
-    let y : low right ≡ true = term-low tab (e .right) (k .right-wf) right (k .right-bytes) in
-    let p : renamed-bytes (left ++ right) ≡ pair-bytes (renamed e) =
-    ap renamed-bytes (pair-is tab left right e k)
-    ∙ pair-renamed e (wf-low most-apart tab (e .left) (k .left-wf)) (wf-low most-apart tab (e .right) (k .right-wf)) in
-    rw (x, y) (ap (λ c. field-bytes (tagged 0x14 c)) p ∙ sym (append-nil (field-bytes (tagged 0x14 (pair-bytes (renamed e))))))
-forms-are tab one spent f = refl
-forms-are tab one too-large f = refl
-forms-are tab one rules-full f = refl
-forms-are tab one log-full f = refl
+  forms-are : (x : End) (rs : List Rule) (ws : List Candidate) (live count : ℕ) → live ≡ length rs → count ≡ length (held rs ws) →
+      Holds tab slots 0 (map marked (held rs ws)) → oldest-if (ending x) slots live count ≡ flatMap field-bytes (forms-field x ws)
+  unfolding ending forms-field
+  forms-are complete rs ws live count l n h = unfold oldest-if flatMap in refl
+  forms-are neither-above rs ws live count l n h = oldest-are rs ws live count l n h
+  forms-are spent rs ws live count l n h = unfold oldest-if flatMap in refl
+  forms-are too-large rs ws live count l n h = unfold oldest-if flatMap in refl
+  forms-are rules-full rs ws live count l n h = unfold oldest-if flatMap in refl
+  forms-are log-full rs ws live count l n h = unfold oldest-if flatMap in refl
 
 behind-units : (R L F : List Field) → flatMap field-bytes (R ++ L ++ F) ≡ flatMap field-bytes R ++ (flatMap field-bytes L ++ flatMap field-bytes F)
 behind-units R L F =
@@ -129,20 +126,26 @@ module _ (tab : List ℕ) (f : Finished) (o : Ran) (h : RanIs tab f o) where
       let q : log ≡ flatMap logged (f .state .log) ++ drop n log = sym (take-append-drop n log) ∙ ap (λ l. l ++ drop n log) (h .state .log .bytes) in
       ap (logged-fields log 0) (h .state .log .counted) ∙ entries-are log 0 (f .state .log) (drop n log) q
 
-  forms-put : forms-if (o .end) (o .pair) ≡ flatMap field-bytes (forms-field (f .end))
-  forms-put = ap (λ e. forms-if e (o .pair)) (h .end) ∙ forms-are tab (o .pair) (f .end) (h .forms)
+  abbrev oldest-bytes : Ending → List ℕ
+  oldest-bytes e = oldest-if e (o .state .pairs .bytes) (o .state .live) (o .state .pairs .count)
+
+  forms-put : oldest-bytes (o .end) ≡ flatMap field-bytes (forms-field (f .end) (f .state .waiting))
+  forms-put =
+      ap oldest-bytes (h .end)
+      ∙ forms-are tab (o .state .pairs .bytes) (f .end) (f .state .rules) (f .state .waiting) (o .state .live) (o .state .pairs .count)
+      (h .state .live) (h .state .pairs .counted) (h .state .pairs .holds)
 
   abbrev put : ℕ → List ℕ
   put n =
       all-bytes n (o .paid) (slot-fields (o .state .pairs .bytes) 0 (o .state .live)) (logged-fields (o .state .log .bytes) 0 (o .state .log .count))
-      (forms-if (o .end) (o .pair))
+      (oldest-bytes (o .end))
 
   bytes-are : put (end-of (o .end)) ≡ result-bytes f
   unfolding all-bytes result-bytes result-fields flatMap
   bytes-are =
       rw (end-is, h .paid, rules-put, log-put, forms-put)
       (ap (λ (l : List ℕ). field-bytes (tagged 0x10 (number-bytes 1 (end-number (f .end)))) ++ (field-bytes (tagged 0x11 (number-bytes 4 (f .units))) ++ l))
-      (sym (behind-units (map rule-field (f .state .rules)) (map entry-field (f .state .log)) (forms-field (f .end)))))
+      (sym (behind-units (map rule-field (f .state .rules)) (map entry-field (f .state .log)) (forms-field (f .end) (f .state .waiting)))))
 
   pub reported : (before after : List ℕ) (r n : ℕ) → n ≡ end-of (o .end) → Writes before (put n) after r → Writes before (result-bytes f) after r
   reported before after r n e w = subst (λ ys. Writes before ys after r) (ap put e ∙ bytes-are) w

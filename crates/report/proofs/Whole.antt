@@ -1,58 +1,47 @@
 -- Field 14 is put or left out, and all fields one behind the other fill the front of the buffer, which has room for them. Assumes nothing.
--- Read first: specs/Fields (forms-if, forms-bytes), completion/specs/Calls (Writes), fields/proofs/Putting.
+-- Read first: specs/Fields (oldest-if), completion/specs/Calls (Writes), fields/proofs/Putting.
 use mathlib.Core.Path.{_≡_, refl, sym, _∙_}
-use mathlib.Core.Bool.{true, false}
 use mathlib.Core.List.{List, [], _++_, flatMap}
-use Prim.Native.Nat.{ℕ, _+_, _*_, _≤_}
+use Prim.Native.Nat.{ℕ, _+_, _*_, _<_, _≤_}
 use native.Mathlib.Omega.{arith}
 use lib.ListN.{length}
-use Rattle.limits.specs.Limits.{most-nodes, most-rules, most-entries, rule-width, entry-width, forms-width, most-result}
+use borrow.Author.Tests.{lt-ltb, le-ltb}
+use Rattle.limits.specs.Limits.{most-pair, most-rules, most-entries, field-head, rule-width, entry-width, forms-width, most-result}
 use Rattle.terms.specs.Base.{if_then_else_, number-bytes, Field, field-bytes}
-use Rattle.naming.specs.Names.{renamed-bytes}
-use Rattle.slots.specs.Slots.{slot, left-of, right-of}
 use Rattle.rewriting.specs.declared.End.{End as Ending}
 use Rattle.rewriting.specs.declared.End.the-variants.{Complete, NeitherAbove, Spent, TooLarge, RulesFull, LogFull}
 use Rattle.completion.specs.Calls.{written, Writes}
 use Rattle.fields.specs.Puts.{Puts, PutsSome, tagged}
 use Rattle.fields.proofs.Appending.{patched-none, patched-front}
-use Rattle.fields.proofs.Putting.{puts-length, puts-then, puts-counted}
-use Rattle.report.specs.Fields.{low, forms-bytes, forms-if}
+use Rattle.fields.proofs.Putting.{puts-length, puts-then}
+use Rattle.report.specs.Fields.{pair-field, oldest-if}
 
--- `put_forms_if`
+-- `put_oldest`
 module _ (out : List ℕ) (at : ℕ) where
   nothing : (ys : List ℕ) → ys ≡ [] → PutsSome forms-width out at 1 ys out at
   nothing ys e = rw e (record { puts = record { bytes = sym (patched-none at out); counted = refl; next = omega arith }; room = omega arith })
 
-  pub forms-none : (end : Ending) (pair : List ℕ) → (end ≡ NeitherAbove → ⊥) → PutsSome forms-width out at 1 (forms-if end pair) out at
-  forms-none end pair h = nothing _ (go end h)
+  pub oldest-none : (end : Ending) (slots : List ℕ) (live count : ℕ) → (end ≡ NeitherAbove → ⊥) →
+      PutsSome forms-width out at 1 (oldest-if end slots live count) out at
+  oldest-none end slots live count h = nothing _ (go end h)
     where
-      go : (e : Ending) → (e ≡ NeitherAbove → ⊥) → forms-if e pair ≡ []
-      go Complete h = unfold forms-if in refl
+      go : (e : Ending) → (e ≡ NeitherAbove → ⊥) → oldest-if e slots live count ≡ []
+      go Complete h = unfold oldest-if in refl
       go NeitherAbove h = absurd (h refl)
-      go Spent h = unfold forms-if in refl
-      go TooLarge h = unfold forms-if in refl
-      go RulesFull h = unfold forms-if in refl
-      go LogFull h = unfold forms-if in refl
+      go Spent h = unfold oldest-if in refl
+      go TooLarge h = unfold oldest-if in refl
+      go RulesFull h = unfold oldest-if in refl
+      go LogFull h = unfold oldest-if in refl
 
-  module _ (end : Ending) (pair left right : List ℕ) (neither : end ≡ NeitherAbove)
-      (left-is : left ≡ left-of (slot pair 0)) (right-is : right ≡ right-of (slot pair 0)) where
-    these : forms-if end pair ≡ forms-bytes left right
-    unfolding forms-if
-    these = rw (neither, left-is, right-is) refl
+  module _ (end : Ending) (slots : List ℕ) (live count : ℕ) (neither : end ≡ NeitherAbove) where
+    pub none-oldest : count ≤ live → PutsSome forms-width out at 1 (oldest-if end slots live count) out at
+    none-oldest h = nothing _ (unfold oldest-if if_then_else_ in rw (neither, le-ltb live count h) refl)
 
-    pub forms-put : (out′ : List ℕ) (r : ℕ) → length left ≤ most-nodes → length right ≤ most-nodes → low left ≡ true → low right ≡ true →
-        Puts out at (3 + (length left + length right)) (field-bytes (tagged 0x14 (renamed-bytes (left ++ right)))) out′ r →
-        PutsSome forms-width out at 1 (forms-if end pair) out′ r
-    unfolding forms-bytes if_then_else_
-    forms-put out′ r a b x y p =
-        let n : r ≡ at + (3 + (length left + length right)) = p .next in
-        rw (these, x, y) (record { puts = puts-counted out at _ _ out′ r p; room = omega arith })
-
-    pub left-high : low left ≡ false → PutsSome forms-width out at 1 (forms-if end pair) out at
-    left-high x = nothing _ (these ∙ unfold forms-bytes if_then_else_ in rw x refl)
-
-    pub right-high : low left ≡ true → low right ≡ false → PutsSome forms-width out at 1 (forms-if end pair) out at
-    right-high x y = nothing _ (these ∙ unfold forms-bytes if_then_else_ in rw (x, y) refl)
+    pub oldest-put : {out′ : List ℕ} {r : ℕ} → live < count →
+        PutsSome (field-head + 0 + most-pair) out at 1 (field-bytes (pair-field 0x14 [] slots live)) out′ r →
+        PutsSome forms-width out at 1 (oldest-if end slots live count) out′ r
+    unfolding oldest-if if_then_else_
+    oldest-put h p = rw (neither, lt-ltb live count h) (record { puts = p .puts; room = let m = p .room in omega arith })
 
 -- all fields
 unfoldable pub all-bytes : ℕ → ℕ → List Field → List Field → List ℕ → List ℕ

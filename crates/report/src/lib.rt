@@ -1,15 +1,13 @@
 // The result's bytes: its fields, one behind the other.
-ghost use mathlib.Core.Path.{_≡_};
-ghost use mathlib.Core.List.{[], _++_, flatMap};
-ghost use Prim.Native.Nat.{_+_, _*_, _<_, _≤_};
+ghost use mathlib.Core.List.{flatMap};
+ghost use Prim.Native.Nat.{_+_, _*_, _≤_};
 ghost use lib.ListN.{length};
-ghost use Rattle.limits.specs.Limits.{most-nodes, rule-width, entry-width, forms-width, most-result, field-head};
+ghost use Rattle.limits.specs.Limits.{most-pair, rule-width, entry-width, forms-width, most-result, field-head};
 ghost use Rattle.terms.specs.Base.{field-bytes};
-ghost use Rattle.naming.specs.Names.{collect, renamed-bytes};
-ghost use Rattle.fields.specs.Puts.{Puts, PutsSome, tagged};
+ghost use Rattle.fields.specs.Puts.{PutsSome};
 ghost use Rattle.slots.specs.Slots.{Layout};
 ghost use Rattle.state.specs.Run.{logged-width, Fine};
-ghost use Rattle.report.specs.Fields.{slot-field, slot-fields, logged-fields, low, forms-bytes, forms-if};
+ghost use Rattle.report.specs.Fields.{pair-field, slot-field, slot-fields, logged-fields, oldest-if};
 ghost use Rattle.report.specs.Report.{Reports};
 use rewriting::End;
 use run::Ran;
@@ -25,20 +23,30 @@ const ENTRY: u8 = 0x13;
 
 const FORMS: u8 = 0x14;
 
+// A field of the pair in slot k: some bytes, at most a rule's number, and the two sides behind them.
+fn put_pair(out: &mut [u8], at: usize, tag: u8, head: &[u8], pairs: &[u8], k: usize) -> usize
+    requires { ⌜ (at + (field-head + length (now head) + most-pair) ≤ length (now out)) × (length (now head) ≤ 2) × Layout (now pairs) (k + 1) ⌝ }
+    ensures { λ r. ⌜ PutsSome (field-head + length (now (head .entry)) + most-pair) (now (out .entry)) at 1
+        (field-bytes (pair-field tag (now (head .entry)) (now (pairs .entry)) k)) (now (out .exit)) r ⌝ }
+{
+    let left = slots::left(pairs, k);
+    let right = slots::right(pairs, k);
+    let n = head.len();
+    let a = fields::put_head(out, at, tag, n + left.len() + right.len());
+    fields::paste(out, a, head);
+    fields::paste(out, a + n, left);
+    fields::paste(out, a + n + left.len(), right);
+    a + n + left.len() + right.len()
+}
+
 // Field 12 of the rule in slot k.
 fn put_rule(out: &mut [u8], at: usize, rules: &[u8], k: usize) -> usize
     requires { ⌜ at + rule-width ≤ length (now out) ⌝ }
     requires { ⌜ Layout (now rules) (k + 1) ⌝ }
     ensures { λ r. ⌜ PutsSome rule-width (now (out .entry)) at 1 (field-bytes (slot-field (now (rules .entry)) k)) (now (out .exit)) r ⌝ }
 {
-    let left = slots::left(rules, k);
-    let right = slots::right(rules, k);
     let number = slots::number(rules, k);
-    let a = fields::put_head(out, at, RULE, 2 + left.len() + right.len());
-    fields::paste(out, a, &number);
-    fields::paste(out, a + 2, left);
-    fields::paste(out, a + 2 + left.len(), right);
-    a + 2 + left.len() + right.len()
+    put_pair(out, at, RULE, &number, rules, k)
 }
 
 // Field 12, once a rule.
@@ -72,59 +80,24 @@ fn put_log(out: &mut [u8], at: usize, log: &[u8], count: usize) -> usize
     a
 }
 
-// Field 14: two terms, renamed as a pair.
-fn put_forms(out: &mut [u8], at: usize, left: &[u8], right: &[u8]) -> usize
-    requires { ⌜ (at + forms-width ≤ length (now out)) × (length (now left) ≤ most-nodes) × (length (now right) ≤ most-nodes) ⌝ }
-    requires { ⌜ length (collect [] (now left ++ now right)) ≤ 127 ⌝ }
-    ensures { λ r. ⌜ Puts (now (out .entry)) at (field-head + (length (now (left .entry)) + length (now (right .entry))))
-        (field-bytes (tagged 0x14 (renamed-bytes (now (left .entry) ++ now (right .entry))))) (now (out .exit)) r ⌝ }
-{
-    let mut pair = [0u8; limits::PAIR];
-    let n = left.len();
-    let e = n + right.len();
-    fields::paste(&mut pair, 0, left);
-    fields::paste(&mut pair, n, right);
-    naming::rename_front(&mut pair, e);
-    fields::put_field(out, at, FORMS, &pair[0..e])
-}
-
-// Whether every byte is below 160: that of a symbol or of a variable below 32.
-fn low(t: &[u8]) -> bool
-    ensures { λ r. ⌜ r ≡ low (now (t .entry)) ⌝ }
-{
-    let mut i = 0;
-    while i < t.len() {
-        if t[i] >= limits::VARIABLES_END {
-            return false;
-        }
-        i += 1;
-    }
-    true
-}
-
-// Field 14, only with end 20.
-fn put_forms_if(out: &mut [u8], at: usize, end: End, pair: &[u8]) -> usize
-    requires { ⌜ (at + forms-width ≤ length (now out)) × Layout (now pair) 1 ⌝ }
-    ensures { λ r. ⌜ PutsSome forms-width (now (out .entry)) at 1 (forms-if end (now (pair .entry))) (now (out .exit)) r ⌝ }
+// Field 14, only with end 20: the oldest one waiting, which stands behind the live rules.
+fn put_oldest(out: &mut [u8], at: usize, end: End, pairs: &[u8], live: usize, count: usize) -> usize
+    requires { ⌜ (at + forms-width ≤ length (now out)) × Layout (now pairs) count ⌝ }
+    ensures { λ r. ⌜ PutsSome forms-width (now (out .entry)) at 1 (oldest-if end (now (pairs .entry)) live count) (now (out .exit)) r ⌝ }
 {
     let End::NeitherAbove = end else {
         return at;
     };
-    let left = slots::left(pair, 0);
-    let right = slots::right(pair, 0);
-    if !low(left) {
+    if live >= count {
         return at;
     }
-    if !low(right) {
-        return at;
-    }
-    put_forms(out, at, left, right)
+    put_pair(out, at, FORMS, &pairs[0..0], pairs, live)
 }
 
 // The result of a run: its bytes at the front, and their count.
 pub fn report(ran: Ran, out: &mut [u8]) -> usize
     requires { ⌜ most-result ≤ length (now out) ⌝ }
-    requires { ⌜ Fine (ran .state) × Layout (ran .pair) 1 ⌝ }
+    requires { ⌜ Fine (ran .state) ⌝ }
     ensures { λ r. ⌜ Reports ran (now (out .entry)) (now (out .exit)) r ⌝ }
 {
     let end = ran.end;
@@ -134,6 +107,6 @@ pub fn report(ran: Ran, out: &mut [u8]) -> usize
     let c = put_rules(out, b, &ran.state.pairs.bytes, live);
     let entries = ran.state.log.count;
     let d = put_log(out, c, &ran.state.log.bytes, entries);
-    let pair = ran.pair;
-    put_forms_if(out, d, end, &pair)
+    let pairs = ran.state.pairs.count;
+    put_oldest(out, d, end, &ran.state.pairs.bytes, live, pairs)
 }

@@ -16,14 +16,14 @@ use Rattle.completion.specs.Turn.{waiting-input, State as RunState, Finished, t
 use Rattle.completion.proofs.Limits.{length-candidates}
 use Rattle.completion.proofs.Reachable.{turn-less}
 use Rattle.completion.proofs.Turning.{Running, run-begins, run-goes-on, run-ends}
-use Rattle.slots.specs.Slots.{Layout, Marked, Stored}
+use Rattle.slots.specs.Slots.{Marked, Stored}
 use Rattle.slots.specs.declared.Pairs.{Pairs}
 use Rattle.slots.proofs.Listing.{stored-of}
 use Rattle.inputs.specs.Inputs.{marked, Held, inputs-of}
 use Rattle.state.specs.declared.State.{State}
 use Rattle.state.specs.Run.{Fine}
 use Rattle.state.specs.Steps.{Initial}
-use Rattle.turn.specs.declared.Turned.{Turned}
+use Rattle.state.specs.declared.Turned.{Turned}
 use Rattle.turn.specs.Turns.{Given, TurnSafe, TurnedIs, Turns}
 use Rattle.run.specs.declared.Ran.{Ran}
 use Rattle.run.specs.Runs.{ended-run, RanIs, Runs}
@@ -49,7 +49,6 @@ pub record OnTheWay (tab : List ℕ) (P : Problem) (t : Turned) : Type 0 where
 -- The loop's invariant.
 pub record Looping (tab : List ℕ) (inputs : Pairs) (budget : ℕ) (t : Turned) : Type 0 where
   pub fine : Fine (t .state)
-  pub layout : Layout (t .pair) 1
   pub within : t .state .units ≤ budget
   pub way : (P : Problem) → rank-of (P .symbols) ≡ rank tab → Held tab inputs (inputs-of P) → budget ≡ P .budget → OnTheWay tab P t
 
@@ -59,7 +58,6 @@ looping-begins {tab} {inputs} {budget} {first} {t} I T =
     let less = T .safe .less in
     record {
       fine = T .safe .fine;
-      layout = T .safe .layout;
       within = omega (arith, I .units);
       way = λ P ranks H b.
           record {
@@ -89,7 +87,6 @@ loops-on {tab} {inputs} {budget} {t} {u} I v T =
     let b = T .safe .less in
     record {
       fine = T .safe .fine;
-      layout = T .safe .layout;
       within = omega arith;
       way = λ P ranks H e. next-turn tab (inputs .bytes) (inputs .count) P t u (given-of tab inputs P ranks H) v T (I .way P ranks H e);
     }
@@ -123,7 +120,7 @@ ends tab P t end v W = go (turn P (W .state) (W .units)) refl (W .turned)
     go (stop f left) e a =
         let z : run P ≡ record { end = f; units = P .budget - left; state = W .state } = run-ends P (run P) (W .state) (W .units) (W .running) f left e in
         subst (λ (r : Finished). RanIs tab r (ended-run t end (P .budget))) (sym z)
-        (record { state = a .2; end = same-end v (a .0); paid = ap (λ x. P .budget - x) (a .1); forms = a .3 })
+        (record { state = a .2; end = same-end v (a .0); paid = ap (λ x. P .budget - x) (a .1) })
 
 pub run-ended : {tab : List ℕ} {inputs : Pairs} {budget : ℕ} {t : Turned} {end : Ending} {o : Ran} → Looping tab inputs budget t → t .verdict ≡ Ends end →
     o ≡ ended-run t end budget → Runs tab inputs budget o
@@ -131,7 +128,6 @@ run-ended {tab} {inputs} {budget} {t} {end} I v e =
     subst (Runs tab inputs budget) (sym e)
     (record {
       fine = I .fine;
-      layout = I .layout;
       within = omega arith;
       answer = λ P ranks H b. subst (λ n. RanIs tab (run P) (ended-run t end n)) (sym b) (ends tab P t end v (I .way P ranks H b));
     })

@@ -7,16 +7,14 @@ ghost use Rattle.run.specs.Runs.{ended-run, Runs};
 use rewriting::End;
 use rewriting::Verdict;
 use slots::Pairs;
-use slots::SLOT;
 use state::State;
-use turn::Turned;
+use state::Turned;
 
-// The last state; how the run ended; the units paid; with NeitherAbove the two forms.
+// The last state; how the run ended; the units paid.
 pub struct Ran {
     pub state: State,
     pub end: End,
     pub paid: u32,
-    pub pair: [u8; SLOT],
 }
 
 // The end of the run, from the turn that ended it.
@@ -25,12 +23,10 @@ fn ended(t: Turned, end: End, budget: u32) -> Ran
     ensures { λ r. ⌜ r ≡ ended-run t end budget ⌝ }
 {
     let state = t.state;
-    let pair = t.pair;
     Ran {
         state: state,
         end: end,
         paid: budget - state.units,
-        pair: pair,
     }
 }
 

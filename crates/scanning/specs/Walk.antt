@@ -101,7 +101,7 @@ of-all x next = of-rules 0 (x .rules) (of-inputs 0 x next)
 -- what a scan finds where it comes to an end: "If there is none, the end is 0, complete."
 abbrev pub StopsWith : End → Found → Type 0
 StopsWith complete f = f ≡ Equal
-StopsWith (neither-above e) f = ⊥
+StopsWith neither-above f = ⊥
 StopsWith spent f = f ≡ Ends Spent
 StopsWith too-large f = f ≡ Ends TooLarge
 StopsWith rules-full f = ⊥

@@ -5,6 +5,7 @@ use mathlib.Core.List.{List}
 use Prim.Native.Nat.{ℕ, _-_, _≤_}
 use native.Mathlib.Omega.{arith}
 use lib.ListN.{length, take}
+use Rattle.limits.specs.Limits.{most-result}
 use Rattle.completion.proofs.Writing.{written-front}
 use Rattle.problem.specs.Problem.{Reading, ok, refused}
 use Rattle.reading.proofs.Reading.{no-ok, ok-injective}
@@ -20,7 +21,7 @@ use Rattle.settle_text.proofs.Settling.{settle-lines, settle-refused}
 -- the result stands in the first n bytes of the buffer, and is short
 pub record Got (problem : List ℕ) (buffer n : ℕ) (after : List ℕ) : Type 0 where
   pub is : complete-call problem buffer ≡ ok (take (n - 0) after)
-  pub few : n ≤ 13_715
+  pub few : n ≤ most-result
 
 pub got : (problem before after : List ℕ) (r : Completed) (n buffer : ℕ) → r ≡ Written n → completed-told r ≡ counted (complete-call problem buffer) →
     after ≡ after-complete (complete-call problem buffer) before → Got problem buffer n after

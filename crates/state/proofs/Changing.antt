@@ -8,11 +8,9 @@ use native.Mathlib.Omega.{arith}
 use lib.ListN.{length, length-append}
 use Rattle.limits.specs.Limits.{most-equations, most-rules, most-variables}
 use Rattle.terms.specs.Term.{Pair}
-use Rattle.rewriting.specs.Overlap.{Rule}
-use Rattle.rewriting.specs.Rewrite.{Paid, done, stop}
-use Rattle.rewriting.specs.declared.End.{End}
-use Rattle.rewriting.specs.declared.Verdict.the-variants.{GoesOn, Ends}
-use Rattle.rewriting.proofs.Verdicts.{goes≢ends}
+use Rattle.terms.proofs.Shape.{zero≢one}
+use Rattle.rewriting.specs.Overlap.{Rule as LiveRule}
+use Rattle.problem.specs.Problem.{Problem}
 use Rattle.slots.specs.Slots.{slot-width, slot, Layout, PairAt, MarkedAt, Holds, Removed, Inserted}
 use Rattle.slots.specs.declared.Pairs.{Pairs}
 use Rattle.slots.proofs.Listing.{pair-moved}
@@ -20,35 +18,45 @@ use Rattle.slots.proofs.Changes.{removed-layout, inserted-layout, removed-holds
 use Rattle.completion.specs.Turn.{removed-rule, Candidate, State as RunState, initial}
 use Rattle.completion.specs.Calls.{origin-bytes}
 use Rattle.inputs.specs.Inputs.{marked, Held}
-use Rattle.orient.specs.Orients.{oriented, OrientedIs, RuleOf}
-use Rattle.orient.specs.declared.Oriented.{Oriented}
+use Rattle.orient.specs.Orients.{OrientedIs, RuleOf}
+use Rattle.orient.specs.declared.Oriented.{Oriented as NewPair}
+use Rattle.orient.specs.declared.Way.{Way}
+use Rattle.orient.specs.declared.Way.the-variants.{Rule, Neither, TooLarge}
 use Rattle.state.specs.declared.State.{State}
-use Rattle.state.specs.declared.Stepped.{Stepped}
+use Rattle.state.specs.declared.Oriented.{Oriented}
 use Rattle.state.specs.Run.{as-removed, held, FineBut, Fine, Represents}
 use Rattle.state.specs.Sifting.{Sifted}
-use Rattle.state.specs.Steps.{Initial, behind-first, Takes, with-rule, NewRule, Orients, collapsed, Collapses}
+use Rattle.state.specs.Steps.{Initial, behind-first, Takes, with-rule, OrientsIs, Orients, collapsed, Collapses}
 use Rattle.state.proofs.Rows.{row, held-rows, held-more, length-held, length-rows, length-marked, row-at}
 
 -- `initial`
 pub initial-done : (inputs : Pairs) (budget : ℕ) (zeros : List ℕ) → Layout (inputs .bytes) (inputs .count) → inputs .count ≤ most-equations →
-    Initial inputs budget (record { pairs = inputs; live = 0; made = 0; log = record { bytes = zeros; count = 0 }; units = budget })
+    Initial inputs budget (record { pairs = inputs; live = 0; made = 0; log = record { bytes = zeros; count = 0 }; back = 0; units = budget })
 unfolding initial flatMap
 initial-done inputs budget zeros y few = record {
-  fine = record { layout = y; within = omega arith; together = omega arith; live-few = omega arith; log-few = omega arith; made-few = omega arith };
+  fine = record {
+    layout = y;
+    within = omega arith;
+    together = omega arith;
+    live-few = omega arith;
+    log-few = omega arith;
+    made-few = omega arith;
+    back-few = omega arith;
+  };
   units = refl;
   empty = refl;
-  represents = λ tab P h. record { pairs = h; live = refl; made = refl; log = record { bytes = refl; counted = refl } };
+  represents = λ tab P h. record { pairs = h; live = refl; made = refl; log = record { bytes = refl; counted = refl }; back = refl };
 }
 
 -- the rows of a state that is stood for
 module _ (tab : List ℕ) (st : State) (s : RunState) (r : Represents tab st s) where
-  rows : Holds tab (st .pairs .bytes) 0 (map row (s .rules) ++ map marked (s .waiting))
+  pub rows : Holds tab (st .pairs .bytes) 0 (map row (s .rules) ++ map marked (s .waiting))
   rows = subst (λ z. Holds tab (st .pairs .bytes) 0 z) (held-rows (s .rules) (s .waiting)) (r .pairs .holds)
 
-  all-rows : st .pairs .count ≡ st .live + length (s .waiting)
+  pub all-rows : st .pairs .count ≡ st .live + length (s .waiting)
   all-rows = let l = r .live in r .pairs .counted ∙ length-held (s .rules) (s .waiting) ∙ omega arith
 
-  rules-rows : length (map row (s .rules)) ≡ st .live
+  pub rules-rows : length (map row (s .rules)) ≡ st .live
   rules-rows = length-rows (s .rules) ∙ sym (r .live)
 
 -- `take`
@@ -60,11 +68,12 @@ module _ (st : State) (fine : Fine st) where
       live = st .live;
       made = st .made;
       log = st .log;
+      back = st .back;
       units = st .units;
     }
 
     taken : (tab : List ℕ) (s : RunState) → Represents tab st s → (ws : List Candidate) → s .waiting ≡ ws →
-        Represents tab without-first (record { rules = s .rules; made = s .made; waiting = behind-first ws; log = s .log })
+        Represents tab without-first (record { rules = s .rules; made = s .made; waiting = behind-first ws; log = s .log; put-back = s .put-back })
     unfolding behind-first
     taken tab s r [] e = absurd (omega (arith, all-rows tab st s r, ap length e))
     taken tab s r (c ∷ cs) e =
@@ -84,6 +93,7 @@ module _ (st : State) (fine : Fine st) where
           live = l;
           made = r .made;
           log = r .log;
+          back = r .back;
         }
 
     pub take-done : Takes st without-first
@@ -96,8 +106,9 @@ module _ (st : State) (fine : Fine st) where
             live-few = fine .live-few;
             log-few = fine .log-few;
             made-few = fine .made-few;
+            back-few = fine .back-few;
           };
-          same = record { log = refl; units = refl };
+          same = record { log = refl; back = refl; units = refl };
           live = refl;
           room = inl (omega arith);
           represents = λ tab s r. taken tab s r (s .waiting) refl;
@@ -105,57 +116,64 @@ module _ (st : State) (fine : Fine st) where
 
   module _ (none : st .pairs .count ≤ st .live) where
     not-taken : (tab : List ℕ) (s : RunState) → Represents tab st s → (ws : List Candidate) → s .waiting ≡ ws →
-        Represents tab st (record { rules = s .rules; made = s .made; waiting = behind-first ws; log = s .log })
+        Represents tab st (record { rules = s .rules; made = s .made; waiting = behind-first ws; log = s .log; put-back = s .put-back })
     unfolding behind-first
-    not-taken tab s r [] e = record { pairs = subst (λ z. Held tab (st .pairs) (held (s .rules) z)) e (r .pairs); live = r .live; made = r .made; log = r .log }
+    not-taken tab s r [] e =
+        record {
+          pairs = subst (λ z. Held tab (st .pairs) (held (s .rules) z)) e (r .pairs);
+          live = r .live;
+          made = r .made;
+          log = r .log;
+          back = r .back;
+        }
     not-taken tab s r (c ∷ cs) e = absurd (omega (arith, all-rows tab st s r, ap length e))
 
     pub take-none : Takes st st
     take-none =
         let w = fine .within in record {
           fine = fine;
-          same = record { log = refl; units = refl };
+          same = record { log = refl; back = refl; units = refl };
           live = refl;
           room = inr (omega arith);
           represents = λ tab s r. not-taken tab s r (s .waiting) refl;
         }
 
 -- `orient`
-module _ (tab pair : List ℕ) (st : State) (o : Oriented) where
-  module _ (number : ℕ) (h : RuleOf tab pair number o) (e : End) (ends : o .verdict ≡ Ends e) where
-    abbrev as-it-was : Stepped
-    as-it-was = record { state = st; verdict = o .verdict }
+module _ (tab pair : List ℕ) (st : State) (o : NewPair) where
+  module _ (number : ℕ) (h : RuleOf tab pair number o) (none : o .way ≡ Rule → ⊥) where
+    abbrev as-it-was : Oriented
+    as-it-was = record { state = st; way = o .way }
 
-    ended : (s : RunState) (p : Pair) (units : ℕ) (m : Paid Pair) → OrientedIs tab o p units m → NewRule tab s p units as-it-was m
-    ended s p units (done q left) a = absurd (goes≢ends (a .0) ends)
-    ended s p units (stop f left) a = a
+    no-rule : (P : Problem) (s : RunState) (p : Pair) (w : Way) → (w ≡ Rule → ⊥) → OrientedIs tab (o .rule) P p w → OrientsIs tab P s p st w
+    no-rule P s p Rule n a = absurd (n refl)
+    no-rule P s p Neither n a = a
+    no-rule P s p TooLarge n a = a
 
-    pub orient-ends : Orients tab pair st as-it-was
-    orient-ends = record {
-      fine = λ g. absurd (goes≢ends g ends);
-      live = λ g. absurd (goes≢ends g ends);
-      made = λ g. absurd (goes≢ends g ends);
-      same = record { log = refl; units = refl };
-      answer = λ P k s p r q units. ended s p units (oriented P p units) (h .answer P k p q units);
+    pub orient-none : Orients tab pair st as-it-was
+    orient-none = record {
+      fine = λ g. absurd (none g);
+      live = λ g. absurd (none g);
+      made = λ g. absurd (none g);
+      same = record { log = refl; back = refl; units = refl };
+      low = h .low;
+      answer = λ P k s p r q. no-rule P s p (o .way) none (h .answer P k p q);
     }
 
-  module _ (fine : Fine st) (h : RuleOf tab pair (st .made + 1) o) (goes : o .verdict ≡ GoesOn) (few : st .pairs .count ≤ most-rules)
+  module _ (fine : Fine st) (h : RuleOf tab pair (st .made + 1) o) (is-rule : o .way ≡ Rule) (few : st .pairs .count ≤ most-rules)
       (room : slot-width * (st .pairs .count + 1) ≤ length (st .pairs .bytes)) (b : List ℕ)
       (i : Inserted (st .pairs .bytes) (st .live) (st .pairs .count) (o .rule) b) where
-    abbrev with-new : Stepped
+    abbrev with-new : State
     with-new = record {
-      state = record {
-        pairs = record { bytes = b; count = st .pairs .count + 1 };
-        live = st .live + 1;
-        made = st .made + 1;
-        log = st .log;
-        units = st .units;
-      };
-      verdict = o .verdict;
+      pairs = record { bytes = b; count = st .pairs .count + 1 };
+      live = st .live + 1;
+      made = st .made + 1;
+      log = st .log;
+      back = st .back;
+      units = st .units;
     }
 
     module _ (s : RunState) (r : Represents tab st s) (p : Pair) (a : PairAt most-variables tab (o .rule) 0 p) where
-      abbrev new : Rule
+      abbrev new : LiveRule
       new = record { number = suc (s .made); sides = p }
 
       more-made : st .made + 1 ≡ suc (s .made)
@@ -163,9 +181,9 @@ module _ (tab pair : List ℕ) (st : State) (o : Oriented) where
 
       new-row : MarkedAt tab (o .rule) 0 (row new)
       unfolding as-removed
-      new-row = record { mark = h .marked goes ∙ ap (λ n. origin-bytes (removed-rule n)) more-made; pair = a }
+      new-row = record { mark = h .marked is-rule ∙ ap (λ n. origin-bytes (removed-rule n)) more-made; pair = a }
 
-      with-new-rule : Represents tab (with-new .state) (with-rule s p)
+      with-new-rule : Represents tab with-new (with-rule s p)
       with-new-rule =
           let l = r .live in
           let one = length-append (s .rules) (new ∷ []) in
@@ -182,13 +200,17 @@ module _ (tab pair : List ℕ) (st : State) (o : Oriented) where
             live = omega arith;
             made = more-made;
             log = r .log;
+            back = r .back;
           }
 
-    made-rule : (s : RunState) → Represents tab st s → (p : Pair) (units : ℕ) (m : Paid Pair) → OrientedIs tab o p units m → NewRule tab s p units with-new m
-    made-rule s r p units (done q left) a = (a .0, a .1, with-new-rule s r q (a .2))
-    made-rule s r p units (stop f left) a = a
+    made-rule : (P : Problem) (s : RunState) → Represents tab st s → (p : Pair) (w : Way) → w ≡ Rule → OrientedIs tab (o .rule) P p w →
+        OrientsIs tab P s p with-new w
+    made-rule P s r p Rule e a =
+        (a .0, record { sides = a .1 .sides; oriented = a .1 .oriented; represents = with-new-rule s r (a .1 .sides) (a .1 .stands) })
+    made-rule P s r p Neither e a = absurd (zero≢one (cc))
+    made-rule P s r p TooLarge e a = absurd (zero≢one (cc))
 
-    pub orient-done : Orients tab pair st with-new
+    pub orient-done : Orients tab pair st (record { state = with-new; way = o .way })
     orient-done =
         let w = fine .within in
         let l = fine .live-few in
@@ -200,11 +222,13 @@ module _ (tab pair : List ℕ) (st : State) (o : Oriented) where
             live-few = omega arith;
             log-few = fine .log-few;
             made-few = omega arith;
+            back-few = fine .back-few;
           };
           live = λ g. refl;
           made = λ g. refl;
-          same = record { log = refl; units = refl };
-          answer = λ P k s p r q units. made-rule s r p units (oriented P p units) (h .answer P k p q units);
+          same = record { log = refl; back = refl; units = refl };
+          low = h .low;
+          answer = λ P k s p r q. made-rule P s r p (o .way) is-rule (h .answer P k p q);
         }
 
 -- `collapse`
@@ -216,10 +240,11 @@ module _ (tab : List ℕ) (st : State) (fine : FineBut 1 st) (new b : List ℕ) 
     live = stay;
     made = st .made;
     log = st .log;
+    back = st .back;
     units = st .units;
   }
 
-  collapse-represents : (s : RunState) (older : List Rule) (x : Rule) → s .rules ≡ older ++ (x ∷ []) → Represents tab st s →
+  collapse-represents : (s : RunState) (older : List LiveRule) (x : LiveRule) → s .rules ≡ older ++ (x ∷ []) → Represents tab st s →
       Represents tab after-collapse (collapsed s older x)
   unfolding as-removed
   collapse-represents s older x e r =
@@ -233,7 +258,7 @@ module _ (tab : List ℕ) (st : State) (fine : FineBut 1 st) (new b : List ℕ) 
       (length-rows older ∙ omega (arith, ap length e)) in
       let f = g .sifted x older (s .waiting) (pair-moved copied (m .pair))
       (record { holds = h; live-are = l ∙ ap length e; counted = r .pairs .counted ∙ ap (λ z. length (held z (s .waiting))) e }) in
-      record { pairs = record { holds = f .holds; counted = f .counted }; live = f .live-are; made = r .made; log = r .log }
+      record { pairs = record { holds = f .holds; counted = f .counted }; live = f .live-are; made = r .made; log = r .log; back = r .back }
 
   pub collapse-done : Collapses tab st after-collapse
   collapse-done =
@@ -247,9 +272,10 @@ module _ (tab : List ℕ) (st : State) (fine : FineBut 1 st) (new b : List ℕ) 
           live-few = omega arith;
           log-few = fine .log-few;
           made-few = fine .made-few;
+          back-few = fine .back-few;
         };
         some-live = g .some;
         made = refl;
-        same = record { log = refl; units = refl };
+        same = record { log = refl; back = refl; units = refl };
         represents = collapse-represents;
       }

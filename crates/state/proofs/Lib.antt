@@ -1,4 +1,5 @@
 pub mod Rows
 mod Siftings
 mod Changing
-mod Logging
+pub mod Logging
+mod PuttingBack

@@ -12,57 +12,70 @@ use Rattle.terms.proofs.Limits.{length-number-bytes}
 use Rattle.fields.specs.Puts.{patched, Puts}
 use Rattle.fields.proofs.Appending.{patched-behind}
 use Rattle.fields.proofs.Patching.{front-more}
-use Rattle.completion.specs.Turn.{Origin, Entry, State as RunState}
+use Rattle.slots.specs.Slots.{slot, mark-of}
+use Rattle.completion.specs.Turn.{Origin, Entry}
 use Rattle.completion.specs.Calls.{origin-bytes}
 use Rattle.completion.proofs.Widths.{origin-bytes-length}
+use Rattle.state.specs.declared.Log.{Log}
 use Rattle.state.specs.declared.State.{State}
-use Rattle.state.specs.Run.{logged-width, logged, FineBut, Represents}
-use Rattle.state.specs.Steps.{with-entry, Logs}
+use Rattle.state.specs.Run.{logged-width, logged, Logged, FineBut}
+use Rattle.state.specs.Steps.{Enters, Logs}
 
--- `add_entry`
-pub entry-put : (log log₁ log₂ origin : List ℕ) (at made r : ℕ) → at + length origin ≤ length log → length origin ≡ 6 → log₁ ≡ patched at origin log →
-    Puts log₁ (at + 6) 2 (number-bytes 2 made) log₂ r → log₂ ≡ patched at (origin ++ number-bytes 2 made) log
-entry-put log log₁ log₂ origin at made r room six e p =
+-- `enter`
+pub entry-put : {n made : ℕ} {pair : List ℕ} (log log₁ log₂ origin : List ℕ) (at r : ℕ) → at ≡ logged-width * n → origin ≡ mark-of (slot pair 0) →
+    at + length origin ≤ length log → length origin ≡ 6 → log₁ ≡ patched at origin log → Puts log₁ (at + 6) 2 (number-bytes 2 made) log₂ r →
+    Enters n made pair log log₂ (n + 1)
+entry-put {n} {made} log log₁ log₂ origin at r place from room six e p =
     let k : at + 6 ≡ at + length origin = omega arith in
-    p .bytes ∙ ap₂ (λ z l. patched z (number-bytes 2 made) l) k e ∙ patched-behind at origin (number-bytes 2 made) log room
+    record {
+      bytes =
+          p .bytes ∙ ap₂ (λ z l. patched z (number-bytes 2 made) l) k e ∙ patched-behind at origin (number-bytes 2 made) log room
+          ∙ ap₂ (λ z o. patched z (o ++ number-bytes 2 made) log) place from;
+      more = refl;
+    }
 
--- `log`
-module _ (st : State) (origin : List ℕ) (n units : ℕ) (fine : FineBut 1 st) (few : st .live ≤ most-rules) (room : st .log .count < most-entries)
-    (long : logged-width * most-entries ≤ length (st .log .bytes)) (bytes : List ℕ)
-    (e : bytes ≡ patched (logged-width * (st .log .count)) (origin ++ number-bytes 2 n) (st .log .bytes)) where
-  abbrev with-one : State
-  with-one = record {
-    pairs = st .pairs;
-    live = st .live;
-    made = st .made;
-    log = record { bytes = bytes; count = st .log .count + 1 };
-    units = units;
-  }
+-- a log with one entry more
+module _ (log : Log) (pair : List ℕ) (n : ℕ) (room : log .count < most-entries) (long : logged-width * most-entries ≤ length (log .bytes))
+    (bytes : List ℕ) (count : ℕ) (e : Enters (log .count) n pair (log .bytes) bytes count) where
+  abbrev pub with-one : Log
+  with-one = record { bytes = bytes; count = count }
 
-  entry-represents : (tab : List ℕ) (s : RunState) (o : Origin) → Represents tab st s → origin ≡ origin-bytes o → Represents tab with-one (with-entry s o n)
+  pub logged-more : (es : List Entry) (o : Origin) → Logged log es → mark-of (slot pair 0) ≡ origin-bytes o →
+      Logged with-one (es ++ (record { origin = o; made = n } ∷ []))
   unfolding logged
-  entry-represents tab s o r q =
+  logged-more es o r q =
+      let origin : List ℕ = mark-of (slot pair 0) in
       let new : Entry = record { origin = o; made = n } in
+      let more = e .more in
       let k : length (origin ++ number-bytes 2 n) ≡ 8 =
       length-append origin (number-bytes 2 n) ∙ omega (arith, ap length q, origin-bytes-length o, length-number-bytes 2 n) in
       record {
-        pairs = r .pairs;
-        live = r .live;
-        made = r .made;
-        log = record {
-          bytes =
-              ap (take (logged-width * (st .log .count + 1))) e
-              ∙ front-more (logged-width * (st .log .count)) (logged-width * (st .log .count + 1)) (origin ++ number-bytes 2 n) (st .log .bytes)
-              (omega arith) (omega arith)
-              ∙ ap₂ _++_ (r .log .bytes) (ap (λ z. z ++ number-bytes 2 n) q ∙ sym (flatMap-one logged new))
-              ∙ sym (flatMap-append logged (s .log) (new ∷ []));
-          counted = ap (λ z. z + 1) (r .log .counted) ∙ sym (length-append (s .log) (new ∷ []));
-        };
+        bytes =
+            ap (take (logged-width * count)) (e .bytes)
+            ∙ front-more (logged-width * (log .count)) (logged-width * count) (origin ++ number-bytes 2 n) (log .bytes) (omega arith) (omega arith)
+            ∙ ap₂ _++_ (r .bytes) (ap (λ z. z ++ number-bytes 2 n) q ∙ sym (flatMap-one logged new))
+            ∙ sym (flatMap-append logged es (new ∷ []));
+        counted = more ∙ ap (λ z. z + 1) (r .counted) ∙ sym (length-append es (new ∷ []));
       }
 
-  pub log-done : Logs st origin n units with-one
+-- `log`
+module _ (st : State) (pair : List ℕ) (n units : ℕ) (fine : FineBut 1 st) (few : st .live ≤ most-rules) (room : st .log .count < most-entries)
+    (long : logged-width * most-entries ≤ length (st .log .bytes)) (bytes : List ℕ) (count : ℕ)
+    (e : Enters (st .log .count) n pair (st .log .bytes) bytes count) where
+  abbrev with-log : State
+  with-log = record {
+    pairs = st .pairs;
+    live = st .live;
+    made = st .made;
+    log = with-one (st .log) pair n room long bytes count e;
+    back = 0;
+    units = units;
+  }
+
+  pub log-done : Logs st (mark-of (slot pair 0)) n units with-log
   log-done =
-      let m = fine .made-few in record {
+      let m = fine .made-few in
+      let more = e .more in record {
         fine = record {
           layout = fine .layout;
           within = fine .within;
@@ -70,8 +83,15 @@ module _ (st : State) (origin : List ℕ) (n units : ℕ) (fine : FineBut 1 st) 
           live-few = omega arith;
           log-few = omega arith;
           made-few = omega arith;
+          back-few = omega arith;
         };
-        entries = refl;
+        entries = more;
         units-are = refl;
-        represents = entry-represents;
+        represents = λ tab s o r q. record {
+          pairs = r .pairs;
+          live = r .live;
+          made = r .made;
+          log = logged-more (st .log) pair n room long bytes count e (s .log) o (r .log) q;
+          back = refl;
+        };
       }

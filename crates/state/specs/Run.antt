@@ -10,7 +10,10 @@ use Rattle.slots.specs.Slots.{Layout}
 use Rattle.completion.specs.Turn.{removed-rule, Candidate, Entry, State as RunState}
 use Rattle.completion.specs.Calls.{origin-bytes}
 use Rattle.inputs.specs.Inputs.{Held}
+use Rattle.rewriting.specs.declared.End.{End as Ending}
+use Rattle.rewriting.specs.declared.Verdict.the-variants.{Ends}
 use Rattle.state.specs.declared.State.{State}
+use Rattle.state.specs.declared.Turned.{Turned}
 use Rattle.state.specs.declared.Log.{Log}
 
 -- an entry in the log, the contents of its field 13: an origin, and the number of the rule made. 8 bytes
@@ -41,6 +44,7 @@ pub record FineBut (behind : ℕ) (st : State) : Type 0 where
   pub live-few : st .live ≤ most-rules + behind
   pub log-few : st .log .count ≤ most-entries
   pub made-few : st .made ≤ st .log .count + behind
+  pub back-few : st .back ≤ st .log .count
 
 abbrev pub Fine : State → Type 0
 Fine st = FineBut 0 st
@@ -51,7 +55,12 @@ pub record Represents (tab : List ℕ) (st : State) (s : RunState) : Type 0 wher
   pub live : st .live ≡ length (s .rules)
   pub made : st .made ≡ s .made
   pub log : Logged (st .log) (s .log)
+  pub back : st .back ≡ s .put-back
 
 -- the state with other units
 abbrev pub with-units : State → ℕ → State
-with-units st u = record { pairs = st .pairs; live = st .live; made = st .made; log = st .log; units = u }
+with-units st u = record { pairs = st .pairs; live = st .live; made = st .made; log = st .log; back = st .back; units = u }
+
+-- `ended`
+abbrev pub ended-as : State → Ending → ℕ → Turned
+ended-as st end units = record { state = with-units st units; verdict = Ends end }

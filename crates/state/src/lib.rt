@@ -1,15 +1,15 @@
-// The run's state by value, and the steps of a turn: each takes the state and hands back the next, with its verdict beside it where it can stop.
+// The run's state by value, and the steps of a turn: each takes the state and hands back the next.
 ghost use mathlib.Core.Path.{_≡_};
-ghost use mathlib.Core.List.{_++_};
 ghost use Prim.Native.Nat.{_+_, _-_, _*_, _<_, _≤_};
 ghost use lib.ListN.{length};
 ghost use Rattle.limits.specs.Limits.{most-equations, most-rules, most-entries};
-ghost use Rattle.terms.specs.Base.{number-bytes};
-ghost use Rattle.fields.specs.Puts.{patched};
-ghost use Rattle.slots.specs.Slots.{slot-width, Layout, Removed, Inserted};
-ghost use Rattle.state.specs.Run.{logged-width, with-units, Fine, FineBut};
+ghost use Rattle.orient.specs.Orients.{LowPair};
+ghost use Rattle.slots.specs.Slots.{slot-width, slot, mark-of, Layout, Removed, Inserted};
+ghost use Rattle.state.specs.Run.{logged-width, with-units, ended-as, Fine, FineBut};
 ghost use Rattle.state.specs.Sifting.{SiftedOne, Sifted};
-ghost use Rattle.state.specs.Steps.{Initial, Takes, Orients, Collapses, Logs};
+ghost use Rattle.state.specs.Steps.{Initial, Takes, Orients, PutsBack, Collapses, Enters, Logs};
+use orient::Way;
+use rewriting::End;
 use rewriting::Verdict;
 use slots::Pairs;
 use slots::ROOM;
@@ -20,25 +20,36 @@ pub const ENTRY: usize = limits::ORIGIN + 2;
 // Bytes of the log: 4,096.
 pub const LOG: usize = limits::ENTRIES * ENTRY;
 
+// "its entry has ffff (hexadecimal) as the rule made"
+const PUT_BACK: u16 = 0xffff;
+
 // The entries, oldest first.
 pub struct Log {
     pub bytes: [u8; LOG],
     pub count: usize,
 }
 
-// The first `live` pairs are the live rules, of which `made` were made so far; the pairs behind them wait. Both stand oldest first.
+// The first `live` pairs are the live rules, of which `made` were made so far; the pairs behind them wait. Both stand oldest first. Of those that
+// wait the last `back` were put back since a rule was last made or an equation settled.
 pub struct State {
     pub pairs: Pairs,
     pub live: usize,
     pub made: usize,
     pub log: Log,
+    pub back: usize,
     pub units: u32,
 }
 
-// A state, and whether the turn goes on with it.
-pub struct Stepped {
+// What a turn hands back: the state, and whether the run goes on with it.
+pub struct Turned {
     pub state: State,
     pub verdict: Verdict,
+}
+
+// A state, with the new rule where the pair became one.
+pub struct Oriented {
+    pub state: State,
+    pub way: Way,
 }
 
 impl State {
@@ -55,6 +66,7 @@ impl State {
                 bytes: [0u8; LOG],
                 count: 0,
             },
+            back: 0,
             units: budget,
         }
     }
@@ -84,17 +96,17 @@ impl State {
     }
 
     // Steps 4 and 5: the upper side of the pair becomes the left side of a new rule, behind the older ones.
-    pub fn orient(mut self, pair: &[u8], table: &[u8]) -> Stepped
+    pub fn orient(mut self, pair: &[u8], table: &[u8]) -> Oriented
         requires { ⌜ Fine self × (self .pairs .count ≤ most-rules) × Layout (now pair) 1 ⌝ }
         ensures { λ r. ⌜ Orients (now (table .entry)) (now (pair .entry)) self r ⌝ }
     {
         let made = self.made + 1;
         let o = orient::rule_of(pair, table, made as u16);
-        let verdict = o.verdict;
-        let Verdict::GoesOn = verdict else {
-            return Stepped {
+        let way = o.way;
+        let Way::Rule = way else {
+            return Oriented {
                 state: self,
-                verdict: verdict,
+                way: way,
             };
         };
         let new = o.rule;
@@ -105,10 +117,29 @@ impl State {
         self.pairs.count = more;
         self.live = k + 1;
         self.made = made;
-        Stepped {
+        Oriented {
             state: self,
-            verdict: verdict,
+            way: way,
         }
+    }
+
+    // Step 4 of a pair with neither side above: it waits again, renamed, behind all others; an entry says so, and it is counted. So many units are left.
+    pub fn put_back(mut self, pair: &[u8], units: u32) -> State
+        requires { ⌜ Fine self × (self .pairs .count ≤ most-rules) × (self .log .count < most-entries) ⌝ }
+        requires { ⌜ Layout (now pair) 1 × LowPair (now pair) ⌝ }
+        ensures { λ r. ⌜ PutsBack (now (pair .entry)) self units r ⌝ }
+    {
+        let one = orient::renamed(pair);
+        let n = self.pairs.count;
+        add_pair(&mut self.pairs.bytes, n, n, &one);
+        let more = n + 1;
+        self.pairs.count = more;
+        let e = self.log.count;
+        let entries = enter(e, PUT_BACK, pair, &mut self.log.bytes);
+        self.log.count = entries;
+        self.back = self.back + 1;
+        self.units = units;
+        self
     }
 
     // Step 6: the older rules that the newest one rewrites go to the waiting list.
@@ -124,25 +155,29 @@ impl State {
         self
     }
 
-    // One entry more in the log, a pair's origin and the number of the rule that it made, or 0; and so many units left.
-    pub fn log(mut self, origin: [u8; limits::ORIGIN], made: u16, units: u32) -> State
-        requires { ⌜ FineBut 1 self × (self .live ≤ most-rules) × (self .log .count < most-entries) ⌝ }
-        ensures { λ r. ⌜ Logs self origin made units r ⌝ }
+    // One entry more in the log, the pair's origin and the number of the rule that it made, or 0 of one that was settled. So many units are left, and
+    // none was put back since.
+    pub fn log(mut self, pair: &[u8], made: u16, units: u32) -> State
+        requires { ⌜ FineBut 1 self × (self .live ≤ most-rules) × (self .log .count < most-entries) × Layout (now pair) 1 ⌝ }
+        ensures { λ r. ⌜ Logs self (mark-of (slot (now (pair .entry)) 0)) made units r ⌝ }
     {
         let n = self.log.count;
-        add_entry(&mut self.log.bytes, n, origin, made);
-        let more = n + 1;
-        self.log.count = more;
+        let entries = enter(n, made, pair, &mut self.log.bytes);
+        self.log.count = entries;
+        self.back = 0;
         self.units = units;
         self
     }
 
-    // The same with so many units left.
-    pub fn left(mut self, units: u32) -> State
-        ensures { λ r. ⌜ r ≡ with-units self units ⌝ }
+    // The run ends in this turn, with so many units left.
+    pub fn ended(mut self, end: End, units: u32) -> Turned
+        ensures { λ r. ⌜ r ≡ ended-as self end units ⌝ }
     {
         self.units = units;
-        self
+        Turned {
+            state: self,
+            verdict: Verdict::Ends(end),
+        }
     }
 }
 
@@ -190,12 +225,14 @@ fn sift_one(pairs: &mut [u8], i: usize, new: &[u8], count: usize, table: &[u8]) 
     rewrites
 }
 
-// The n-th entry: an origin, and the number of the rule made.
-fn add_entry(log: &mut [u8; LOG], n: usize, origin: [u8; limits::ORIGIN], made: u16)
-    requires { ⌜ (n < most-entries) × (logged-width * (n + 1) ≤ length (now log)) ⌝ }
-    ensures { λ _. ⌜ now (log .exit) ≡ patched (logged-width * n) (origin ++ number-bytes 2 made) (now (log .entry)) ⌝ }
+// The n-th entry: the origin of the pair in a slot, and the number of the rule made. How many entries there are then.
+pub fn enter(n: usize, made: u16, pair: &[u8], log: &mut [u8; LOG]) -> usize
+    requires { ⌜ (n < most-entries) × (logged-width * (n + 1) ≤ length (now log)) × Layout (now pair) 1 ⌝ }
+    ensures { λ r. ⌜ Enters n made (now (pair .entry)) (now (log .entry)) (now (log .exit)) r ⌝ }
 {
+    let origin = slots::mark(pair, 0);
     let a = ENTRY * n;
     fields::paste(log, a, &origin);
     fields::put_number(log, a + limits::ORIGIN, 2, made as u32);
+    n + 1
 }

@@ -1,79 +1,96 @@
 -- Step 3 and steps 4 to 7, from what the state's methods promise: what each call requires, and what each way through answers. Assumes nothing.
--- Read first: specs/Turns (TurnSafe, TurnedIs), state/specs/Steps, proofs/Making, proofs/Steady.
-use mathlib.Core.Path.{_≡_, refl, sym, ap, _∙_, subst}
-use mathlib.Core.Logic.{_⊎_, inl, inr}
+-- Read first: specs/Turns (TurnSafe, Makes), state/specs/Steps, proofs/Making, proofs/Steady.
+use mathlib.Core.Path.{_≡_, refl, sym, ap, ap₂, _∙_, subst}
+use mathlib.Core.Logic.{_⊎_, inl, inr, ⊎-elim}
 use mathlib.Core.List.{List}
+use mathlib.Core.Option.{Option, none, some}
 use Prim.Native.Nat.{ℕ, _+_, _<_, _≤_}
 use native.Mathlib.Omega.{arith}
-use Rattle.limits.specs.Limits.{most-apart, most-rules, most-entries}
+use lib.Dec.{ltb}
+use lib.ListN.{length}
+use Rattle.limits.specs.Limits.{most-variables, most-apart, most-rules, most-entries}
+use Rattle.terms.specs.Term.{Pair, pair-variables}
+use Rattle.rewriting.specs.Rewrite.{Paid, done, stop, too-large, and-then, _>>=_, end-if}
 use Rattle.rewriting.specs.declared.End.{End as Ending}
-use Rattle.rewriting.specs.declared.End.the-variants.{RulesFull}
+use Rattle.rewriting.specs.declared.End.the-variants.{TooLarge as EndsLarge, RulesFull}
 use Rattle.rewriting.specs.declared.Verdict.the-variants.{GoesOn, Ends}
+use Rattle.rewriting.proofs.Verdicts.{goes≢ends, same-end}
 use Rattle.order.specs.Walk.{rank}
 use Rattle.problem.specs.Problem.{rank-of, Problem}
-use Rattle.completion.specs.Turn.{Origin, State as RunState, Taken as TakenPair, make-rule}
+use Rattle.completion.specs.Turn.{Origin, State as RunState, Taken as TakenPair, orient, waits-again, if-oriented, make-rule}
 use Rattle.completion.specs.Calls.{origin-bytes}
 use Rattle.slots.specs.Slots.{slot, mark-of, Layout, PairAt}
-use Rattle.orient.specs.Orients.{oriented}
 use Rattle.slots.proofs.Layouts.{layout-less}
+use Rattle.orient.specs.Orients.{LowPair}
+use Rattle.orient.specs.declared.Way.{Way}
+use Rattle.orient.specs.declared.Way.the-variants.{Rule, Neither, TooLarge}
 use Rattle.forms.specs.declared.Taken.{Taken}
 use Rattle.compose.specs.declared.Composed.{Composed}
 use Rattle.compose.specs.Rights.{All}
 use Rattle.state.specs.declared.State.{State}
 use Rattle.state.specs.declared.Log.{Log}
-use Rattle.state.specs.declared.Stepped.{Stepped}
-use Rattle.state.specs.Run.{FineBut, Fine, Represents}
-use Rattle.state.specs.Steps.{behind-first, without-oldest, with-entry, NewRule, Takes, Orients, Collapses, Logs}
-use Rattle.turn.specs.declared.Turned.{Turned}
-use Rattle.turn.specs.Turns.{ended-as, going-as, TurnSafe, TurnedIs}
-use Rattle.turn.proofs.Steady.{with-slots, slots-fine, stop-safe, go-safe}
-use Rattle.turn.proofs.Making.{make-unplaced, make-full, make-rights-end, make-goes}
+use Rattle.state.specs.declared.Oriented.{Oriented}
+use Rattle.state.specs.declared.Turned.{Turned}
+use Rattle.state.specs.Run.{FineBut, Fine, Represents, ended-as}
+use Rattle.state.specs.Steps.{behind-first, without-oldest, with-entry, OrientsIs, Takes, Orients, PutsBack, Collapses, Logs}
+use Rattle.turn.specs.Turns.{going-as, ComposesFew, TurnSafe, TurnedIs}
+use Rattle.turn.proofs.Steady.{units-represent, with-slots, slots-fine, stop-safe, go-safe}
+use Rattle.turn.proofs.Making.{MadeIs, make-large, make-neither, make-full, make-rights-end, make-goes}
 
 -- steps 2 and 3, from a state that has begun its turn
 pub record Settles (st : State) (t : Taken) (o : Turned) : Type 0 where
-  pub safe : Layout (t .pair) 1 → t .units ≤ st .units → TurnSafe st o
+  pub safe : t .units ≤ st .units → TurnSafe st o
   pub goes : o .verdict ≡ GoesOn
   pub units : o .state .units ≡ t .units
   pub represents : (tab : List ℕ) (s : RunState) (from : Origin) → Represents tab st s → mark-of (slot (t .pair) 0) ≡ origin-bytes from →
       Represents tab (o .state) (with-entry (without-oldest s) from 0)
 
--- steps 4 to 7 and the log
-pub record Makes (tab : List ℕ) (st : State) (t : Taken) (o : Turned) : Type 0 where
-  pub safe : Fine st → Layout (t .pair) 1 → t .units ≤ st .units → TurnSafe st o
-  pub answer : (P : Problem) → rank-of (P .symbols) ≡ rank tab → (s : RunState) (k : TakenPair) → Represents tab st s → k .waiting ≡ behind-first (s .waiting) →
-      PairAt most-apart tab (t .pair) 0 (k .pair .sides) → mark-of (slot (t .pair) 0) ≡ origin-bytes (k .pair .origin) → TurnedIs tab s o
-      (make-rule P s k (t .units))
-
 -- what `log` requires
-abbrev Loggable : State → Type 0
-Loggable st = FineBut 1 st × (st .live ≤ most-rules) × (st .log .count < most-entries)
+abbrev Loggable : List ℕ → State → Type 0
+Loggable pair st = FineBut 1 st × (st .live ≤ most-rules) × (st .log .count < most-entries) × Layout pair 1
 
-same-count : {l m : Log} → l ≡ m → l .count ≡ m .count
+pub same-count : {l m : Log} → l ≡ m → l .count ≡ m .count
 same-count e = ap (λ (x : Log). x .count) e
 
 -- step 3
-pub settle-logs : {st tk : State} → Takes st tk → st .log .count < most-entries → Loggable tk
-settle-logs T few =
+pub settle-logs : {st tk : State} {pair : List ℕ} → Takes st tk → st .log .count < most-entries → Layout pair 1 → Loggable pair tk
+settle-logs T few y =
     let F = T .fine in
     let a = F .live-few in
     let b = F .made-few in (
-      record { layout = F .layout; within = F .within; together = F .together; live-few = omega arith; log-few = F .log-few; made-few = omega arith },
+      record {
+        layout = F .layout;
+        within = F .within;
+        together = F .together;
+        live-few = omega arith;
+        log-few = F .log-few;
+        made-few = omega arith;
+        back-few = F .back-few;
+      },
       omega arith,
       omega (arith, same-count (T .same .log)),
+      y,
     )
 
-pub settles : {st tk lg : State} {t : Taken} {origin : List ℕ} {o : Turned} → Takes st tk → origin ≡ mark-of (slot (t .pair) 0) →
-    Logs tk origin 0 (t .units) lg → o ≡ going-as lg (t .pair) → Settles st t o
-settles {st} {tk} {lg} {t} T from L e =
+pub settles : {st tk lg : State} {t : Taken} {o : Turned} → Takes st tk → Logs tk (mark-of (slot (t .pair) 0)) 0 (t .units) lg → o ≡ going-as lg →
+    Settles st t o
+settles {st} {tk} {lg} {t} T L e =
     subst (Settles st t) (sym e)
     (record {
-      safe = λ y l. go-safe (L .fine) (L .entries ∙ ap (λ n. n + 1) (same-count (T .same .log))) (omega (arith, L .units-are)) y;
+      safe = λ l. go-safe refl (L .fine) (L .entries ∙ ap (λ n. n + 1) (same-count (T .same .log))) (omega (arith, L .units-are));
       goes = refl;
       units = L .units-are;
-      represents = λ tab s o R m. L .represents tab (without-oldest s) o (T .represents tab s R) (from ∙ m);
+      represents = λ tab s o R m. L .represents tab (without-oldest s) o (T .represents tab s R) m;
     })
 
--- steps 4 to 7
+-- steps 4 to 7 of the pair that was taken
+pub record Makes (tab pair : List ℕ) (first : State) (units : ℕ) (o : Turned) : Type 0 where
+  pub safe : units ≤ first .units → TurnSafe first o
+  pub answer : (P : Problem) → rank-of (P .symbols) ≡ rank tab → (s : RunState) (k : TakenPair) → Represents tab first s →
+      k .waiting ≡ behind-first (s .waiting) → PairAt most-apart tab pair 0 (k .pair .sides) → mark-of (slot pair 0) ≡ origin-bytes (k .pair .origin) →
+      TurnedIs tab s o (make-rule P s k units)
+
+-- what their calls require
 pub orient-room : {st tk : State} → Fine st → Takes st tk → tk .pairs .count ≤ most-rules
 orient-room {st} {tk} F T = go (T .room)
   where
@@ -81,66 +98,124 @@ orient-room {st} {tk} F T = go (T .room)
     go (inl h) = let a = F .together in omega arith
     go (inr h) = let a = T .fine .live-few in omega arith
 
-module _ {tab pair : List ℕ} {st tk : State} {o : Stepped} (T : Takes st tk) (O : Orients tab pair tk o) where
-  pub collapse-room : o .verdict ≡ GoesOn → FineBut 1 (o .state) × (0 < o .state .live)
-  collapse-room v = (O .fine v, omega (arith, O .live v))
-
-  oriented-as : (units : ℕ) (P : Problem) → rank-of (P .symbols) ≡ rank tab → (s : RunState) (k : TakenPair) → Represents tab st s →
-      PairAt most-apart tab pair 0 (k .pair .sides) → NewRule tab (without-oldest s) (k .pair .sides) units o (oriented P (k .pair .sides) units)
-  oriented-as units P ranks s k R shown = O .answer P ranks (without-oldest s) (k .pair .sides) (T .represents tab s R) shown units
-
-  module _ {next : State} (C : Collapses tab (o .state) next) where
-    log-same : next .log .count ≡ st .log .count
-    log-same = same-count (C .same .log) ∙ same-count (O .same .log) ∙ same-count (T .same .log)
-
-    pub make-logs : {b : List ℕ} {units : ℕ} {c : Composed} → All tab (next .pairs .bytes) b (next .live) units c → next .live ≤ most-rules →
-        st .log .count < most-entries →
-        Loggable (with-slots next b)
-    make-logs A live few = (slots-fine (C .fine) (A .only), live, omega (arith, log-same))
-
 pub compose-room : {tab : List ℕ} {st next : State} → Collapses tab st next → Layout (next .pairs .bytes) (next .live)
 compose-room C = layout-less (C .fine .within) (C .fine .layout)
 
-module _ {tab : List ℕ} {st tk : State} {t : Taken} {o : Stepped} (T : Takes st tk) (O : Orients tab (t .pair) tk o) {r : Turned} where
-  pub makes-unplaced : {end : Ending} → o .verdict ≡ Ends end → r ≡ ended-as st end (t .units) (t .pair) → Makes tab st t r
-  makes-unplaced v e =
-      subst (Makes tab st t) (sym e)
-      (record {
-        safe = λ F y l. stop-safe F l y;
-        answer = λ P ranks s k R waits shown mark.
-            make-unplaced tab P s k waits (t .units) st R (t .pair) o (oriented-as T O (t .units) P ranks s k R shown) v shown;
-      })
+-- all right sides were done
+pub all-done : {tab pairs pairs′ : List ℕ} {live units : ℕ} {c : Composed} → ComposesFew tab live pairs pairs′ units c → c .verdict ≡ GoesOn →
+    (live ≤ most-rules) × All tab pairs pairs′ live units c
+all-done few w = ⊎-elim (λ f. absurd (goes≢ends w (ap (λ (x : Composed). x .verdict) (f .1)))) (λ f. f) few
 
-  module _ (v : o .verdict ≡ GoesOn) {next : State} (C : Collapses tab (o .state) next) where
-    pub makes-full : most-rules < next .live → r ≡ ended-as st RulesFull (t .units) (t .pair) → Makes tab st t r
-    makes-full full e =
-        subst (Makes tab st t) (sym e)
-        (record {
-          safe = λ F y l. stop-safe F l y;
+-- `make-rule` looks at what waits in the pair that was taken only
+make-without : (P : Problem) (s : RunState) (k : TakenPair) (u : ℕ) → make-rule P (without-oldest s) k u ≡ make-rule P s k u
+unfolding make-rule _>>=_
+make-without P s k u =
+    ap (λ m. and-then (end-if (ltb most-variables (length (pair-variables (k .pair .sides)))) too-large u) (λ _. m)) (go (orient P (k .pair .sides)))
+  where
+    go : (o : Option Pair) → if-oriented (without-oldest s) k o ≡ if-oriented s k o
+    go none = unfold if-oriented waits-again in refl
+    go (some sides) = unfold if-oriented in refl
+
+-- a stop hands back the first state, and what goes on its own
+module _ (tab : List ℕ) (s : RunState) where
+  stop-turned : (first : State) (end : Ending) (n : ℕ) → Represents tab first s → (p : Paid RunState) → MadeIs tab (ended-as first end n) p →
+      TurnedIs tab s (ended-as first end n) p
+  stop-turned first end n R (done s′ left) a = absurd (goes≢ends (a .0) refl)
+  stop-turned first end n R (stop f left) a = (a .0, a .1, units-represent n R)
+
+  go-turned : (o : Turned) → o .verdict ≡ GoesOn → (p : Paid RunState) → MadeIs tab o p → TurnedIs tab s o p
+  go-turned o v (done s′ left) a = a
+  go-turned o v (stop f left) a = absurd (goes≢ends v (a .0))
+
+-- what is answered, way by way
+module _ {tab pair : List ℕ} {first rest : State} {o : Oriented} (F : Fine first) (T : Takes first rest) (O : Orients tab pair rest o) where
+  -- what `orient` says of the pair that was taken
+  told : (P : Problem) → rank-of (P .symbols) ≡ rank tab → (s : RunState) (k : TakenPair) → Represents tab first s →
+      PairAt most-apart tab pair 0 (k .pair .sides) → OrientsIs tab P (without-oldest s) (k .pair .sides) (o .state) (o .way)
+  told P ranks s k R shown = O .answer P ranks (without-oldest s) (k .pair .sides) (T .represents tab s R) shown
+
+  -- the way is known, and steps 4 to 7 of the state without the pair come to something
+  module _ (units : ℕ) (r : Turned) {w : Way} (v : o .way ≡ w) where
+    abbrev Comes : Type 0
+    Comes = (P : Problem) (s : RunState) (k : TakenPair) → Represents tab rest s → s .waiting ≡ k .waiting → PairAt most-apart tab pair 0 (k .pair .sides) →
+        mark-of (slot pair 0) ≡ origin-bytes (k .pair .origin) → OrientsIs tab P s (k .pair .sides) (o .state) w → MadeIs tab r (make-rule P s k units)
+
+    comes : Comes → (P : Problem) → rank-of (P .symbols) ≡ rank tab → (s : RunState) (k : TakenPair) → Represents tab first s →
+        k .waiting ≡ behind-first (s .waiting) → PairAt most-apart tab pair 0 (k .pair .sides) → mark-of (slot pair 0) ≡ origin-bytes (k .pair .origin) →
+        MadeIs tab r (make-rule P s k units)
+    comes h P ranks s k R waits shown mark =
+        subst (MadeIs tab r) (make-without P s k units)
+        (h P (without-oldest s) k (T .represents tab s R) (sym waits) shown mark
+        (subst (OrientsIs tab P (without-oldest s) (k .pair .sides) (o .state)) v (told P ranks s k R shown)))
+
+    makes-stop : {end : Ending} {n : ℕ} → r ≡ ended-as first end n → n ≤ units → Comes → Makes tab pair first units r
+    makes-stop {end} {n} e l h =
+        record {
+          safe = λ m. subst (TurnSafe first) (sym e) (stop-safe F (omega arith));
           answer = λ P ranks s k R waits shown mark.
-              make-full tab P s k waits (t .units) st R (t .pair) o (oriented-as T O (t .units) P ranks s k R shown) v C full;
-        })
+              subst (λ x. TurnedIs tab s x (make-rule P s k units)) (sym e)
+              (stop-turned tab s first end n R (make-rule P s k units)
+              (subst (λ x. MadeIs tab x (make-rule P s k units)) e (comes h P ranks s k R waits shown mark)));
+        }
 
-    module _ (few : next .live ≤ most-rules) {b : List ℕ} {c : Composed} (A : All tab (next .pairs .bytes) b (next .live) (t .units) c) where
-      pub makes-rights-end : {end : Ending} → c .verdict ≡ Ends end → r ≡ ended-as st end (c .units) (t .pair) → Makes tab st t r
-      makes-rights-end w e =
-          let less = A .left-over in
-          subst (Makes tab st t) (sym e)
-          (record {
-            safe = λ F y l. stop-safe F (omega arith) y;
-            answer = λ P ranks s k R waits shown mark.
-                make-rights-end tab P s k waits (t .units) st R (t .pair) o (oriented-as T O (t .units) P ranks s k R shown) v C few A w;
-          })
+    makes-on : r .verdict ≡ GoesOn → Fine (r .state) → r .state .log .count ≡ rest .log .count + 1 → r .state .units ≤ units → Comes →
+        Makes tab pair first units r
+    makes-on g fine grows l h =
+        record {
+          safe = λ m. go-safe g fine (grows ∙ ap (λ n. n + 1) (same-count (T .same .log))) (omega arith);
+          answer = λ P ranks s k R waits shown mark. go-turned tab s r g (make-rule P s k units) (comes h P ranks s k R waits shown mark);
+        }
 
-      pub makes-goes : {origin : List ℕ} {made : ℕ} {lg : State} → c .verdict ≡ GoesOn → origin ≡ mark-of (slot (t .pair) 0) → made ≡ next .made →
-          Logs (with-slots next b) origin made (c .units) lg → r ≡ going-as lg (t .pair) → Makes tab st t r
-      makes-goes {origin} {made} {lg} w from m L′ e =
-          let L : Logs (with-slots next b) origin (next .made) (c .units) lg = subst (λ n. Logs (with-slots next b) origin n (c .units) lg) m L′ in
-          let less = A .left-over in
-          subst (Makes tab st t) (sym e)
-          (record {
-            safe = λ F y l. go-safe (L .fine) (omega (arith, L .entries, log-same T O C)) (omega (arith, L .units-are)) y;
-            answer = λ P ranks s k R waits shown mark.
-                make-goes tab P s k waits (t .units) st R (t .pair) o (oriented-as T O (t .units) P ranks s k R shown) v C few A w L
-                (from ∙ mark);
-          })
+  pub makes-large : {units : ℕ} {r : Turned} → o .way ≡ TooLarge → r ≡ ended-as first EndsLarge units → Makes tab pair first units r
+  makes-large {units} {r} v e =
+      makes-stop units r v e (omega arith) (λ P s k R waits shown mark many.
+      subst (λ x. MadeIs tab x (make-rule P s k units)) (sym e) (make-large tab P s k units first many))
+
+  pub put-back-needs : o .way ≡ Neither → first .log .count < most-entries → Layout pair 1 →
+      (Fine rest × (rest .pairs .count ≤ most-rules) × (rest .log .count < most-entries)) × (Layout pair 1 × LowPair pair)
+  put-back-needs v room y = ((T .fine, orient-room F T, omega (arith, same-count (T .same .log))), (y, O .low v))
+
+  pub makes-neither : {units : ℕ} {r : Turned} {back : State} → o .way ≡ Neither → PutsBack pair rest units back → r ≡ going-as back →
+      Makes tab pair first units r
+  makes-neither {units} {r} {back} v B e =
+      subst (Makes tab pair first units) (sym e)
+      (makes-on units (going-as back) v refl (B .fine) (B .entries) (omega (arith, B .units-are)) (λ P s k R waits shown mark h.
+      make-neither tab P s k units (h .0) (h .1) refl (B .units-are) (B .represents tab s k R waits shown (h .0) mark)))
+
+  pub collapse-room : o .way ≡ Rule → FineBut 1 (o .state) × (0 < o .state .live)
+  collapse-room v = (O .fine v, omega (arith, O .live v))
+
+  module _ {next : State} (C : Collapses tab (o .state) next) where
+    log-same : next .log .count ≡ rest .log .count
+    log-same = same-count (C .same .log) ∙ same-count (O .same .log)
+
+    pub make-logs : {b : List ℕ} {units : ℕ} {c : Composed} → All tab (next .pairs .bytes) b (next .live) units c → first .log .count < most-entries →
+        FineBut 1 (with-slots next b) × (next .log .count < most-entries)
+    make-logs A room = (slots-fine (C .fine) (A .only), omega (arith, log-same, same-count (T .same .log)))
+
+    module _ (v : o .way ≡ Rule) {units : ℕ} {r : Turned} {b : List ℕ} {c : Composed} (few : ComposesFew tab (next .live) (next .pairs .bytes) b units c) where
+      -- a 33rd live rule, or a right side stopped
+      pub makes-ends : {end : Ending} → c .verdict ≡ Ends end → r ≡ ended-as first end (c .units) → Makes tab pair first units r
+      makes-ends {end} w e = go few
+        where
+          go : ComposesFew tab (next .live) (next .pairs .bytes) b units c → Makes tab pair first units r
+          go (inl f) =
+              let u : c .units ≡ units = ap (λ (x : Composed). x .units) (f .1) in
+              let x : end ≡ RulesFull = same-end w (ap (λ (x : Composed). x .verdict) (f .1)) in
+              let q : r ≡ ended-as first RulesFull units = e ∙ ap₂ (λ a b. ended-as first a b) x u in
+              makes-stop units r v q (omega arith) (λ P s k R waits shown mark h.
+              subst (λ x. MadeIs tab x (make-rule P s k units)) (sym q) (make-full tab P s k units (h .0) waits (h .1) C first (f .0)))
+          go (inr f) =
+              makes-stop units r v e (f .1 .left-over) (λ P s k R waits shown mark h.
+              subst (λ x. MadeIs tab x (make-rule P s k units)) (sym e) (make-rights-end tab P s k units (h .0) waits (h .1) C (f .0) (f .1) first w))
+
+      pub makes-goes : {made : ℕ} {lg : State} → c .verdict ≡ GoesOn → made ≡ next .made → Logs (with-slots next b) (mark-of (slot pair 0)) made (c .units) lg →
+          r ≡ going-as lg → Makes tab pair first units r
+      makes-goes {made} {lg} w m L′ e =
+          let L : Logs (with-slots next b) (mark-of (slot pair 0)) (next .made) (c .units) lg =
+          subst (λ n. Logs (with-slots next b) (mark-of (slot pair 0)) n (c .units) lg) m L′ in
+          let A = all-done few w in
+          let less = A .1 .left-over in
+          subst (Makes tab pair first units) (sym e)
+          (makes-on units (going-as lg) v refl (L .fine) (omega (arith, L .entries, log-same)) (omega (arith, L .units-are)) (λ P s k R waits shown mark h.
+          make-goes tab P s k units (h .0) waits (h .1) C (A .0) (A .1) w refl L mark))

@@ -7,27 +7,43 @@ use native.Mathlib.Omega.{arith}
 use lib.ListN.{length}
 use Rattle.rewriting.specs.Overlap.{Rule, sides-of}
 use Rattle.rewriting.specs.declared.End.{End as Ending}
+use Rattle.rewriting.specs.declared.Verdict.the-variants.{GoesOn}
 use Rattle.rewriting.proofs.Verdicts.{goes≢ends}
 use Rattle.completion.specs.Turn.{State as RunState}
-use Rattle.slots.specs.Slots.{Layout, Stored}
+use Rattle.slots.specs.Slots.{Stored}
 use Rattle.compose.specs.Rights.{RightsOnly}
 use Rattle.state.specs.declared.State.{State}
-use Rattle.state.specs.Run.{FineBut, Fine, Represents, with-units}
-use Rattle.turn.specs.declared.Turned.{Turned}
-use Rattle.turn.specs.Turns.{ended-as, going-as, TurnSafe}
+use Rattle.state.specs.Run.{FineBut, Fine, Represents, with-units, ended-as}
+use Rattle.state.specs.declared.Turned.{Turned}
+use Rattle.turn.specs.Turns.{TurnSafe}
 use Rattle.state.proofs.Rows.{length-held}
 use Rattle.turn.proofs.Holding.{same-many, rights-held}
 
 pub units-fine : {b : ℕ} {st : State} (u : ℕ) → FineBut b st → FineBut b (with-units st u)
 units-fine u F =
-    record { layout = F .layout; within = F .within; together = F .together; live-few = F .live-few; log-few = F .log-few; made-few = F .made-few }
+    record {
+      layout = F .layout;
+      within = F .within;
+      together = F .together;
+      live-few = F .live-few;
+      log-few = F .log-few;
+      made-few = F .made-few;
+      back-few = F .back-few;
+    }
 
 pub units-represent : {tab : List ℕ} {st : State} {s : RunState} (u : ℕ) → Represents tab st s → Represents tab (with-units st u) s
-units-represent u R = record { pairs = R .pairs; live = R .live; made = R .made; log = R .log }
+units-represent u R = record { pairs = R .pairs; live = R .live; made = R .made; log = R .log; back = R .back }
 
 -- the state with other bytes in its slots
 abbrev pub with-slots : State → List ℕ → State
-with-slots st b = record { pairs = record { bytes = b; count = st .pairs .count }; live = st .live; made = st .made; log = st .log; units = st .units }
+with-slots st b = record {
+  pairs = record { bytes = b; count = st .pairs .count };
+  live = st .live;
+  made = st .made;
+  log = st .log;
+  back = st .back;
+  units = st .units;
+}
 
 pub slots-fine : {k n : ℕ} {st : State} {b : List ℕ} → FineBut k st → RightsOnly 0 n (st .pairs .bytes) b → FineBut k (with-slots st b)
 slots-fine {st = st} F o =
@@ -38,10 +54,11 @@ slots-fine {st = st} F o =
       live-few = F .live-few;
       log-few = F .log-few;
       made-few = F .made-few;
+      back-few = F .back-few;
     }
 
 abbrev pub with-rules : RunState → List Rule → RunState
-with-rules s rs = record { rules = rs; made = s .made; waiting = s .waiting; log = s .log }
+with-rules s rs = record { rules = rs; made = s .made; waiting = s .waiting; log = s .log; put-back = s .put-back }
 
 pub slots-represent : {tab b : List ℕ} {st : State} {s : RunState} (rs : List Rule) → Represents tab st s → RightsOnly 0 (st .live) (st .pairs .bytes) b →
     Stored tab b 0 (sides-of rs) → map (λ r. r .number) rs ≡ map (λ r. r .number) (s .rules) → Represents tab (with-slots st b) (with-rules s rs)
@@ -56,16 +73,18 @@ slots-represent {tab} {b} {st} {s} rs R o h e =
       live = R .live ∙ sym n;
       made = R .made;
       log = R .log;
+      back = R .back;
     }
 
 -- a stop, and a turn that goes on
 module _ {st : State} where
-  pub stop-safe : {end : Ending} {u : ℕ} {pair : List ℕ} → Fine st → u ≤ st .units → Layout pair 1 → TurnSafe st (ended-as st end u pair)
-  stop-safe {u = u} F l y = record { fine = units-fine u F; grows = λ v. absurd (goes≢ends v refl); stays = λ _. refl; less = l; layout = y }
+  pub stop-safe : {end : Ending} {u : ℕ} → Fine st → u ≤ st .units → TurnSafe st (ended-as st end u)
+  stop-safe {u = u} F l = record { fine = units-fine u F; grows = λ v. absurd (goes≢ends v refl); stays = λ _. refl; less = l }
 
-  pub go-safe : {r : State} {pair : List ℕ} → Fine r → r .log .count ≡ st .log .count + 1 → r .units ≤ st .units → Layout pair 1 → TurnSafe st (going-as r pair)
-  go-safe F g l y = record { fine = F; grows = λ _. g; stays = λ f. absurd (f refl); less = l; layout = y }
+  pub go-safe : {o : Turned} → o .verdict ≡ GoesOn → Fine (o .state) → o .state .log .count ≡ st .log .count + 1 → o .state .units ≤ st .units →
+      TurnSafe st o
+  go-safe v F g l = record { fine = F; grows = λ _. g; stays = λ f. absurd (f v); less = l }
 
   -- from the state behind the turn's unit
   pub begun-safe : {u : ℕ} {o : Turned} → u ≤ st .units → TurnSafe (with-units st u) o → TurnSafe st o
-  begun-safe l T = record { fine = T .fine; grows = T .grows; stays = T .stays; less = let m = T .less in omega arith; layout = T .layout }
+  begun-safe l T = record { fine = T .fine; grows = T .grows; stays = T .stays; less = let m = T .less in omega arith }

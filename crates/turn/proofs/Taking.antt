@@ -3,12 +3,14 @@
 use mathlib.Core.Path.{_≡_, refl, sym, ap, _∙_, subst}
 use mathlib.Core.Bool.{Bool, true, false}
 use mathlib.Core.List.{List, [], _∷_, map}
-use Prim.Native.Nat.{ℕ}
+use mathlib.Core.Logic.{inl, inr}
+use Prim.Native.Nat.{ℕ, _<_, _≤_}
 use native.Mathlib.Omega.{arith}
+use lib.Dec.{ltb}
 use lib.ListN.{length}
+use borrow.Author.Tests.{lt-ltb, le-ltb}
 use Rattle.limits.specs.Limits.{most-apart}
 use Rattle.terms.specs.Term.{Pair, same}
-use Rattle.terms.proofs.Shape.{zero≢one}
 use Rattle.problem.specs.Problem.{Problem}
 use Rattle.rewriting.specs.Overlap.{all-places}
 use Rattle.rewriting.specs.Rewrite.{End, complete, neither-above, spent, too-large, rules-full, log-full, Paid, done, stop, _>>=_, normalise-pair}
@@ -16,16 +18,20 @@ use Rattle.completion.specs.Turn.{scanned-input, waiting-input, Candidate, Stat
 use Rattle.completion.specs.Calls.{origin-bytes}
 use Rattle.completion.proofs.Limits.{candidates-sides}
 use Rattle.completion.proofs.Scanning.{scan-different}
-use Rattle.completion.proofs.Turning.{take-scan-stops, take-scan, take-waiting-stops, take-waiting}
+use Rattle.completion.proofs.Turning.{taking, AllPutBack, taking-ends, MayTake, taking-on, take-scan-stops, take-scan, take-waiting-stops, take-waiting}
 use Rattle.completion.proofs.Comparing.{found-forms, equal-forms, stop-forms}
-use Rattle.slots.specs.Slots.{slot, mark-of, PairAt, MarkedAt, Stored, Holds}
+use Rattle.slots.specs.Slots.{slot, mark-of, Layout, PairAt, MarkedAt, Stored, Holds}
 use Rattle.slots.proofs.Listing.{all-first}
 use Rattle.inputs.specs.Inputs.{marked}
+use Rattle.rewriting.specs.declared.End.the-variants.{NeitherAbove}
+use Rattle.forms.specs.declared.Found.the-variants.{Ends}
 use Rattle.forms.specs.declared.Taken.{Taken}
+use Rattle.forms.specs.declared.Walk.{Walk}
 use Rattle.forms.specs.Forms.{compared, walk-of, Walked, found, short, large, on, OldestIs}
 use Rattle.scanning.specs.Walk.{StopsWith, Finds, ScanIs, InSlots}
 use Rattle.state.specs.Steps.{behind-first}
-use Rattle.turn.specs.Turns.{Given, some-wait, PairsOf, FormsIn, LookStops, LookIs, Looks}
+use Rattle.turn.specs.declared.Waiting.{Waiting}
+use Rattle.turn.specs.Turns.{Given, PairsOf, FormsIn, LookStops, LookIs, Looks}
 use Rattle.turn.proofs.Holding.{rules-stored, rules-numbered, waiting-held}
 
 -- The oldest waiting equation.
@@ -77,7 +83,7 @@ module _ (tab : List ℕ) (P : Problem) (s : RunState) (waits : s .waiting ≡ [
 
   scan-stop : (e : End) → StopsWith e (t .found) → LookStops e t false
   scan-stop complete h = (h, refl)
-  scan-stop (neither-above e) h = h
+  scan-stop neither-above h = absurd h
   scan-stop spent h = h
   scan-stop too-large h = h
   scan-stop rules-full h = h
@@ -94,34 +100,51 @@ module _ (tab : List ℕ) (P : Problem) (s : RunState) (waits : s .waiting ≡ [
       let q : take-pair P (s .rules) (s .waiting) u ≡ stop e left = ap (λ q. take-pair P (s .rules) q u) waits ∙ take-scan-stops P (s .rules) u e left h in
       subst IsScan (sym q) (f .1, scan-stop e (f .0))
 
-none-waits : true ≡ some-wait [] → ⊥
-unfolding some-wait
-none-waits e = zero≢one (cc)
-
-one-waits : (c : Candidate) (cs : List Candidate) → false ≡ some-wait (c ∷ cs) → ⊥
-unfolding some-wait
-one-waits c cs e = zero≢one (cc)
+-- behind the test what is taken is `take-pair`'s
+past : (tab : List ℕ) (t : Taken) (units : ℕ) (P : Problem) (s : RunState) {w v : Bool} → MayTake s → w ≡ v →
+    LookIs tab t v s (take-pair P (s .rules) (s .waiting) units) → LookIs tab t w s (taking P s units)
+past tab t units P s {w} may e h =
+    subst (LookIs tab t w s) (sym (taking-on P s units may)) (subst (λ b. LookIs tab t b s (take-pair P (s .rules) (s .waiting) units)) (sym e) h)
 
 -- `look`
-pub look-oldest : {tab pairs inputs : List ℕ} {live count units : ℕ} {waits : Bool} {t : Taken} → waits ≡ true → OldestIs tab pairs live units t →
-    Looks tab pairs live waits inputs count units t
-look-oldest {tab} {pairs} {inputs} {live} {count} {units} {waits} {t} w O =
-    record {
-      layout = O .layout;
-      left-over = O .left-over;
-      answer = λ P G s A. subst (λ b. LookIs tab t b s (take-pair P (s .rules) (s .waiting) units)) (sym w) (go P s A (s .waiting) refl);
-    }
-  where
-    go : (P : Problem) (s : RunState) → PairsOf tab pairs live waits s → (l : List Candidate) → s .waiting ≡ l →
-        LookIs tab t true s (take-pair P (s .rules) (s .waiting) units)
-    go P s A [] e = absurd (none-waits (sym w ∙ A .waits-is ∙ ap some-wait e))
-    go P s A (c ∷ cs) e =
-        let h : Holds tab pairs (length (s .rules)) (map marked (c ∷ cs)) =
-        subst (λ l. Holds tab pairs (length (s .rules)) (map marked l)) e (waiting-held tab pairs (s .rules) (s .waiting) (A .holds)) in
-        let m : MarkedAt tab pairs live (marked c) =
-        subst (λ k. MarkedAt tab pairs k (marked c)) (sym (A .live-is)) (all-first (MarkedAt tab pairs) (length (s .rules)) (marked c) (map marked cs) h) in
-        oldest-taken tab P s c cs e units t (O .mark ∙ m .mark)
-        (O .answer (s .rules) (rules-stored tab pairs (s .rules) (s .waiting) (A .holds)) (A .live-is) (c .origin) (c .sides) (m .mark) (m .pair))
+module _ {tab pairs inputs : List ℕ} {w : Waiting} {count units : ℕ} {t : Taken} where
+  -- every one waiting has been put back
+  pub look-ends : {f : Walk} {z : List ℕ} → (w .count ≡ 0 → ⊥) → w .count ≤ w .back → Layout z 1 → f ≡ record { found = Ends NeitherAbove; units = units } →
+      t ≡ record { found = f .found; units = f .units; pair = z } → Looks tab pairs w inputs count units t
+  look-ends {f} {z} some all y q e =
+      let e′ : t ≡ record { found = Ends NeitherAbove; units = units; pair = z } =
+      e ∙ ap (λ (x : Walk). record { found = x .found; units = x .units; pair = z }) q in
+      record {
+        layout = subst (λ (x : Taken). Layout (x .pair) 1) (sym e′) y;
+        left-over = let u = ap (λ (x : Taken). x .units) e′ in omega arith;
+        answer = λ P G s A.
+            let n = A .waiting-is in
+            let b = A .back-is in
+            let h : AllPutBack s = record { some = omega arith; all = omega arith } in
+            subst (LookIs tab t (ltb 0 (w .count)) s) (sym (taking-ends P s units h)) (ap (λ (x : Taken). x .units) e′, ap (λ (x : Taken). x .found) e′);
+      }
+
+  pub look-oldest : (w .count ≡ 0 → ⊥) → w .back < w .count → OldestIs tab pairs (w .live) units t → Looks tab pairs w inputs count units t
+  look-oldest some older O =
+      record {
+        layout = O .layout;
+        left-over = O .left-over;
+        answer = λ P G s A.
+            let n = A .waiting-is in
+            let b = A .back-is in
+            past tab t units P s (inr (omega arith)) (lt-ltb 0 (w .count) (omega arith)) (go P s A (s .waiting) refl);
+      }
+    where
+      go : (P : Problem) (s : RunState) → PairsOf tab pairs w s → (l : List Candidate) → s .waiting ≡ l →
+          LookIs tab t true s (take-pair P (s .rules) (s .waiting) units)
+      go P s A [] e = absurd (omega (arith, A .waiting-is, ap length e))
+      go P s A (c ∷ cs) e =
+          let h : Holds tab pairs (length (s .rules)) (map marked (c ∷ cs)) =
+          subst (λ l. Holds tab pairs (length (s .rules)) (map marked l)) e (waiting-held tab pairs (s .rules) (s .waiting) (A .holds)) in
+          let m : MarkedAt tab pairs (w .live) (marked c) =
+          subst (λ k. MarkedAt tab pairs k (marked c)) (sym (A .live-is)) (all-first (MarkedAt tab pairs) (length (s .rules)) (marked c) (map marked cs) h) in
+          oldest-taken tab P s c cs e units t (O .mark ∙ m .mark)
+          (O .answer (s .rules) (rules-stored tab pairs (s .rules) (s .waiting) (A .holds)) (A .live-is) (c .origin) (c .sides) (m .mark) (m .pair))
 
 -- the scan knows the input equations by other origins
 inputs-stored : (tab inputs : List ℕ) (count : ℕ) (P : Problem) → Given tab inputs count P →
@@ -129,17 +152,18 @@ inputs-stored : (tab inputs : List ℕ) (count : ℕ) (P : Problem) → Given ta
 inputs-stored tab inputs count P G =
     subst (Stored tab inputs 0) (sym (candidates-sides waiting-input 1 (P .equations)) ∙ candidates-sides scanned-input 1 (P .equations)) (G .stored)
 
-pub look-scan : {tab pairs inputs : List ℕ} {live count units : ℕ} {waits : Bool} {t : Taken} → waits ≡ false → ScanIs tab inputs count pairs live units t →
-    Looks tab pairs live waits inputs count units t
-look-scan {tab} {pairs} {inputs} {live} {count} {units} {waits} {t} w O =
+pub look-scan : {tab pairs inputs : List ℕ} {w : Waiting} {count units : ℕ} {t : Taken} → w .count ≡ 0 → ScanIs tab inputs count pairs (w .live) units t →
+    Looks tab pairs w inputs count units t
+look-scan {tab} {pairs} {inputs} {w} {count} {units} {t} none O =
     record {
       layout = O .layout;
       left-over = O .left-over;
-      answer = λ P G s A. subst (λ b. LookIs tab t b s (take-pair P (s .rules) (s .waiting) units)) (sym w) (go P G s A (s .waiting) refl);
+      answer = λ P G s A.
+          past tab t units P s (inl (omega (arith, A .waiting-is))) (le-ltb 0 (w .count) (omega arith)) (go P G s A (s .waiting) refl);
     }
   where
-    slots-are : (P : Problem) → Given tab inputs count P → (s : RunState) → PairsOf tab pairs live waits s →
-        InSlots tab pairs live inputs count (record { rules = s .rules; equations = P .equations })
+    slots-are : (P : Problem) → Given tab inputs count P → (s : RunState) → PairsOf tab pairs w s →
+        InSlots tab pairs (w .live) inputs count (record { rules = s .rules; equations = P .equations })
     slots-are P G s A =
         record {
           rules-are = record {
@@ -151,7 +175,7 @@ look-scan {tab} {pairs} {inputs} {live} {count} {units} {waits} {t} w O =
           number-is = G .counted;
         }
 
-    go : (P : Problem) → Given tab inputs count P → (s : RunState) → PairsOf tab pairs live waits s → (l : List Candidate) → s .waiting ≡ l →
+    go : (P : Problem) → Given tab inputs count P → (s : RunState) → PairsOf tab pairs w s → (l : List Candidate) → s .waiting ≡ l →
         LookIs tab t false s (take-pair P (s .rules) (s .waiting) units)
     go P G s A [] e = scan-taken tab P s e units t _ refl (O .answer _ (slots-are P G s A))
-    go P G s A (c ∷ cs) e = absurd (one-waits c cs (sym w ∙ A .waits-is ∙ ap some-wait e))
+    go P G s A (c ∷ cs) e = absurd (omega (arith, A .waiting-is, ap length e))

@@ -7,9 +7,8 @@ use Prim.Native.Nat.{ℕ, zero, suc, _+_, _-_, _<_, _≤_}
 use native.Mathlib.Omega.{arith}
 use lib.Dec.{ltb}
 use lib.ListN.{length}
-use borrow.Author.Tests.{ltb-true, lt-ltb, le-ltb}
 use Rattle.limits.specs.Limits.{most-apart, most-pairs, most-entries}
-use Rattle.terms.specs.Term.{Pair, same}
+use Rattle.terms.specs.Term.{same}
 use Rattle.terms.proofs.Shape.{zero≢one}
 use Rattle.problem.specs.Problem.{Problem}
 use Rattle.rewriting.specs.Rewrite.{End, complete, neither-above, spent, too-large, rules-full, log-full, Paid, done, stop}
@@ -17,19 +16,20 @@ use Rattle.rewriting.specs.Ends.{ending}
 use Rattle.rewriting.specs.declared.End.{End as Ending}
 use Rattle.rewriting.specs.declared.End.the-variants.{Spent, LogFull}
 use Rattle.rewriting.specs.declared.Verdict.the-variants.{Ends}
-use Rattle.completion.specs.Turn.{Candidate, State as RunState, Taken as TakenPair, take-pair, settled, turn}
+use Rattle.completion.specs.Turn.{State as RunState, Taken as TakenPair, settled, turn}
 use Rattle.completion.specs.Calls.{origin-bytes}
-use Rattle.completion.proofs.Turning.{turn-unpaid, turn-stops, turn-log-full, turn-settles, turn-makes}
+use Rattle.completion.proofs.Turning.{taking, turn-unpaid, turn-stops, turn-log-full, turn-settles, turn-makes}
 use Rattle.slots.specs.Slots.{slot, mark-of, Layout, PairAt}
 use Rattle.slots.proofs.Layouts.{layout-less}
 use Rattle.forms.specs.declared.Taken.{Taken}
 use Rattle.state.specs.declared.State.{State}
-use Rattle.state.specs.Run.{Fine, Represents, with-units}
+use Rattle.state.specs.declared.Turned.{Turned}
+use Rattle.state.specs.Run.{Fine, Represents, with-units, ended-as}
 use Rattle.state.specs.Steps.{behind-first, without-oldest, with-entry}
-use Rattle.turn.specs.declared.Turned.{Turned}
+use Rattle.turn.specs.declared.Waiting.{Waiting}
 use Rattle.turn.specs.declared.Due.{Due}
 use Rattle.turn.specs.declared.Due.the-variants.{Stop, Settle, Make}
-use Rattle.turn.specs.Turns.{Given, ended-as, due-after, some-wait, PairsOf, FormsIn, LookStops, LookIs, Looks, TurnSafe, TurnedIs, Turns}
+use Rattle.turn.specs.Turns.{Given, due-after, waiting-behind, PairsOf, FormsIn, LookStops, LookIs, Looks, TurnSafe, TurnedIs, Turns}
 use Rattle.turn.proofs.Parts.{Settles, Makes}
 use Rattle.state.proofs.Rows.{length-held}
 use Rattle.turn.proofs.Entries.{Room, none-left, some-left, room}
@@ -39,7 +39,7 @@ use Rattle.turn.proofs.Steady.{units-fine, units-represent, stop-safe, 
 look-stop : (e : End) (t : Taken) (waits : Bool) (n : ℕ) → LookStops e t waits → due-after (t .found) waits n ≡ Stop (ending e)
 unfolding due-after ending
 look-stop complete t waits n h = ap₂ (λ f w. due-after f w n) (h .0) (h .1)
-look-stop (neither-above e) t waits n h = absurd h
+look-stop neither-above t waits n h = ap (λ f. due-after f waits n) h
 look-stop spent t waits n h = ap (λ f. due-after f waits n) h
 look-stop too-large t waits n h = ap (λ f. due-after f waits n) h
 look-stop rules-full t waits n h = absurd h
@@ -47,13 +47,12 @@ look-stop log-full t waits n h = absurd h
 
 -- what the definition takes, by what is due
 data Step (tab : List ℕ) (P : Problem) (s : RunState) (u : ℕ) (t : Taken) (n : ℕ) (d : Due) : Type 0 where
-  stops : (e : End) → take-pair P (s .rules) (s .waiting) u ≡ stop e (t .units) → ((g : Pair) → e ≡ neither-above g → ⊥) →
-      d ≡ Stop (ending e) → Step tab P s u t n d
-  full : (k : TakenPair) → take-pair P (s .rules) (s .waiting) u ≡ done k (t .units) → most-entries ≤ n → d ≡ Stop LogFull → Step tab P s u t n d
-  settles : (k : TakenPair) → take-pair P (s .rules) (s .waiting) u ≡ done k (t .units) → n < most-entries → k .waiting ≡ behind-first (s .waiting) →
+  stops : (e : End) → taking P s u ≡ stop e (t .units) → d ≡ Stop (ending e) → Step tab P s u t n d
+  full : (k : TakenPair) → taking P s u ≡ done k (t .units) → most-entries ≤ n → d ≡ Stop LogFull → Step tab P s u t n d
+  settles : (k : TakenPair) → taking P s u ≡ done k (t .units) → n < most-entries → k .waiting ≡ behind-first (s .waiting) →
       mark-of (slot (t .pair) 0) ≡ origin-bytes (k .pair .origin) → same (k .pair .sides .left) (k .pair .sides .right) ≡ true → d ≡ Settle →
       Step tab P s u t n d
-  makes : (k : TakenPair) → take-pair P (s .rules) (s .waiting) u ≡ done k (t .units) → n < most-entries → k .waiting ≡ behind-first (s .waiting) →
+  makes : (k : TakenPair) → taking P s u ≡ done k (t .units) → n < most-entries → k .waiting ≡ behind-first (s .waiting) →
       mark-of (slot (t .pair) 0) ≡ origin-bytes (k .pair .origin) → same (k .pair .sides .left) (k .pair .sides .right) ≡ false →
       PairAt most-apart tab (t .pair) 0 (k .pair .sides) → d ≡ Make → Step tab P s u t n d
 
@@ -61,13 +60,13 @@ module _ (tab : List ℕ) (P : Problem) (s : RunState) (u : ℕ) (t : Taken) (wa
   abbrev Steps : Type 0
   Steps = Step tab P s u t n (due-after (t .found) waits n)
 
-  step-of : (p : Paid TakenPair) → take-pair P (s .rules) (s .waiting) u ≡ p → LookIs tab t waits s p → Steps
+  step-of : (p : Paid TakenPair) → taking P s u ≡ p → LookIs tab t waits s p → Steps
   unfolding due-after
   step-of (stop e left) q a =
-      stops e (q ∙ ap (stop e) (sym (a .0))) (λ g z. subst (λ x. LookStops x t waits) z (a .1)) (look-stop e t waits n (a .1))
+      stops e (q ∙ ap (stop e) (sym (a .0))) (look-stop e t waits n (a .1))
   step-of (done k left) q a = go (same (k .pair .sides .left) (k .pair .sides .right)) refl (a .3)
     where
-      r : take-pair P (s .rules) (s .waiting) u ≡ done k (t .units)
+      r : taking P s u ≡ done k (t .units)
       r = q ∙ ap (done k) (sym (a .0))
 
       equal : same (k .pair .sides .left) (k .pair .sides .right) ≡ true → (d : Due) → Room n Settle d → due-after (t .found) waits n ≡ d → Steps
@@ -83,34 +82,28 @@ module _ (tab : List ℕ) (P : Problem) (s : RunState) (u : ℕ) (t : Taken) (wa
       go true e f = equal e _ (room n Settle) (ap₂ (λ x w. due-after x w n) (f .0) (f .1))
       go false e f = differ e (f .1) _ (room n Make) (ap (λ x. due-after x waits n) (f .0))
 
--- something waits where there are more pairs than live rules
-waits-are : (live count : ℕ) (cs : List Candidate) → count ≡ live + length cs → ltb live count ≡ some-wait cs
-unfolding some-wait
-waits-are live count [] e = le-ltb live count (omega arith)
-waits-are live count (c ∷ cs) e = lt-ltb live count (omega arith)
+-- what waits in a state
+abbrev waiting-of : State → Waiting
+waiting-of st = waiting-behind (st .live) (st .pairs .count) (st .back)
 
-pairs-of : {tab : List ℕ} {st : State} {s : RunState} {waits : Bool} → Represents tab st s → waits ≡ ltb (st .live) (st .pairs .count) →
-    PairsOf tab (st .pairs .bytes) (st .live) waits s
-pairs-of {st = st} {s = s} R w =
+pairs-of : {tab : List ℕ} {st : State} {s : RunState} → Represents tab st s → PairsOf tab (st .pairs .bytes) (waiting-of st) s
+pairs-of {st = st} {s = s} R =
     record {
       holds = R .pairs .holds;
       live-is = R .live;
-      waits-is = w ∙ waits-are (st .live) (st .pairs .count) (s .waiting)
-          (omega (arith, R .pairs .counted, length-held (s .rules) (s .waiting), R .live));
+      waiting-is = omega (arith, R .pairs .counted, length-held (s .rules) (s .waiting), R .live);
+      back-is = R .back;
     }
 
 -- `turn`: no unit is left
-pub turn-spent : {tab inputs : List ℕ} {count : ℕ} {st : State} {pair : List ℕ} {o : Turned} → Fine st → st .units ≡ 0 → Layout pair 1 →
-    o ≡ ended-as st Spent 0 pair →
-    Turns tab inputs count st o
+pub turn-spent : {tab inputs : List ℕ} {count : ℕ} {st : State} {o : Turned} → Fine st → st .units ≡ 0 → o ≡ ended-as st Spent 0 → Turns tab inputs count st o
 unfolding ending
-turn-spent {tab} {inputs} {count} {st} {pair} F z y e =
+turn-spent {tab} {inputs} {count} {st} F z e =
     subst (Turns tab inputs count st) (sym e)
     (record {
-      safe = stop-safe F (omega arith) y;
+      safe = stop-safe F (omega arith);
       answer = λ P G s R.
-          subst (λ p. TurnedIs tab s (ended-as st Spent 0 pair) p) (sym (ap (turn P s) z ∙ turn-unpaid P s))
-          (refl, refl, units-represent 0 R, λ g q. absurd (zero≢one (cc)));
+          subst (λ p. TurnedIs tab s (ended-as st Spent 0) p) (sym (ap (turn P s) z ∙ turn-unpaid P s)) (refl, refl, units-represent 0 R);
     })
 
 -- the state that `settled` leaves
@@ -119,7 +112,13 @@ settled-as : (tab : List ℕ) (r : State) (s : RunState) (k : TakenPair) → k .
 unfolding settled
 settled-as tab r s k w R =
     subst
-    (λ l. Represents tab r (record { rules = s .rules; made = s .made; waiting = l; log = s .log ++ (record { origin = k .pair .origin; made = 0 } ∷ []) }))
+    (λ l. Represents tab r (record {
+      rules = s .rules;
+      made = s .made;
+      waiting = l;
+      log = s .log ++ (record { origin = k .pair .origin; made = 0 } ∷ []);
+      put-back = 0;
+    }))
     (sym w) R
 
 ends-full : Ends LogFull ≡ Ends (ending log-full)
@@ -131,45 +130,50 @@ abbrev pub Began : State → State → Type 0
 Began st begun = begun ≡ with-units st (st .units - 1)
 
 abbrev some-behind : State → Bool
-some-behind st = ltb (st .live) (st .pairs .count)
+some-behind st = ltb 0 (waiting-of st .count)
 
 pub began-fine : {st begun : State} → Fine st → Began st begun → Fine begun
 began-fine {st} F e = subst Fine (sym e) (units-fine (st .units - 1) F)
 
-pub look-room : {st begun : State} → Fine st → Began st begun →
-    Layout (begun .pairs .bytes) (begun .live) × (begun .live ≤ most-pairs) × (some-behind begun ≡ true → Layout (begun .pairs .bytes) (begun .live + 1))
-look-room {st} {begun} F e =
+pub look-room : {st begun : State} {w : Waiting} → Fine st → Began st begun → w ≡ waiting-of begun →
+    Layout (begun .pairs .bytes) (w .live) × (w .live ≤ most-pairs) × (0 < w .count → Layout (begun .pairs .bytes) (w .live + 1))
+look-room {st} {begun} F e q =
     let B = began-fine F e in
     let w = B .within in
-    let m = B .together in (
+    let m = B .together in
+    subst (λ (x : Waiting). Layout (begun .pairs .bytes) (x .live) × (x .live ≤ most-pairs) ×
+    (0 < x .count → Layout (begun .pairs .bytes) (x .live + 1))) (sym q) (
       layout-less w (B .layout),
       omega arith,
-      λ h. let l = ltb-true (begun .live) (begun .pairs .count) h in layout-less (omega arith) (B .layout),
+      λ h. layout-less (omega arith) (B .layout),
     )
 
 some-units : (n : ℕ) → (n ≡ 0 → ⊥) → n ≡ suc (n - 1)
 some-units zero h = absurd (h refl)
 some-units (suc n) h = omega arith
 
-module _ {tab inputs : List ℕ} {count : ℕ} {st begun : State} {t : Taken} {d : Due} (F : Fine st) (some : st .units ≡ 0 → ⊥) (began : Began st begun)
-    (looked : Looks tab (begun .pairs .bytes) (begun .live) (some-behind begun) inputs count (begun .units) t)
-    (due : d ≡ due-after (t .found) (some-behind begun) (begun .log .count)) where
+module _ {tab inputs : List ℕ} {count : ℕ} {st begun : State} {w : Waiting} {t : Taken} {d : Due} (F : Fine st) (some : st .units ≡ 0 → ⊥)
+    (began : Began st begun) (waits-are : w ≡ waiting-of begun) (looked : Looks tab (begun .pairs .bytes) w inputs count (begun .units) t)
+    (due : d ≡ due-after (t .found) (ltb 0 (w .count)) (begun .log .count)) where
   abbrev u : ℕ
   u = st .units - 1
 
   abbrev waits : Bool
   waits = some-behind st
 
-  L : Looks tab (st .pairs .bytes) (st .live) waits inputs count u t
-  L = subst (λ b. Looks tab (b .pairs .bytes) (b .live) (some-behind b) inputs count (b .units) t) began looked
+  L : Looks tab (st .pairs .bytes) (waiting-of st) inputs count u t
+  L = subst (λ b. Looks tab (b .pairs .bytes) (waiting-of b) inputs count (b .units) t) began
+      (subst (λ x. Looks tab (begun .pairs .bytes) x inputs count (begun .units) t) waits-are looked)
 
   is : d ≡ due-after (t .found) waits (st .log .count)
-  is = due ∙ ap (λ b. due-after (t .found) (some-behind b) (b .log .count)) began
+  is =
+      due ∙ ap (λ (x : Waiting). due-after (t .found) (ltb 0 (x .count)) (begun .log .count)) waits-are
+      ∙ ap (λ b. due-after (t .found) (some-behind b) (b .log .count)) began
 
   steps : (P : Problem) → Given tab inputs count P → (s : RunState) → Represents tab st s → Step tab P s u t (length (s .log)) d
   steps P G s R =
       let a : Step tab P s u t (st .log .count) (due-after (t .found) waits (st .log .count)) =
-      step-of tab P s u t waits (st .log .count) _ refl (L .answer P G s (pairs-of R refl)) in
+      step-of tab P s u t waits (st .log .count) _ refl (L .answer P G s (pairs-of R)) in
       subst (λ n. Step tab P s u t n d) (R .log .counted) (subst (Step tab P s u t (st .log .count)) (sym is) a)
 
   turned : (o : Turned) → TurnSafe (with-units st u) o →
@@ -182,48 +186,45 @@ module _ {tab inputs : List ℕ} {count : ℕ} {st begun : State} {t : Taken} {d
       }
 
   abbrev IsEnd : Ending → RunState → Paid RunState → Type 0
-  IsEnd end s q = TurnedIs tab s (ended-as (with-units st u) end (t .units) (t .pair)) q
+  IsEnd end s q = TurnedIs tab s (ended-as (with-units st u) end (t .units)) q
 
-  pub turn-ends : {end : Ending} {o : Turned} → d ≡ Stop end → o ≡ ended-as begun end (t .units) (t .pair) → Turns tab inputs count st o
+  pub turn-ends : {end : Ending} {o : Turned} → d ≡ Stop end → o ≡ ended-as begun end (t .units) → Turns tab inputs count st o
   turn-ends {end} {o} p e′ =
-      subst (Turns tab inputs count st) (sym (e′ ∙ ap (λ b. ended-as b end (t .units) (t .pair)) began))
-      (turned (ended-as (with-units st u) end (t .units) (t .pair))
-      (stop-safe (units-fine u F) (L .left-over) (L .layout)) (λ P G s R. go P s R (steps P G s R)))
+      subst (Turns tab inputs count st) (sym (e′ ∙ ap (λ b. ended-as b end (t .units)) began))
+      (turned (ended-as (with-units st u) end (t .units)) (stop-safe (units-fine u F) (L .left-over)) (λ P G s R. go P s R (steps P G s R)))
     where
       go : (P : Problem) (s : RunState) → Represents tab st s → Step tab P s u t (length (s .log)) d → IsEnd end s (turn P s (suc u))
-      go P s R (stops e q f z) =
+      go P s R (stops e q z) =
           let w : end ≡ ending e = cc in
-          subst (IsEnd end s) (sym (turn-stops P s u e (t .units) q)) (ap Ends w, refl, units-represent (t .units) R, λ g y. absurd (f g y))
+          subst (IsEnd end s) (sym (turn-stops P s u e (t .units) q)) (ap Ends w, refl, units-represent (t .units) R)
       go P s R (full k q h z) =
           let w : end ≡ LogFull = cc in
-          subst (IsEnd end s) (sym (turn-log-full P s u k (t .units) q h))
-          (ap Ends w ∙ ends-full, refl, units-represent (t .units) R, λ g y. absurd (zero≢one (cc)))
+          subst (IsEnd end s) (sym (turn-log-full P s u k (t .units) q h)) (ap Ends w ∙ ends-full, refl, units-represent (t .units) R)
       go P s R (settles k q h w m e z) = absurd (zero≢one (cc))
       go P s R (makes k q h w m e y z) = absurd (zero≢one (cc))
 
   pub turn-settled : {o : Turned} → d ≡ Settle → Settles begun t o → Turns tab inputs count st o
   turn-settled {o} p S′ =
       let S : Settles (with-units st u) t o = subst (λ b. Settles b t o) began S′ in
-      turned o (S .safe (L .layout) (L .left-over)) (λ P G s R. go S P s R (steps P G s R))
+      turned o (S .safe (L .left-over)) (λ P G s R. go S P s R (steps P G s R))
     where
       go : Settles (with-units st u) t o → (P : Problem) (s : RunState) → Represents tab st s → Step tab P s u t (length (s .log)) d →
           TurnedIs tab s o (turn P s (suc u))
-      go S P s R (stops e q f z) = absurd (zero≢one (cc))
+      go S P s R (stops e q z) = absurd (zero≢one (cc))
       go S P s R (full k q h z) = absurd (zero≢one (cc))
       go S P s R (settles k q h w m e z) =
           subst (TurnedIs tab s o) (sym (turn-settles P s u k (t .units) q h e))
           (S .goes, S .units, settled-as tab (o .state) s k w (S .represents tab s (k .pair .origin) (units-represent u R) m))
       go S P s R (makes k q h w m e y z) = absurd (zero≢one (cc))
 
-  pub turn-made : {o : Turned} → d ≡ Make → Makes tab begun t o → Turns tab inputs count st o
+  pub turn-made : {o : Turned} → d ≡ Make → Makes tab (t .pair) begun (t .units) o → Turns tab inputs count st o
   turn-made {o} p M′ =
-      let M : Makes tab (with-units st u) t o = subst (λ b. Makes tab b t o) began M′ in
-      turned o (M .safe (units-fine u F) (L .layout) (L .left-over)) (λ P G s R. go M P G s R (steps P G s R))
+      let M : Makes tab (t .pair) (with-units st u) (t .units) o = subst (λ b. Makes tab (t .pair) b (t .units) o) began M′ in
+      turned o (M .safe (L .left-over)) (λ P G s R. go M P G s R (steps P G s R))
     where
-      go : Makes tab (with-units st u) t o → (P : Problem) → Given tab inputs count P → (s : RunState) → Represents tab st s →
-          Step tab P s u t (length (s .log)) d →
-          TurnedIs tab s o (turn P s (suc u))
-      go M P G s R (stops e q f z) = absurd (zero≢one (cc))
+      go : Makes tab (t .pair) (with-units st u) (t .units) o → (P : Problem) → Given tab inputs count P → (s : RunState) → Represents tab st s →
+          Step tab P s u t (length (s .log)) d → TurnedIs tab s o (turn P s (suc u))
+      go M P G s R (stops e q z) = absurd (zero≢one (cc))
       go M P G s R (full k q h z) = absurd (zero≢one (cc))
       go M P G s R (settles k q h w m e z) = absurd (zero≢one (cc))
       go M P G s R (makes k q h w m e y z) =

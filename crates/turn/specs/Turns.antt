@@ -1,33 +1,34 @@
 -- What a turn answers, by cases on what the definition comes to: the next state, or an end and the state as at the turn's beginning. Assumes nothing.
 use mathlib.Core.Path.{_≡_}
 use mathlib.Core.Bool.{Bool, true, false}
-use mathlib.Core.List.{List, [], _∷_, map}
-use Prim.Native.Nat.{ℕ, _+_, _<_, _≤_}
-use lib.Dec.{leb}
+use mathlib.Core.Logic.{_⊎_}
+use mathlib.Core.List.{List, map}
+use Prim.Native.Nat.{ℕ, _+_, _-_, _<_, _≤_}
+use lib.Dec.{ltb, leb}
 use lib.ListN.{length}
-use Rattle.limits.specs.Limits.{most-apart, most-entries}
+use Rattle.limits.specs.Limits.{most-apart, most-rules, most-entries}
 use Rattle.terms.specs.Base.{if_then_else_}
-use Rattle.terms.specs.Term.{Pair, same}
+use Rattle.terms.specs.Term.{same}
 use Rattle.order.specs.Walk.{rank}
-use Rattle.rewriting.specs.Overlap.{Rule}
-use Rattle.rewriting.specs.Rewrite.{End, complete, neither-above, spent, too-large, rules-full, log-full, Paid, done, stop}
+use Rattle.rewriting.specs.Rewrite.{End, complete, neither-above, spent, too-large, rules-full, log-full, Paid, done, stop, _>>=_}
 use Rattle.rewriting.specs.Ends.{ending}
-use Rattle.rewriting.specs.declared.End.{End as Ending}
-use Rattle.rewriting.specs.declared.End.the-variants.{Complete, Spent, TooLarge, LogFull}
-use Rattle.rewriting.specs.declared.Verdict.{Verdict}
+use Rattle.rewriting.specs.declared.End.the-variants.{Complete, NeitherAbove, Spent, TooLarge, RulesFull, LogFull}
 use Rattle.rewriting.specs.declared.Verdict.the-variants.{GoesOn, Ends}
 use Rattle.problem.specs.Problem.{rank-of, Problem}
 use Rattle.slots.specs.Slots.{slot, mark-of, Layout, PairAt, Stored, Holds}
-use Rattle.completion.specs.Turn.{Candidate, State as RunState, Taken as TakenPair, take-pair, turn}
+use Rattle.completion.specs.Turn.{Candidate, State as RunState, Taken as TakenPair, take-pair, end-if-all-put-back, turn}
 use Rattle.completion.specs.Calls.{origin-bytes}
 use Rattle.inputs.specs.Inputs.{marked, inputs-of}
 use Rattle.forms.specs.declared.Found.{Found}
 use Rattle.forms.specs.declared.Found.the-variants.{Equal, Different, Ends as FoundEnds}
 use Rattle.forms.specs.declared.Taken.{Taken}
+use Rattle.compose.specs.declared.Composed.{Composed}
+use Rattle.compose.specs.Rights.{All}
 use Rattle.state.specs.declared.State.{State}
 use Rattle.state.specs.Run.{held, Fine, Represents, with-units}
 use Rattle.state.specs.Steps.{behind-first}
-use Rattle.turn.specs.declared.Turned.{Turned}
+use Rattle.state.specs.declared.Turned.{Turned}
+use Rattle.turn.specs.declared.Waiting.{Waiting}
 use Rattle.turn.specs.declared.Due.{Due}
 use Rattle.turn.specs.declared.Due.the-variants.{Stop, Settle, Make}
 
@@ -37,12 +38,9 @@ pub record Given (tab inputs : List ℕ) (count : ℕ) (P : Problem) : Type 0 wh
   pub stored : Stored tab inputs 0 (map (λ c. c .sides) (inputs-of P))
   pub counted : count ≡ length (P .equations)
 
--- `ended`, `going`
-abbrev pub ended-as : State → Ending → ℕ → List ℕ → Turned
-ended-as st end units pair = record { state = with-units st units; verdict = Ends end; pair = pair }
-
-abbrev pub going-as : State → List ℕ → Turned
-going-as st pair = record { state = st; verdict = GoesOn; pair = pair }
+-- `going`
+abbrev pub going-as : State → Turned
+going-as st = record { state = st; verdict = GoesOn }
 
 -- `with_room`, `due_after`: steps 1 to 3, from what was found. "24 when a 513th log entry is due, at step 2 of the turn."
 unfoldable pub with-room : ℕ → Due → Due
@@ -54,17 +52,18 @@ due-after Equal false entries = Stop Complete
 due-after Different waits entries = with-room entries Make
 due-after (FoundEnds e) waits entries = Stop e
 
--- the slots hold the rules and what waits of s, and whether something waits
-unfoldable pub some-wait : List Candidate → Bool
-some-wait [] = false
-some-wait (c ∷ cs) = true
+-- `waiting_behind`
+abbrev pub waiting-behind : ℕ → ℕ → ℕ → Waiting
+waiting-behind live pairs back = record { live = live; count = pairs - live; back = back }
 
-pub record PairsOf (tab pairs : List ℕ) (live : ℕ) (waits : Bool) (s : RunState) : Type 0 where
+-- the slots hold the rules and what waits of s, of which so many were put back
+pub record PairsOf (tab pairs : List ℕ) (w : Waiting) (s : RunState) : Type 0 where
   pub holds : Holds tab pairs 0 (map marked (held (s .rules) (s .waiting)))
-  pub live-is : live ≡ length (s .rules)
-  pub waits-is : waits ≡ some-wait (s .waiting)
+  pub live-is : w .live ≡ length (s .rules)
+  pub waiting-is : w .count ≡ length (s .waiting)
+  pub back-is : w .back ≡ s .put-back
 
--- `look`: step 1. The taken pair's forms are equal, which only a waiting equation's can be, or stand in the slot
+-- `look`: step 1 behind its unit. The taken pair's forms are equal, which only a waiting equation's can be, or stand in the slot
 abbrev pub FormsIn : List ℕ → Taken → Bool → Candidate → Bool → Type 0
 FormsIn tab t waits c true = (t .found ≡ Equal) × (waits ≡ true)
 FormsIn tab t waits c false = (t .found ≡ Different) × PairAt most-apart tab (t .pair) 0 (c .sides)
@@ -72,7 +71,7 @@ FormsIn tab t waits c false = (t .found ≡ Different) × PairAt most-apart tab 
 -- "If there is none, the end is 0, complete."
 abbrev pub LookStops : End → Taken → Bool → Type 0
 LookStops complete t waits = (t .found ≡ Equal) × (waits ≡ false)
-LookStops (neither-above e) t waits = ⊥
+LookStops neither-above t waits = t .found ≡ FoundEnds NeitherAbove
 LookStops spent t waits = t .found ≡ FoundEnds Spent
 LookStops too-large t waits = t .found ≡ FoundEnds TooLarge
 LookStops rules-full t waits = ⊥
@@ -84,11 +83,16 @@ LookIs tab t waits s (done k left) =
     × FormsIn tab t waits (k .pair) (same (k .pair .sides .left) (k .pair .sides .right))
 LookIs tab t waits s (stop e left) = (t .units ≡ left) × LookStops e t waits
 
-pub record Looks (tab pairs : List ℕ) (live : ℕ) (waits : Bool) (inputs : List ℕ) (count units : ℕ) (t : Taken) : Type 0 where
+pub record Looks (tab pairs : List ℕ) (w : Waiting) (inputs : List ℕ) (count units : ℕ) (t : Taken) : Type 0 where
   pub layout : Layout (t .pair) 1
   pub left-over : t .units ≤ units
-  pub answer : (P : Problem) → Given tab inputs count P → (s : RunState) → PairsOf tab pairs live waits s →
-      LookIs tab t waits s (take-pair P (s .rules) (s .waiting) units)
+  pub answer : (P : Problem) → Given tab inputs count P → (s : RunState) → PairsOf tab pairs w s →
+      LookIs tab t (ltb 0 (w .count)) s ((end-if-all-put-back (s .waiting) (s .put-back) >>= λ _. take-pair P (s .rules) (s .waiting)) units)
+
+-- `compose_few`: "Over 32 live: 23."
+abbrev pub ComposesFew : List ℕ → ℕ → List ℕ → List ℕ → ℕ → Composed → Type 0
+ComposesFew tab live pairs pairs′ units c =
+    ((most-rules < live) × (c ≡ record { verdict = Ends RulesFull; units = units })) ⊎ ((live ≤ most-rules) × All tab pairs pairs′ live units c)
 
 -- what every answer of a turn from st has; a stop hands back the state as at the turn's beginning
 pub record TurnSafe (st : State) (o : Turned) : Type 0 where
@@ -96,14 +100,11 @@ pub record TurnSafe (st : State) (o : Turned) : Type 0 where
   pub grows : o .verdict ≡ GoesOn → o .state .log .count ≡ st .log .count + 1
   pub stays : (o .verdict ≡ GoesOn → ⊥) → o .state ≡ with-units st (o .state .units)
   pub less : o .state .units ≤ st .units
-  pub layout : Layout (o .pair) 1
 
--- the next state, or an end with the two forms of 20 in the slot
+-- the next state, or an end and the state as it was
 abbrev pub TurnedIs : List ℕ → RunState → Turned → Paid RunState → Type 0
 TurnedIs tab s o (done s′ left) = (o .verdict ≡ GoesOn) × (o .state .units ≡ left) × Represents tab (o .state) s′
-TurnedIs tab s o (stop f left) =
-    (o .verdict ≡ Ends (ending f)) × (o .state .units ≡ left) × Represents tab (o .state) s ×
-    ((g : Pair) → f ≡ neither-above g → PairAt most-apart tab (o .pair) 0 g)
+TurnedIs tab s o (stop f left) = (o .verdict ≡ Ends (ending f)) × (o .state .units ≡ left) × Represents tab (o .state) s
 
 -- `turn`: exactly as the definition says
 pub record Turns (tab inputs : List ℕ) (count : ℕ) (st : State) (o : Turned) : Type 0 where

@@ -1,43 +1,28 @@
 // A turn of the run: from a state to the next; or, where the turn ends the run, to the state as at its beginning with the units that are left.
 ghost use mathlib.Core.Path.{_≡_};
-ghost use mathlib.Core.Bool.{true};
 ghost use Prim.Native.Nat.{_+_, _<_, _≤_};
 ghost use lib.ListN.{length};
 ghost use Rattle.limits.specs.Limits.{most-pairs, most-equations};
 ghost use Rattle.slots.specs.Slots.{Layout};
 ghost use Rattle.state.specs.Run.{Fine};
-ghost use Rattle.turn.specs.Turns.{ended-as, going-as, with-room, due-after, Looks, Turns};
+ghost use Rattle.turn.specs.Turns.{going-as, with-room, due-after, waiting-behind, Looks, ComposesFew, Turns};
+use compose::Composed;
 use forms::Found;
 use forms::Taken;
+use orient::Way;
 use rewriting::End;
 use rewriting::Verdict;
+use slots::ROOM;
 use slots::SLOT;
 use state::State;
+use state::Turned;
 
-// The state; whether the run goes on with it; and the forms of the pair that the turn took, where they differ.
-pub struct Turned {
-    pub state: State,
-    pub verdict: Verdict,
-    pub pair: [u8; SLOT],
-}
-
-fn ended(first: State, end: End, units: u32, pair: [u8; SLOT]) -> Turned
-    ensures { λ r. ⌜ r ≡ ended-as first end units pair ⌝ }
-{
-    Turned {
-        state: first.left(units),
-        verdict: Verdict::Ends(end),
-        pair: pair,
-    }
-}
-
-fn going(next: State, pair: [u8; SLOT]) -> Turned
-    ensures { λ r. ⌜ r ≡ going-as next pair ⌝ }
+fn going(next: State) -> Turned
+    ensures { λ r. ⌜ r ≡ going-as next ⌝ }
 {
     Turned {
         state: next,
         verdict: Verdict::GoesOn,
-        pair: pair,
     }
 }
 
@@ -75,65 +60,94 @@ fn due_after(t: Taken, waits: bool, entries: usize) -> Due
     }
 }
 
-// Step 1: the forms of the oldest waiting equation, or, where none waits, of the first pair that the scan finds.
-fn look(
-    pairs: &[u8],
-    live: usize,
-    waits: bool,
-    inputs: &[u8],
-    count: usize,
-    table: &[u8],
-    units: u32,
-) -> Taken
-    requires { ⌜ Layout (now pairs) live × (live ≤ most-pairs) × (waits ≡ true → Layout (now pairs) (live + 1)) ⌝ }
-    requires { ⌜ Layout (now inputs) count × (count ≤ most-equations) ⌝ }
-    ensures { λ r. ⌜ Looks (now (table .entry)) (now (pairs .entry)) live waits (now (inputs .entry)) count units r ⌝ }
+// What waits: behind so many live rules so many pairs, of which the last so many were put back.
+pub struct Waiting {
+    pub live: usize,
+    pub count: usize,
+    pub back: usize,
+}
+
+fn waiting_behind(live: usize, pairs: usize, back: usize) -> Waiting
+    requires { ⌜ live ≤ pairs ⌝ }
+    ensures { λ r. ⌜ r ≡ waiting-behind live pairs back ⌝ }
 {
-    if waits {
-        return forms::oldest(pairs, live, table, units);
+    Waiting {
+        live: live,
+        count: pairs - live,
+        back: back,
     }
-    scanning::scan(inputs, count, pairs, live, table, units)
+}
+
+// Step 1 behind its unit: the forms of the oldest equation that waits, unless all of these have been put back; where none waits, of the first pair
+// that the scan finds.
+fn look(pairs: &[u8], w: Waiting, inputs: &[u8], count: usize, table: &[u8], units: u32) -> Taken
+    requires { ⌜ Layout (now pairs) (w .live) × (w .live ≤ most-pairs) × (0 < w .count → Layout (now pairs) (w .live + 1)) ⌝ }
+    requires { ⌜ Layout (now inputs) count × (count ≤ most-equations) ⌝ }
+    ensures { λ r. ⌜ Looks (now (table .entry)) (now (pairs .entry)) w (now (inputs .entry)) count units r ⌝ }
+{
+    if w.count == 0 {
+        return scanning::scan(inputs, count, pairs, w.live, table, units);
+    }
+    if w.back >= w.count {
+        let all = forms::walked(Found::Ends(End::NeitherAbove), units);
+        return forms::with_pair(all, [0u8; SLOT]);
+    }
+    forms::oldest(pairs, w.live, table, units)
+}
+
+// "Over 32 live: 23." Else step 7, on the first `live` pairs.
+fn compose_few(live: usize, pairs: &mut [u8; ROOM], table: &[u8], units: u32) -> Composed
+    requires { ⌜ Layout (now pairs) live ⌝ }
+    ensures { λ r. ⌜ ComposesFew (now (table .entry)) live (now (pairs .entry)) (now (pairs .exit)) units r ⌝ }
+{
+    if live > limits::RULES {
+        return Composed {
+            verdict: Verdict::Ends(End::RulesFull),
+            units: units,
+        };
+    }
+    compose::compose(pairs, live, table, units)
 }
 
 // A turn, with the input equations. Its unit is paid first; a stop hands back the state as the turn began it. Each method is called here, where the
-// state is, and each result has its own name: a function, or a result within an expression, copies the state once more.
+// state is, each result has its own name, and a rule's entry is put in place: a function, or a result within an expression, copies the state once more.
 pub fn turn(st: State, inputs: &[u8], count: usize, table: &[u8]) -> Turned
     requires { ⌜ Fine st × Layout (now inputs) count × (count ≤ most-equations) ⌝ }
     ensures { λ r. ⌜ Turns (now (table .entry)) (now (inputs .entry)) count st r ⌝ }
 {
     if st.units == 0 {
-        return ended(st, End::Spent, 0, [0u8; SLOT]);
+        return st.ended(End::Spent, 0);
     }
     let st = st.begin();
-    let live = st.live;
-    let waits = live < st.pairs.count;
-    let t = look(&st.pairs.bytes, live, waits, inputs, count, table, st.units);
+    let w = waiting_behind(st.live, st.pairs.count, st.back);
+    let t = look(&st.pairs.bytes, w, inputs, count, table, st.units);
     let pair = t.pair;
-    let due = due_after(t, waits, st.log.count);
+    let due = due_after(t, w.count > 0, st.log.count);
     if let Due::Stop(end) = due {
-        return ended(st, end, t.units, pair);
+        return st.ended(end, t.units);
     }
-    let origin = slots::mark(&pair, 0);
     if let Due::Settle = due {
-        return going(st.take().log(origin, 0, t.units), pair);
+        return going(st.take().log(&pair, 0, t.units));
     }
     let rest = st.take();
     let o = rest.orient(&pair, table);
-    let way = o.verdict;
-    if let Verdict::Ends(end) = way {
-        return ended(st, end, t.units, pair);
+    let way = o.way;
+    if let Way::TooLarge = way {
+        return st.ended(End::TooLarge, t.units);
+    }
+    if let Way::Neither = way {
+        return going(rest.put_back(&pair, t.units));
     }
     let collapsed = o.state.collapse(table);
     let mut next = collapsed;
-    let live = next.live;
-    if live > limits::RULES {
-        return ended(st, End::RulesFull, t.units, pair);
-    }
-    let c = compose::compose(&mut next.pairs.bytes, live, table, t.units);
+    let c = compose_few(next.live, &mut next.pairs.bytes, table, t.units);
     let composed = c.verdict;
     if let Verdict::Ends(end) = composed {
-        return ended(st, end, c.units, pair);
+        return st.ended(end, c.units);
     }
-    let logged = next.log(origin, next.made as u16, c.units);
-    going(logged, pair)
+    let entries = state::enter(next.log.count, next.made as u16, &pair, &mut next.log.bytes);
+    next.log.count = entries;
+    next.back = 0;
+    next.units = c.units;
+    going(next)
 }

@@ -5,6 +5,8 @@ use crate::{decisions, pairs};
 use kb_engine::full_log;
 use kb_engine::notation::Theory;
 use kb_engine::pairs::Pair;
+use kb_engine::put_back::rounds::ladder;
+use kb_engine::put_back::simplified::groups_with_unit;
 use kb_engine::theories::{self, monoid, power, PAPERS};
 
 /// Which call is timed.
@@ -46,6 +48,7 @@ pub fn all() -> Vec<Case> {
     let mut list = papers();
     list.extend(groups());
     list.extend(limits());
+    list.extend(waiting());
     list.extend(compared());
     list.extend(unified());
     list.extend(read());
@@ -94,6 +97,34 @@ fn limits() -> Vec<Case> {
         complete("513th entry, end 24", full_log::settled(84, 2)),
         complete("no equation", Theory::new(theories::GROUP)),
     ]
+}
+
+/// Equations with neither side above: until a rule simplifies them, or to the
+/// end 20.
+fn waiting() -> Vec<Case> {
+    let complete = |name, theory| case(name, Call::Complete, theory);
+    vec![
+        complete("002 axioms behind x*e = e*x", groups_with_unit()),
+        complete("14 equations wait in rounds", ladder(15)),
+        complete("8 long equations wait, end 20", long_waiting()),
+    ]
+}
+
+/// Eight equations of 210 to 238 nodes that stay, each of two trees with x and
+/// y exchanged, and a ladder of eight constants: nine rounds.
+fn long_waiting() -> Theory {
+    let constants = (1..=8).map(|k| format!(" a{k}/0/1"));
+    let theory = Theory::new(&format!("0/0/0 f/2/2{}", constants.collect::<String>()));
+    let theory = (53..=60).fold(theory, |theory, count| {
+        let side = |first: [&'static str; 2]| {
+            let leaves: Vec<&str> = first.into_iter().cycle().take(count).collect();
+            tree(&leaves)
+        };
+        theory.equation(&format!("{} = {}", side(["x", "y"]), side(["y", "x"])))
+    });
+    let rungs = (1..8).map(|k| format!("a{k} = a{}", k + 1));
+    let theory = rungs.fold(theory, |theory, rung| theory.equation(&rung));
+    theory.equation("a8 = 0")
 }
 
 fn compared() -> Vec<Case> {

@@ -3,6 +3,7 @@
 
 use crate::engines::{decode, Engine};
 use crate::lent::Lent;
+use kb_engine::fields::put_back_entries;
 use kb_engine::pairs::Pair;
 use kb_engine::questions::Question;
 use kb_engine::{MAX_NODES, MIN_RESULT};
@@ -27,10 +28,35 @@ pub struct Answers {
     pub complete: u64,
     /// The end in the result, if one was written.
     pub end: Option<u8>,
+    /// What its log says of equations put back.
+    pub put_back: PutBack,
     pub unify: u64,
     pub compare: u64,
     /// Of the problem and its own result.
     pub decide: u64,
+}
+
+/// Equations put back in a run.
+#[derive(Clone, Copy, Debug, Default, PartialEq, Eq)]
+pub enum PutBack {
+    #[default]
+    None,
+    Once,
+    /// One of them more than once.
+    Again,
+}
+
+impl PutBack {
+    /// What the log of a result says.
+    pub fn of_result(result: &[u8]) -> PutBack {
+        let list: Vec<&[u8]> = put_back_entries(result).collect();
+        let again = (0..list.len()).any(|i| list[..i].contains(&list[i]));
+        match list.is_empty() {
+            true => PutBack::None,
+            false if again => PutBack::Again,
+            false => PutBack::Once,
+        }
+    }
 }
 
 /// How a problem is run.
@@ -87,6 +113,7 @@ impl<'e> Checker<'e> {
         let complete = self.written("complete", problem, setting, |e, p, r| e.complete(p, r))?;
         let record = self.result(complete).to_vec();
         let end = record.get(3).copied();
+        let put_back = PutBack::of_result(&record);
         let unify = self.written("unify", problem, setting, |e, p, r| e.unify(p, r))?;
         let compare = self.equal("compare".to_string(), |e| e.compare(problem))?;
         for position in &setting.positions {
@@ -98,6 +125,7 @@ impl<'e> Checker<'e> {
         Ok(Answers {
             complete,
             end,
+            put_back,
             unify,
             compare,
             decide,

@@ -1,8 +1,9 @@
 //! What was compared: how many of each family, with which answers.
 
-use crate::check::Answers;
+use crate::check::{Answers, PutBack};
 use crate::engines::decode;
 use kb_engine::generate::ranks::{ranks, Ranks};
+use kb_engine::run::END_COMPLETE;
 use std::collections::BTreeMap;
 
 /// Counts of what was compared: problems, questions or pairs of terms.
@@ -59,7 +60,28 @@ impl Summary {
             None => "ranks: no table",
         };
         self.note(ranks.to_string());
+        self.note_put_back(answers);
         self.note_decision(answers.decide);
+    }
+
+    /// Results with equations put back; those of end 0, and those in which
+    /// one was put back more than once, are counted apart as well.
+    fn note_put_back(&mut self, answers: &Answers) {
+        if answers.put_back == PutBack::None {
+            return;
+        }
+        self.note("put back".to_string());
+        if answers.end == Some(END_COMPLETE) {
+            self.note("put back: end  0".to_string());
+        }
+        if answers.put_back == PutBack::Again {
+            self.note("put back: again".to_string());
+        }
+    }
+
+    /// How often an answer was noted.
+    pub fn count(&self, answer: &str) -> u64 {
+        self.answers.get(answer).copied().unwrap_or(0)
     }
 
     /// The answer to a question.

@@ -1,7 +1,7 @@
 //! The cases of complete_run: the papers' theories, the worked instances, the
 //! edges, every end by each of its causes, and every refusal with its place.
 
-use super::{groups, hex, refusals, refused, Case, Cases};
+use super::{groups, hex, put_back, refusals, refused, Case, Cases};
 use crate::fields::split_fields;
 use crate::notation::Theory;
 use crate::theories::{self, power, PAPERS};
@@ -22,6 +22,7 @@ pub fn cases() -> Cases {
     counts(&mut cases);
     budgets(&mut cases);
     neither_above(&mut cases);
+    put_back::cases(&mut cases);
     spent(&mut cases);
     too_large(&mut cases);
     full(&mut cases);
@@ -209,7 +210,7 @@ fn many_variables(cases: &mut Cases) {
     );
     run(
         cases,
-        "22 before 20: 17 variables",
+        "22 before put back: 17 variables",
         theories::many_variables(13),
     );
     let tuples = [
@@ -248,7 +249,7 @@ fn full_log(cases: &mut Cases) {
     run(cases, "24 before settled", full_log::settled(84, 2));
     let theory = full_log::settled(84, 2);
     cases.bytes("21 before 24", theory.problem(1019));
-    run(cases, "24 before 20", full_log::neither_above(84, 0));
+    run(cases, "24 before put back", full_log::neither_above(84, 0));
     run(cases, "22 before 24: a step", full_log::too_large(84, 0));
     let theory = full_log::many_variables(83, 3);
     run(cases, "24 before 22: 17 variables", theory);

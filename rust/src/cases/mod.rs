@@ -6,6 +6,7 @@
 
 pub mod calls;
 pub mod complete;
+mod put_back;
 mod refusals;
 
 use crate::fields::push_field;

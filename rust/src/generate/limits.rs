@@ -4,6 +4,7 @@ use super::random::Random;
 use super::terms::{assemble, push_term, symbols};
 use crate::full_log;
 use crate::notation::Theory;
+use crate::put_back::limits::{one_removed, two_removed};
 use crate::theories::{self, descents, endless_rules, many_variables, power, products};
 
 /// Two left sides whose common instance doubles with each argument pair.
@@ -73,12 +74,13 @@ pub fn variables(random: &mut Random) -> Vec<u8> {
 pub fn room(random: &mut Random) -> Vec<u8> {
     match random.below(400) {
         0 => endless_rules().problem(random.between(5000, 8000) as u32),
-        1..=12 => long_log(random),
-        13..=20 => endless_rules().problem(random.budget()),
-        21..=80 => {
+        1..=14 => long_log(random),
+        15..=20 => endless_rules().problem(random.budget()),
+        21..=60 => {
             let lengths = [random.between(0, 9), random.between(0, 9)];
             descents(&lengths).problem(random.budget())
         }
+        61..=110 => put_back_last(random),
         _ => product_rules(random),
     }
 }
@@ -86,12 +88,13 @@ pub fn room(random: &mut Random) -> Vec<u8> {
 /// Around 512 log entries, and what else is due then.
 fn long_log(random: &mut Random) -> Vec<u8> {
     let (length, padding) = (random.between(82, 84), random.below(7));
-    let theory = match random.below(6) {
+    let theory = match random.below(7) {
         0 => descents(&[84, 84, random.between(82, 86)]).equation("x = x"),
         1 => full_log::settled(length, padding),
         2 => full_log::neither_above(length, padding),
         3 => full_log::too_large(length, padding),
         4 => full_log::many_variables(length, padding),
+        5 => full_log::two_put_back(length, padding.min(5)),
         _ => full_log::endless_rules(length - 4, padding),
     };
     theory.problem(if random.once_in(4) { 1015 } else { 6000 })
@@ -103,6 +106,16 @@ fn product_rules(random: &mut Random) -> Vec<u8> {
     let inner = random.between(1, 14 - outer);
     let top = *random.pick(&[40, 120, 300, 400]);
     products(outer, inner).problem(random.below(top) as u32)
+}
+
+/// The last of about 32 rules removes one or two, with neither side above.
+fn put_back_last(random: &mut Random) -> Vec<u8> {
+    let (outer, inner) = *random.pick(&[(2, 9), (3, 6), (3, 7), (4, 5), (5, 4), (4, 4)]);
+    let (theory, budget) = (random.below(2), random.between(150, 300) as u32);
+    match theory {
+        0 => one_removed(outer, inner).problem(budget),
+        _ => two_removed(outer, inner).problem(budget),
+    }
 }
 
 /// Equations between terms whose variables are permuted.

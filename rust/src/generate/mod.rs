@@ -2,10 +2,11 @@
 //!
 //! `problem` is a function of its two numbers alone. The index modulo the
 //! number of families chooses the family, the rest varies it. In a third of
-//! the problems symbols share a rank. Most budgets are small, so that many
-//! problems can be run. `damage::exhaustive` lists all truncations and
-//! single-byte changes of some problems. `records` makes questions of records,
-//! `pairs` pairs of terms for lower.
+//! the problems symbols share a rank; in four families equations with neither
+//! side above wait. Most budgets are small, so that many problems can be run.
+//! `damage::exhaustive` lists all truncations and single-byte changes of some
+//! problems. `records` makes questions of records, `pairs` pairs of terms for
+//! lower.
 
 pub mod damage;
 pub mod edges;
@@ -16,6 +17,7 @@ pub mod ranks;
 pub mod records;
 pub mod terms;
 pub mod theory;
+pub mod waiting;
 pub mod words;
 
 use random::Random;
@@ -23,7 +25,7 @@ use random::Random;
 type Family = fn(&mut Random) -> Vec<u8>;
 
 /// The families in the order of the index.
-const FAMILIES: [(&str, Family); 20] = [
+const FAMILIES: [(&str, Family); 24] = [
     ("random theory", theory::random),
     ("orientable theory", theory::orientable),
     ("non-linear theory", theory::non_linear),
@@ -40,6 +42,10 @@ const FAMILIES: [(&str, Family); 20] = [
     ("variable limit", limits::variables),
     ("room limit", limits::room),
     ("unorientable", limits::unorientable),
+    ("waiting in rounds", waiting::rounds),
+    ("waiting, then simplified", waiting::simplified),
+    ("removed, then waiting", waiting::removed),
+    ("paper theory behind waiting", waiting::behind),
     ("edges", edges::edges),
     ("damaged", damage::random),
     ("bytes", damage::bytes),

@@ -2,6 +2,7 @@
 
 use super::random::Random;
 use super::terms::{assemble, push_term, symbols, term_end, Symbols};
+use super::waiting;
 use crate::problem::Problem;
 use crate::theories::PAPERS;
 
@@ -115,13 +116,13 @@ pub fn rich(random: &mut Random) -> Vec<u8> {
     assemble(&symbols, budget, &equations)
 }
 
-/// The budget sweep: one small theory with each budget in turn.
+/// The budget sweep: one theory with each budget in turn.
 pub fn sweep(seed: u64, theory: u64, budget: u64) -> Vec<u8> {
     let mut random = Random::new(seed ^ 0x5357_4545, theory);
-    let (symbols, equations) = if random.once_in(2) {
-        small_theory(&mut random)
-    } else {
-        paper(&mut random)
+    let (symbols, equations) = match random.below(3) {
+        0 => small_theory(&mut random),
+        1 => paper(&mut random),
+        _ => return waiting::theory(&mut random).problem(budget as u32),
     };
     assemble(&symbols, budget as u32, &equations)
 }

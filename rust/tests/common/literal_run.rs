@@ -12,29 +12,100 @@ enum Break {
     Unknown,
 }
 
+/// An equation that waits.
+#[derive(Clone)]
+pub struct Waiting {
+    pub left: Bytes,
+    pub right: Bytes,
+    /// Kind, numbers and position, as its entries have them.
+    pub origin: Bytes,
+    /// Since a rule was last made or an equation settled.
+    pub put_back: bool,
+}
+
+/// A pair as it stood, its two normal forms, and its origin.
+pub struct Taken {
+    pub before: [Bytes; 2],
+    pub forms: [Bytes; 2],
+    pub origin: Bytes,
+}
+
+/// What the definitions say of equations with neither side above. The tests of
+/// the comparison make one of them wrong.
+#[derive(Clone, Copy)]
+pub struct Rounds {
+    pub put_back: fn(&mut Vec<Waiting>, &Taken),
+    /// The rule made, in the entry of a pair put back.
+    pub made: u16,
+    /// The equation that field 14 shows, if the end is 20.
+    pub stuck: fn(&[Waiting]) -> Option<&Waiting>,
+    pub after_a_rule: fn(&mut [Waiting]),
+    pub after_settling: fn(&mut [Waiting]),
+}
+
+pub const ROUNDS: Rounds = Rounds {
+    put_back,
+    made: 0xffff,
+    stuck,
+    after_a_rule: none_put_back_since,
+    after_settling: none_put_back_since,
+};
+
+/// To the end, as its two normal forms.
+fn put_back(waiting: &mut Vec<Waiting>, taken: &Taken) {
+    let [left, right] = &taken.forms;
+    let (left, right) = rename(left, right);
+    waiting.push(Waiting {
+        left,
+        right,
+        origin: taken.origin.clone(),
+        put_back: true,
+    });
+}
+
+/// Some equation waits and every one waiting has been put back: the oldest.
+fn stuck(waiting: &[Waiting]) -> Option<&Waiting> {
+    let every_one = waiting.iter().all(|equation| equation.put_back);
+    waiting.first().filter(|_| every_one)
+}
+
+fn none_put_back_since(waiting: &mut [Waiting]) {
+    for equation in waiting {
+        equation.put_back = false;
+    }
+}
+
 struct Run {
     symbols: Symbols,
+    rounds: Rounds,
     inputs: Vec<(Bytes, Bytes)>,
     rules: Vec<Rule>,
-    waiting: Vec<(Bytes, Bytes, u8, usize)>,
+    waiting: Vec<Waiting>,
     log: Vec<Bytes>,
     budget: u32,
     units: u32,
-    made: usize,
+    made: u16,
 }
 
 /// The fields that complete should write, `None` where this cannot say.
 pub fn run(symbols: Symbols, budget: u32, equations: &[(Bytes, Bytes)]) -> Option<Fields> {
+    run_with(ROUNDS, symbols, budget, equations)
+}
+
+/// The same with other rounds.
+pub fn run_with(
+    rounds: Rounds,
+    symbols: Symbols,
+    budget: u32,
+    equations: &[(Bytes, Bytes)],
+) -> Option<Fields> {
     let inputs: Vec<_> = equations.iter().map(|(l, r)| rename(l, r)).collect();
-    let numbered = inputs.iter().enumerate();
-    let waiting = numbered
-        .map(|(i, (l, r))| (l.clone(), r.clone(), 1, i + 1))
-        .collect();
     let mut run = Run {
         symbols,
+        rounds,
+        waiting: (1..).zip(&inputs).map(input).collect(),
         inputs,
         rules: Vec::new(),
-        waiting,
         log: Vec::new(),
         budget,
         units: 0,
@@ -62,6 +133,15 @@ pub fn run(symbols: Symbols, budget: u32, equations: &[(Bytes, Bytes)]) -> Optio
     }
 }
 
+fn input((number, (left, right)): (usize, &(Bytes, Bytes))) -> Waiting {
+    Waiting {
+        left: left.clone(),
+        right: right.clone(),
+        origin: origin(1, number, 0, 0),
+        put_back: false,
+    }
+}
+
 impl Run {
     fn pay(&mut self) -> Result<(), Break> {
         if self.units >= self.budget {
@@ -84,40 +164,58 @@ impl Run {
 
     fn turn(&mut self) -> Result<(), Break> {
         self.pay()?;
-        let (left, right, mut entry) = self.take()?;
+        if let Some(shown) = (self.rounds.stuck)(&self.waiting) {
+            return Err(Break::Pair(shown.left.clone(), shown.right.clone()));
+        }
+        let taken = self.take()?;
         if self.log.len() == 512 {
             return Err(Break::End(24));
         }
-        let mut made = 0;
-        if left != right {
-            made = self.made + 1;
-            self.orient(left, right, made)?;
-            self.made = made;
-        }
-        entry.extend((made as u16).to_be_bytes());
-        self.log.push(entry);
+        let made = if taken.forms[0] == taken.forms[1] {
+            (self.rounds.after_settling)(&mut self.waiting);
+            0
+        } else if let Some(rule) = self.orient(&taken.forms)? {
+            self.add(rule)?;
+            (self.rounds.after_a_rule)(&mut self.waiting);
+            self.made += 1;
+            self.made
+        } else {
+            (self.rounds.put_back)(&mut self.waiting, &taken);
+            self.rounds.made
+        };
+        let made = made.to_be_bytes();
+        self.log.push([&taken.origin[..], &made].concat());
         Ok(())
     }
 
-    fn take(&mut self) -> Result<(Bytes, Bytes, Bytes), Break> {
+    fn forms(&mut self, before: [Bytes; 2], origin: Bytes) -> Result<Taken, Break> {
+        let [left, right] = before.clone();
+        let forms = [self.normalise(left)?, self.normalise(right)?];
+        Ok(Taken {
+            before,
+            forms,
+            origin,
+        })
+    }
+
+    fn take(&mut self) -> Result<Taken, Break> {
         if !self.waiting.is_empty() {
-            let (left, right, kind, number) = self.waiting.remove(0);
-            let (left, right) = (self.normalise(left)?, self.normalise(right)?);
-            return Ok((left, right, entry(kind, number, 0, 0)));
+            let oldest = self.waiting.remove(0);
+            return self.forms([oldest.left, oldest.right], oldest.origin);
         }
         for (inner, outer, p) in self.places() {
             let Some((left, right)) = self.critical_pair(&inner, &outer, p)? else {
                 continue;
             };
-            let (left, right) = (self.normalise(left)?, self.normalise(right)?);
-            if left != right {
-                return Ok((left, right, entry(4, inner.number, outer.number, p)));
+            let taken = self.forms([left, right], origin(4, inner.number, outer.number, p))?;
+            if taken.forms[0] != taken.forms[1] {
+                return Ok(taken);
             }
         }
         for (i, (left, right)) in self.inputs.clone().into_iter().enumerate() {
-            let (left, right) = (self.normalise(left)?, self.normalise(right)?);
-            if left != right {
-                return Ok((left, right, entry(3, i + 1, 0, 0)));
+            let taken = self.forms([left, right], origin(3, i + 1, 0, 0))?;
+            if taken.forms[0] != taken.forms[1] {
+                return Ok(taken);
             }
         }
         Err(Break::End(0))
@@ -171,32 +269,38 @@ impl Run {
         Ok(Some((left, right)))
     }
 
-    fn orient(&mut self, left: Bytes, right: Bytes, number: usize) -> Result<(), Break> {
-        let both = left.iter().chain(&right).filter(|b| **b >= 0x80);
+    /// The rule that the pair becomes, none if neither side is above.
+    fn orient(&self, [left, right]: &[Bytes; 2]) -> Result<Option<Rule>, Break> {
+        let both = left.iter().chain(right).filter(|b| **b >= 0x80);
         if both.collect::<BTreeSet<_>>().len() > 16 {
             return Err(Break::End(22));
         }
         let mut memo = HashMap::new();
-        let (left, right) = if self.symbols.above(&left, &right, &mut memo) {
-            rename(&left, &right)
-        } else if self.symbols.above(&right, &left, &mut memo) {
-            rename(&right, &left)
+        let (left, right) = if self.symbols.above(left, right, &mut memo) {
+            rename(left, right)
+        } else if self.symbols.above(right, left, &mut memo) {
+            rename(right, left)
         } else {
-            let (left, right) = rename(&left, &right);
-            return Err(Break::Pair(left, right));
+            return Ok(None);
         };
-        self.add(Rule {
+        let number = self.made as usize + 1;
+        Ok(Some(Rule {
             number,
             left,
             right,
-        })
+        }))
     }
 
     fn add(&mut self, new: Rule) -> Result<(), Break> {
         let mut kept = Vec::new();
         for old in std::mem::take(&mut self.rules) {
             if self.symbols.rewrites(&new, &old.left) {
-                self.waiting.push((old.left, old.right, 2, old.number));
+                self.waiting.push(Waiting {
+                    left: old.left,
+                    right: old.right,
+                    origin: origin(2, old.number, 0, 0),
+                    put_back: false,
+                });
             } else {
                 kept.push(old);
             }
@@ -214,7 +318,7 @@ impl Run {
     }
 }
 
-fn entry(kind: u8, first: usize, second: usize, position: usize) -> Bytes {
+fn origin(kind: u8, first: usize, second: usize, position: usize) -> Bytes {
     let mut out = vec![kind];
     out.extend((first as u16).to_be_bytes());
     out.extend((second as u16).to_be_bytes());

@@ -8,7 +8,10 @@ pub mod literal_run;
 
 use kb_engine::fields::split_fields;
 use kb_engine::notation::Theory;
+use kb_engine::problem::Problem;
 use kb_engine::{CompareAnswer, CompleteAnswer, Refusal, UnifyAnswer, MIN_RESULT};
+
+use literal::{Bytes, Symbols};
 
 const FILL: u8 = 0xa5;
 
@@ -53,6 +56,18 @@ fn add_field(fields: &mut Fields, tag: u8, contents: &[u8]) {
         0x14 => fields.pair = Some(contents.to_vec()),
         _ => panic!("unknown tag {tag:02x}"),
     }
+}
+
+/// Symbols and equations of a problem the engine's reader accepts.
+pub fn parts(problem: &Problem) -> (Symbols, Vec<(Bytes, Bytes)>) {
+    let table = &problem.bytes[3..3 + problem.bytes[2] as usize];
+    let symbols = table.chunks(2).map(|pair| (pair[0], pair[1])).collect();
+    let side = |range: &std::ops::Range<usize>| problem.bytes[range.clone()].to_vec();
+    let equations = problem
+        .equations
+        .iter()
+        .map(|e| (side(&e.left), side(&e.right)));
+    (Symbols(symbols), equations.collect())
 }
 
 /// The result bytes of complete, none if it refuses.

@@ -1,5 +1,5 @@
--- `placed`: the buffer holds left and right one after the other, and few names (`few-names`); renamed, cut again and put with the number into a slot
--- of zeros they are the rule (`in-slot`). Assumes nothing.
+-- `placed`: the buffer holds left and right one after the other, and few names (`few-names`); renamed, cut again and put with the mark into a slot
+-- of zeros they are the pair (`in-slot`). Assumes nothing.
 -- Read first: specs/Orients (Placed), proofs/Placing.
 use Rattle.orient.proofs.Placing.{few-names, in-slot}
 use borrow.Author.Needs.{needs}
@@ -17,24 +17,22 @@ rename-front-requires c κs =
     let entry = entry-of-paste at-paste in (
       search needs,
       search needs,
-      few-names (entry .args .left .now) (entry .args .right .now) _ _ _ (at-paste .paste .ensures) (at-paste2 .paste2 .ensures) (entry .pre .2),
+      few-names (entry .args .left .now) (entry .args .right .now) _ _ _ (at-paste .paste .ensures) (at-paste2 .paste2 .ensures) (entry .pre .0 .2),
     )
 
 returns : tie.Need-returns
 returns c =
-    let at-numbered : tie.After-numbered = search depth 0 in
     let at-put-sides : tie.After-put-sides = search depth 0 in
     let at-rename-front : tie.After-rename-front = search depth 0 in
     let at-paste2 = at-rename-front .before .before .before in
     let at-paste = at-paste2 .before .before .before in
     let entry = entry-of-paste at-paste in
     in-slot (entry .args .left .now) (entry .args .right .now) _ _ _ (at-paste .paste .ensures) (at-paste2 .paste2 .ensures) _
-    (at-rename-front .rename-front .ensures) _ _ _ _ (at-numbered .numbered .ensures) (at-put-sides .put-sides .ensures)
-    (c .before .put-mark .ensures)
+    (at-rename-front .rename-front .ensures) _ _ _ (at-put-sides .put-sides .ensures) (c .before .put-mark .ensures)
 
 pub placed-spec : {M : Type 1} → statement M
 placed-spec =
     tie.close (tie.spec
     (λ c. search needs) (λ c. search needs) (λ c κs. search needs) (λ c. search needs) (λ c κs. search needs) (λ c. search needs) rename-front-requires
     (λ c. search needs) (λ c. search needs) (λ c. search needs) (λ c. search needs) (λ c. search needs) (λ c. search needs) (λ c. search needs)
-    (λ c. search needs) (λ c κs. search needs) (λ c κs. search needs) (λ c. search needs) (λ c. search needs) (λ c κs. search needs) returns)
+    (λ c. search needs) (λ c κs. search needs) (λ c. search needs) (λ c κs. search needs) returns)

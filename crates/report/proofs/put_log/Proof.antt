@@ -1,9 +1,9 @@
 -- `put_log`: the invariant is that the fields of the entries from i on, put at a, give the whole list; count - i falls. Assumes nothing.
--- Read first: specs/Fields (logged-fields), fields/specs/Puts (PutsSome), proofs/RuleField (puts-entry), proofs/Listing (Listing).
+-- Read first: specs/Fields (logged-fields), fields/specs/Puts (PutsSome), proofs/PairField (puts-entry), proofs/Listing (Listing).
 use Prim.Native.Nat.{_-_}
 use Rattle.limits.specs.Limits.{entry-width}
 use Rattle.report.specs.Fields.{logged-fields}
-use Rattle.report.proofs.RuleField.{puts-entry}
+use Rattle.report.proofs.PairField.{puts-entry}
 use Rattle.report.proofs.Listing.{log-series, Listing, listing-start, listing-more, listing-end}
 use borrow.Author.Needs.{needs}
 use Rattle.report.proofs.put_log.Statement.{statement}

@@ -1,10 +1,8 @@
 -- `report`: the five parts fit the 13,726 bytes and stand one behind the other (`wrote-all`); they are the run's result (`reported`). Assumes
 -- nothing.
 -- Read first: specs/Report (Reports), proofs/Whole, proofs/Meaning.
-use mathlib.Core.Path.{_≡_}
-use lib.ListN.{length}
-use Rattle.slots.specs.Slots.{slot-width}
 use Rattle.slots.proofs.Layouts.{layout-less}
+use Rattle.state.specs.Run.{Fine}
 use Rattle.report.proofs.Whole.{wrote-all}
 use Rattle.report.proofs.Meaning.{reported}
 use borrow.Author.Needs.{needs}
@@ -33,37 +31,35 @@ rules-of-log at = search depth 0
 put-rules-requires : tie.Need-put-rules-requires
 put-rules-requires c κs =
     let entry = entry-of-second (search depth 0) in
-    let fine = entry .pre .1 .0 in
+    let fine = entry .pre .1 in
     (search needs, layout-less (fine .within) (fine .layout))
 
-pair-whole : (at : tie.Start) → length (at .args .t1 .pair) ≡ slot-width
-pair-whole at = search needs
+-- the last state is fine
+ran-fine : (at : tie.After-put-log) → Fine (entry-of-second (second-of-rules (rules-of-log at)) .args .t1 .state)
+ran-fine at = entry-of-second (second-of-rules (rules-of-log at)) .pre .1
 
-slice-aggregate-put-forms-if : tie.Need-slice-aggregate-put-forms-if
-slice-aggregate-put-forms-if c =
-    let at-log : tie.After-put-log = search depth 0 in
-    let n = pair-whole (entry-of-second (second-of-rules (rules-of-log at-log))) in
-    search needs
+put-oldest-requires : tie.Need-put-oldest-requires
+put-oldest-requires c κs = (search needs, ran-fine (search depth 0) .layout)
 
 returns : tie.Need-returns
 returns c =
-    let at-forms : tie.After-put-forms-if = search depth 0 in
+    let at-oldest : tie.After-put-oldest = search depth 0 in
     let at-log : tie.After-put-log = search depth 0 in
     let at-rules = rules-of-log at-log in
     let at-second = second-of-rules at-rules in
     let at-first = first-of-second at-second in
     let at-number = number-of-first at-first in
     let entry = entry-of-number at-number in
-    let fine = entry .pre .1 .0 in
+    let fine = entry .pre .1 in
     record {
       writes = λ tab f is.
           reported tab f (entry .args .t1) is _ _ _ _ (at-number .number .ensures)
           (wrote-all _ _ _ _ _ _ _ _ _ _ _ _ _ _ _ _ _ _ (entry .pre .0) (fine .live-few) (fine .log-few) (at-first .put-number-field .ensures)
-          (at-second .put-number-field2 .ensures) (at-rules .put-rules .ensures) (at-log .put-log .ensures) (at-forms .put-forms-if .ensures));
+          (at-second .put-number-field2 .ensures) (at-rules .put-rules .ensures) (at-log .put-log .ensures) (at-oldest .put-oldest .ensures));
     }
 
 pub report-spec : {M : Type 1} → statement M
 report-spec =
     tie.close (tie.spec
     (λ c κs. search needs) (λ c. search needs) (λ c κs. search needs) (λ c κs. search needs) put-rules-requires
-    (λ c κs. search needs) slice-aggregate-put-forms-if (λ c κs. search needs) (λ c. search needs) returns)
+    (λ c κs. search needs) put-oldest-requires (λ c. search needs) returns)

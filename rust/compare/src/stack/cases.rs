@@ -341,7 +341,7 @@ fn completions() -> Vec<Case> {
         deep("complete, no orientation", |n| {
             let sides = [&*chain("i", n, "x"), &*chain("j", n, "y")];
             let pair = 3 + 2 * n;
-            (Input::Complete(problem(&[sides])), written(&[pair]))
+            (Input::Complete(problem(&[sides])), written(&[ENTRY, pair]))
         }),
         deep("complete, a rule of two chains", |n| {
             let sides = [&*alone(n), &*chain("j", n, "x")];

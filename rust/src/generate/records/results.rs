@@ -6,7 +6,7 @@ use crate::fields::push_field;
 use crate::generate::random::Random;
 use crate::generate::terms::{term_end, Symbols};
 use crate::generate::theory::{self, symbols_of};
-use crate::generate::{damage, limits, ranks, terms, words};
+use crate::generate::{damage, limits, ranks, terms, waiting, words};
 use crate::kept::Kept;
 use crate::problem::Problem;
 use crate::questions::Question;
@@ -15,7 +15,7 @@ use crate::run::END_COMPLETE;
 type Maker = fn(&mut Random) -> Vec<u8>;
 
 /// Makers of problems that are mostly well-formed; some stand twice.
-const QUICK: [Maker; 12] = [
+const QUICK: [Maker; 15] = [
     theory::random,
     theory::random,
     theory::orientable,
@@ -28,6 +28,9 @@ const QUICK: [Maker; 12] = [
     terms::related_sides,
     limits::size,
     limits::variables,
+    waiting::rounds,
+    waiting::simplified,
+    waiting::removed,
 ];
 /// The same, with long runs or seldom complete.
 const SLOW: [Maker; 3] = [theory::rich, words::random, limits::room];

@@ -15,19 +15,19 @@ use Rattle.state.proofs.State.log.Tie as tie
 long : (at : tie.Start) → length (at .args .t1 .log .bytes) ≡ logged-width * most-entries
 long at = search needs
 
-add-entry-requires : tie.Need-add-entry-requires
-add-entry-requires c κs =
+enter-requires : tie.Need-enter-requires
+enter-requires c κs =
     let entry : tie.Start = search depth 0 in
     let l = long entry in
     let n = entry .pre .2 in
-    (n, omega arith)
+    (n, omega arith, entry .pre .3)
 
 returns : tie.Need-returns
 returns c =
-    let at-add-entry : tie.After-add-entry = search depth 0 in
+    let at-enter : tie.After-enter = search depth 0 in
     let entry : tie.Start = search depth 0 in
     let l = long entry in
-    log-done _ _ _ _ (entry .pre .0) (entry .pre .1) (entry .pre .2) (omega arith) _ (at-add-entry .add-entry .ensures)
+    log-done _ _ _ _ (entry .pre .0) (entry .pre .1) (entry .pre .2) (omega arith) _ _ (at-enter .enter .ensures)
 
 pub log-spec : {M : Type 1} → statement M
-log-spec = tie.close (tie.spec add-entry-requires (λ c. search needs) returns)
+log-spec = tie.close (tie.spec enter-requires returns)

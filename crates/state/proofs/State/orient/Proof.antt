@@ -1,12 +1,14 @@
--- `State::orient`: the new rule's slot is inserted behind the live ones, or the turn ends, by `orient-done` and `orient-ends`. Assumes nothing.
+-- `State::orient`: the new rule's slot is inserted behind the live ones, by `orient-done`, or there is none, by `orient-none`. Assumes nothing.
 -- Read first: specs/Steps (Orients), orient/specs/Orients (RuleOf), proofs/Changing.
 use mathlib.Core.Path.{_≡_}
+use mathlib.Core.List.{[], _∷_}
 use Prim.Native.Nat.{_+_, _*_, _≤_}
 use native.Mathlib.Omega.{arith}
 use lib.ListN.{length}
+use types.Run.{OneOf, miss}
 use Rattle.limits.specs.Limits.{most-pairs}
 use Rattle.slots.specs.Slots.{slot-width}
-use Rattle.state.proofs.Changing.{orient-ends, orient-done}
+use Rattle.state.proofs.Changing.{orient-none, orient-done}
 use borrow.Author.Needs.{needs}
 use Rattle.state.proofs.State.orient.Statement.{statement}
 use Rattle.state.proofs.State.orient.Tie as tie
@@ -22,10 +24,14 @@ one-more at =
     let n = at .pre .1 in
     omega arith
 
+-- the other ways
+not-rule : OneOf (1 ∷ 2 ∷ []) 0 → ⊥
+not-rule = miss (1 ∷ 2 ∷ []) 0 tt
+
 returns : tie.Need-returns
 returns c =
     let at-rule-of : tie.After-rule-of = search depth 0 in
-    orient-ends _ _ _ _ _ (at-rule-of .rule-of .ensures) _ (c .enum-told2 .given .1)
+    orient-none _ _ _ _ _ (at-rule-of .rule-of .ensures) (λ z. not-rule (rw z at (c .match .keys2)))
 
 add-pair-requires : tie.Need-add-pair-requires
 add-pair-requires c κs =
@@ -47,5 +53,5 @@ returns-2 c =
 pub orient-spec : {M : Type 1} → statement M
 orient-spec =
     tie.close (tie.spec
-    (λ c. search needs) (λ c. search needs) (λ c κs. search needs) (λ c. search needs) (λ c. search needs) returns
+    (λ c. search needs) (λ c. search needs) (λ c κs. search needs) (λ c. search needs) returns
     (λ c. search needs) add-pair-requires (λ c. search needs) (λ c. search needs) returns-2)
