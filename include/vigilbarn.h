@@ -7,7 +7,7 @@
  *
  * An answer is one number. But for vb_subterm and vb_lower it has a kind in the bits from 48 up, the number of a refusal or an end (docs/FORMAT.md) in
  * bits 32 to 47, and a value in bits 0 to 31. No part is ever cut off: numbers are at most 22, a refusal's place at most 8,192 (of vb_decide 16,384),
- * counts at most 13,715 (proved: crates/capi/proofs/Unpacked, Refusals and RecordRefusals).
+ * counts at most 13,726 (proved: crates/capi/proofs/Unpacked, Refusals and RecordRefusals).
  */
 #ifndef VIGILBARN_H
 #define VIGILBARN_H
@@ -28,7 +28,8 @@ static inline uint32_t vb_value(uint64_t answer) { return (uint32_t)answer; }
  * kind 0: refused; number 1 to 11 but not 7, value the place. The result is left as it was.
  * kind 1: written; value the count of result bytes, the others are left as they were.
  * A result buffer under 16,384 bytes is refused with number 1 at place 0. Where field 10 of the result holds 0, the rules in its fields 12 settle
- * the equations: rewriting by them ends, last terms are unique, and two terms have the same one exactly when the equations lead from one to the other. */
+ * the equations: rewriting by them ends, last terms are unique, and two terms have the same one exactly when the equations lead from one to the other.
+ * Where it holds 20, equations wait, field 14 has the oldest of them, and neither side of any is above the other. */
 uint64_t vb_complete(const uint8_t *problem, size_t problem_bytes, uint8_t *result, size_t result_bytes);
 
 /* Which side of the problem's one equation is above the other in the path order.
