@@ -8,6 +8,7 @@ use mathlib.Core.List.{List, [], _++_, append-nil, Memᴰ·append-left, Memᴰ·
 use Prim.Native.Nat.{ℕ, _<_, _≤_}
 use native.Mathlib.Omega.{arith}
 use lib.ListN.{length, replicate}
+use Rattle.limits.specs.Limits.{most-apart}
 use Rattle.terms.specs.Base.{if_then_else_}
 use Rattle.terms.specs.Term.{Term, Pair, term-bytes, pair-variables}
 use Rattle.terms.specs.Flat.{Wf, Starts}
@@ -24,7 +25,7 @@ use Rattle.slots.proofs.Layouts.{layout-zeros, sides-read}
 use Rattle.orient.specs.Seen.{Counted}
 use Rattle.orient.specs.declared.Above.the-variants.{Left, Right, Neither, TooMany}
 use Rattle.orient.specs.declared.Way.the-variants.{Rule, Neither as NoneAbove, TooLarge}
-use Rattle.orient.specs.Orients.{turned, LowBytes, IsUpper, Placed, RuleOf, Renames}
+use Rattle.orient.specs.Orients.{Few, turned, LowBytes, IsUpper, Placed, Becomes, RuleOf, Renames}
 
 starts : (tab left : List ℕ) (t : Term) → Wf 32 tab t → left ≡ term-bytes t → Starts tab left t
 starts tab left t w e = record { wf = w; rest = []; bytes = e ∙ sym (append-nil (term-bytes t)) }
@@ -78,32 +79,28 @@ turned-low {tab} {left} {right} u b i =
     u .low b (⊎-elim (λ j. Memᴰ·append-right left j) (λ j. Memᴰ·append-left right j) (List·Memᴰ·append-cases right i))
 
 module _ (tab pair left right : List ℕ) (number : ℕ) (l : left ≡ left-of (slot pair 0)) (r : right ≡ right-of (slot pair 0)) where
+  -- a rule, of two terms that were placed with its number
   module _ (mark one : List ℕ) (m : mark ≡ numbered-bytes 2 number) where
-    rule-mark : mark ≡ origin-bytes (removed-rule number)
-    rule-mark = m ∙ unfold origin-bytes in refl
+    placed-rule : {x y : List ℕ} → Placed x y mark one →
+        ((P : Problem) → rank-of (P .symbols) ≡ rank tab → (e : Pair) → Sides most-apart tab left right e → Few e × Becomes tab one P e) →
+        RuleOf tab pair number (record { rule = one; way = Rule })
+    placed-rule p answer = record {
+      layout = p .layout;
+      marked = λ _. p .marked ∙ m ∙ unfold origin-bytes in refl;
+      low = λ z. absurd (zero≢one (cc));
+      answer = λ P q e h. answer P q e (sides-read l r h);
+    }
 
     pub rule-left : IsUpper tab left right Left → Placed left right mark one → RuleOf tab pair number (record { rule = one; way = Rule })
-    rule-left u p = record {
-      layout = p .layout;
-      marked = λ _. p .marked ∙ rule-mark;
-      low = λ z. absurd (zero≢one (cc));
-      answer = λ P q e h.
-          let s = sides-read l r h in
-          let a = u .answer P q e s in
-          (a .0, record { sides = _; oriented = a .1; stands = p .pair tab e s (a .0) });
-    }
+    rule-left u p = placed-rule p λ P q e s.
+        let a = u .answer P q e s in
+        (a .0, record { sides = _; oriented = a .1; stands = p .pair tab e s (a .0) })
 
     pub rule-right : IsUpper tab left right Right → Placed right left mark one → RuleOf tab pair number (record { rule = one; way = Rule })
-    rule-right u p = record {
-      layout = p .layout;
-      marked = λ _. p .marked ∙ rule-mark;
-      low = λ z. absurd (zero≢one (cc));
-      answer = λ P q e h.
-          let s = sides-read l r h in
-          let a = u .answer P q e s in
-          let few = a .0 in
-          (few, record { sides = _; oriented = a .1; stands = p .pair tab (turned e) (turned-sides s) (omega (arith, swapped-variables e)) });
-    }
+    rule-right u p = placed-rule p λ P q e s.
+        let a = u .answer P q e s in
+        let few = a .0 in
+        (few, record { sides = _; oriented = a .1; stands = p .pair tab (turned e) (turned-sides s) (omega (arith, swapped-variables e)) })
 
   pub rule-neither : IsUpper tab left right Neither → RuleOf tab pair number (record { rule = replicate slot-width 0; way = NoneAbove })
   rule-neither u = record {

@@ -1,4 +1,4 @@
--- What the writer of the result promises: for every run that the last state, the end, the units and the forms stand for, the result's bytes. Assumes nothing.
+-- What the writer of the result promises: for every run that the last state, the end and the units stand for, the result's bytes. Assumes nothing.
 use mathlib.Core.List.{List}
 use Prim.Native.Nat.{ℕ}
 use Rattle.completion.specs.Turn.{Finished}

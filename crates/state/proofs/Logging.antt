@@ -1,4 +1,4 @@
--- One entry more: the eight bytes behind the log's are those of the entry. Assumes nothing.
+-- One entry more: the eight bytes behind the log's are those of the entry. `settle`. Assumes nothing.
 -- Read first: specs/Run (Logged), specs/Steps (Logs), fields/proofs/Patching.
 use mathlib.Core.Path.{_≡_, refl, sym, ap, ap₂, _∙_}
 use mathlib.Core.List.{List, [], _∷_, _++_}
@@ -18,7 +18,7 @@ use Rattle.completion.specs.Calls.{origin-bytes}
 use Rattle.completion.proofs.Widths.{origin-bytes-length}
 use Rattle.state.specs.declared.Log.{Log}
 use Rattle.state.specs.declared.State.{State}
-use Rattle.state.specs.Run.{logged-width, logged, Logged, FineBut}
+use Rattle.state.specs.Run.{logged-width, logged, Logged, FineBut, Fine}
 use Rattle.state.specs.Steps.{Enters, Logs}
 
 -- `enter`
@@ -58,7 +58,7 @@ module _ (log : Log) (pair : List ℕ) (n : ℕ) (room : log .count < most-entri
         counted = more ∙ ap (λ z. z + 1) (r .counted) ∙ sym (length-append es (new ∷ []));
       }
 
--- `log`
+-- none was put back since
 module _ (st : State) (pair : List ℕ) (n units : ℕ) (fine : FineBut 1 st) (few : st .live ≤ most-rules) (room : st .log .count < most-entries)
     (long : logged-width * most-entries ≤ length (st .log .bytes)) (bytes : List ℕ) (count : ℕ)
     (e : Enters (st .log .count) n pair (st .log .bytes) bytes count) where
@@ -95,3 +95,18 @@ module _ (st : State) (pair : List ℕ) (n units : ℕ) (fine : FineBut 1 st) (f
           back = refl;
         };
       }
+
+-- `settle`
+pub fine-but-one : {st : State} → Fine st → FineBut 1 st
+fine-but-one F =
+    let a = F .live-few in
+    let b = F .made-few in
+    record {
+      layout = F .layout;
+      within = F .within;
+      together = F .together;
+      live-few = omega arith;
+      log-few = F .log-few;
+      made-few = omega arith;
+      back-few = F .back-few;
+    }

@@ -20,7 +20,9 @@ pub const ENTRY: usize = limits::ORIGIN + 2;
 // Bytes of the log: 4,096.
 pub const LOG: usize = limits::ENTRIES * ENTRY;
 
-// "its entry has ffff (hexadecimal) as the rule made"
+// An entry's rule made: "0 if settled"; of what was put back "ffff (hexadecimal)".
+const SETTLED: u16 = 0;
+
 const PUT_BACK: u16 = 0xffff;
 
 // The entries, oldest first.
@@ -155,14 +157,13 @@ impl State {
         self
     }
 
-    // One entry more in the log, the pair's origin and the number of the rule that it made, or 0 of one that was settled. So many units are left, and
-    // none was put back since.
-    pub fn log(mut self, pair: &[u8], made: u16, units: u32) -> State
-        requires { ⌜ FineBut 1 self × (self .live ≤ most-rules) × (self .log .count < most-entries) × Layout (now pair) 1 ⌝ }
-        ensures { λ r. ⌜ Logs self (mark-of (slot (now (pair .entry)) 0)) made units r ⌝ }
+    // Step 3 of a pair with equal forms: an entry says so. So many units are left, and none was put back since.
+    pub fn settle(mut self, pair: &[u8], units: u32) -> State
+        requires { ⌜ Fine self × (self .log .count < most-entries) × Layout (now pair) 1 ⌝ }
+        ensures { λ r. ⌜ Logs self (mark-of (slot (now (pair .entry)) 0)) 0 units r ⌝ }
     {
         let n = self.log.count;
-        let entries = enter(n, made, pair, &mut self.log.bytes);
+        let entries = enter(n, SETTLED, pair, &mut self.log.bytes);
         self.log.count = entries;
         self.back = 0;
         self.units = units;

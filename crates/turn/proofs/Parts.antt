@@ -1,5 +1,5 @@
 -- Step 3 and steps 4 to 7, from what the state's methods promise: what each call requires, and what each way through answers. Assumes nothing.
--- Read first: specs/Turns (TurnSafe, Makes), state/specs/Steps, proofs/Making, proofs/Steady.
+-- Read first: specs/Turns (TurnSafe, TurnedIs), state/specs/Steps, proofs/Making, proofs/Steady.
 use mathlib.Core.Path.{_≡_, refl, sym, ap, ap₂, _∙_, subst}
 use mathlib.Core.Logic.{_⊎_, inl, inr, ⊎-elim}
 use mathlib.Core.List.{List}
@@ -45,32 +45,13 @@ pub record Settles (st : State) (t : Taken) (o : Turned) : Type 0 where
   pub represents : (tab : List ℕ) (s : RunState) (from : Origin) → Represents tab st s → mark-of (slot (t .pair) 0) ≡ origin-bytes from →
       Represents tab (o .state) (with-entry (without-oldest s) from 0)
 
--- what `log` requires
-abbrev Loggable : List ℕ → State → Type 0
-Loggable pair st = FineBut 1 st × (st .live ≤ most-rules) × (st .log .count < most-entries) × Layout pair 1
-
 pub same-count : {l m : Log} → l ≡ m → l .count ≡ m .count
 same-count e = ap (λ (x : Log). x .count) e
 
--- step 3
-pub settle-logs : {st tk : State} {pair : List ℕ} → Takes st tk → st .log .count < most-entries → Layout pair 1 → Loggable pair tk
-settle-logs T few y =
-    let F = T .fine in
-    let a = F .live-few in
-    let b = F .made-few in (
-      record {
-        layout = F .layout;
-        within = F .within;
-        together = F .together;
-        live-few = omega arith;
-        log-few = F .log-few;
-        made-few = omega arith;
-        back-few = F .back-few;
-      },
-      omega arith,
-      omega (arith, same-count (T .same .log)),
-      y,
-    )
+-- step 3: what `settle` requires
+pub settle-needs : {st tk : State} {pair : List ℕ} → Takes st tk → st .log .count < most-entries → Layout pair 1 →
+    Fine tk × (tk .log .count < most-entries) × Layout pair 1
+settle-needs T few y = (T .fine, omega (arith, same-count (T .same .log)), y)
 
 pub settles : {st tk lg : State} {t : Taken} {o : Turned} → Takes st tk → Logs tk (mark-of (slot (t .pair) 0)) 0 (t .units) lg → o ≡ going-as lg →
     Settles st t o

@@ -127,7 +127,7 @@ pub fn turn(st: State, inputs: &[u8], count: usize, table: &[u8]) -> Turned
         return st.ended(end, t.units);
     }
     if let Due::Settle = due {
-        return going(st.take().log(&pair, 0, t.units));
+        return going(st.take().settle(&pair, t.units));
     }
     let rest = st.take();
     let o = rest.orient(&pair, table);

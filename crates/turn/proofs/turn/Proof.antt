@@ -22,7 +22,7 @@ use Rattle.state.proofs.Logging.{log-done}
 use Rattle.turn.specs.Turns.{Turns}
 use Rattle.turn.proofs.Due.{the-type}
 use Rattle.turn.proofs.Entries.{settle-room, make-room}
-use Rattle.turn.proofs.Parts.{settle-logs, settles, Makes, orient-room, makes-large, put-back-needs, makes-neither, collapse-room}
+use Rattle.turn.proofs.Parts.{settle-needs, settles, Makes, orient-room, makes-large, put-back-needs, makes-neither, collapse-room}
 use Rattle.turn.proofs.Parts.{compose-room, make-logs, makes-ends, all-done, makes-goes}
 use Rattle.turn.proofs.Steady.{with-slots}
 use Rattle.turn.proofs.Whole.{turn-spent, look-room, began-fine, turn-ends, turn-settled, turn-made}
@@ -113,22 +113,22 @@ returns-2 c =
 take-requires : tie.Need-take-requires
 take-requires c κs = begun-fine (look-of-due (search depth 0))
 
-slice-aggregate-log : tie.Need-slice-aggregate-log
-slice-aggregate-log c =
+slice-aggregate-settle : tie.Need-slice-aggregate-settle
+slice-aggregate-settle c =
     let n = pair-whole (look-of-due (due-of-take (search depth 0))) in
     search needs
 
-log-requires : tie.Need-log-requires
-log-requires c κs =
+settle-requires : tie.Need-settle-requires
+settle-requires c κs =
     let at-take : tie.After-take = search depth 0 in
     let at-told : tie.After-enum-told = search depth 0 in
     let at-due = due-of-take at-take in
-    settle-logs (at-take .take .ensures) (settle-room _ _ _ (at-due .due-after .ensures) (at-told .enum-told .given .1))
+    settle-needs (at-take .take .ensures) (settle-room _ _ _ (at-due .due-after .ensures) (at-told .enum-told .given .1))
     (look-of-due at-due .look .ensures .layout)
 
 returns-3 : tie.Need-returns-3
 returns-3 c =
-    let at-log : tie.After-log = search depth 0 in
+    let at-settle : tie.After-settle = search depth 0 in
     let at-take : tie.After-take = search depth 0 in
     let at-told : tie.After-enum-told = search depth 0 in
     let at-due = due-of-take at-take in
@@ -136,7 +136,7 @@ returns-3 c =
     let at-begin = begin-of-look at-look in
     turn-settled (entry-of-begin at-begin .pre .0) (else-of-begin at-begin .if1 .left) (at-begin .begin .ensures)
     (waits-of at-look .waiting-behind .ensures) (at-look .look .ensures)
-    (at-due .due-after .ensures) (at-told .enum-told .given .1) (settles (at-take .take .ensures) (at-log .log .ensures) (c .going .ensures))
+    (at-due .due-after .ensures) (at-told .enum-told .given .1) (settles (at-take .take .ensures) (at-settle .settle .ensures) (c .going .ensures))
 
 -- steps 4 to 7: a rule is due
 take-requires-2 : tie.Need-take-requires-2
@@ -294,7 +294,7 @@ turn-spec =
     tie.close (tie.spec
     (λ c κs. search needs) returns (λ c κs. search needs) waiting-behind-requires look-requires (λ c κs. search needs) (λ c. search needs)
     (λ c κs. search needs)
-    returns-2 (λ c. search needs) take-requires slice-aggregate-log log-requires (λ c κs. search needs) returns-3 take-requires-2
+    returns-2 (λ c. search needs) take-requires slice-aggregate-settle settle-requires (λ c κs. search needs) returns-3 take-requires-2
     slice-aggregate-orient orient-requires (λ c. search needs) (λ c κs. search needs) returns-4 (λ c. search needs) slice-aggregate-put-back
     put-back-requires (λ c κs. search needs) returns-5 collapse-requires compose-few-requires (λ c. search needs) (λ c κs. search needs) returns-6
     (λ c. search needs) (λ c. search needs) slice-aggregate-enter enter-requires (λ c κs. search needs) returns-7)

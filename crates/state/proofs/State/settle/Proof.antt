@@ -1,4 +1,4 @@
--- `State::log`: eight bytes behind the log's are one entry more, by `log-done`. Assumes nothing.
+-- `State::settle`: eight bytes behind the log's are one entry more, by `log-done`. Assumes nothing.
 -- Read first: specs/Steps (Logs), proofs/Logging.
 use mathlib.Core.Path.{_≡_}
 use Prim.Native.Nat.{_*_}
@@ -6,10 +6,10 @@ use native.Mathlib.Omega.{arith}
 use lib.ListN.{length}
 use Rattle.limits.specs.Limits.{most-entries}
 use Rattle.state.specs.Run.{logged-width}
-use Rattle.state.proofs.Logging.{log-done}
+use Rattle.state.proofs.Logging.{log-done, fine-but-one}
 use borrow.Author.Needs.{needs}
-use Rattle.state.proofs.State.log.Statement.{statement}
-use Rattle.state.proofs.State.log.Tie as tie
+use Rattle.state.proofs.State.settle.Statement.{statement}
+use Rattle.state.proofs.State.settle.Tie as tie
 
 -- the log's room
 long : (at : tie.Start) → length (at .args .t1 .log .bytes) ≡ logged-width * most-entries
@@ -19,15 +19,16 @@ enter-requires : tie.Need-enter-requires
 enter-requires c κs =
     let entry : tie.Start = search depth 0 in
     let l = long entry in
-    let n = entry .pre .2 in
-    (n, omega arith, entry .pre .3)
+    let n = entry .pre .1 in
+    (n, omega arith, entry .pre .2)
 
 returns : tie.Need-returns
 returns c =
     let at-enter : tie.After-enter = search depth 0 in
     let entry : tie.Start = search depth 0 in
     let l = long entry in
-    log-done _ _ _ _ (entry .pre .0) (entry .pre .1) (entry .pre .2) (omega arith) _ _ (at-enter .enter .ensures)
+    let few = entry .pre .0 .live-few in
+    log-done _ _ _ _ (fine-but-one (entry .pre .0)) (omega arith) (entry .pre .1) (omega arith) _ _ (at-enter .enter .ensures)
 
-pub log-spec : {M : Type 1} → statement M
-log-spec = tie.close (tie.spec enter-requires returns)
+pub settle-spec : {M : Type 1} → statement M
+settle-spec = tie.close (tie.spec enter-requires returns)
