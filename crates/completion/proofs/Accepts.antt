@@ -7,17 +7,17 @@ use mathlib.Core.List.{List, [], _∷_, _++_}
 use Prim.Native.Nat.{ℕ, zero, suc, _+_, _*_, _%_, _≤_}
 use native.Mathlib.Omega.{arith}
 use lib.Dec.{eqb, ltb}
-use lib.ListN.{length}
+use lib.ListN.{length, length-map}
 use borrow.Author.Tests.{ltb-false}
 use Rattle.terms.specs.Base.{number-from, Every, of-none, of-cons}
 use Rattle.terms.specs.Term.{Term, size, term-bytes, Pair}
-use Rattle.terms.proofs.Every.{every-head}
+use Rattle.terms.proofs.Every.{every-head, every-mapped, mapped-every}
 use Rattle.terms.proofs.Lists.{nothing}
 use Rattle.problem.specs.Problem.{ok, ReadField, Symbol, read-symbols, symbol-field, budget-field, ReadPart, read-side, read-pair, Equation, equation-field}
-use Rattle.problem.specs.Problem.{equation-fields, Problem, parse, only-equation}
+use Rattle.problem.specs.Problem.{equation-fields, Problem, theory, parse, only-equation}
 use Rattle.completion.specs.Calls.{Single, parse-single}
 use Rattle.problem.specs.Over.{Over}
-use Rattle.completion.proofs.Over.{OverPair, OverEquations}
+use Rattle.completion.proofs.Over.{OverPair}
 use Rattle.problem.proofs.Reading.{ReadsTo, reads, from-bind, no-ok, ok-injective, passed}
 use Rattle.completion.proofs.Limits.{HeldTo, HeldPair, Accepted}
 
@@ -106,7 +106,7 @@ module _ (Σ : List Symbol) where
   record EquationsFit (more : ℕ) (es : List Equation) : Type 0 where
     few : length es ≤ more
     fit : Every (λ (e : Equation). HeldPair n 16 (e .sides)) es
-    over : OverEquations Σ es
+    over : Every (λ (e : Equation). OverPair Σ (e .sides)) es
 
   none-fit : (more : ℕ) (es : List Equation) → [] ≡ es → EquationsFit more es
   none-fit more es q = rw (← q) (record { few = omega arith; fit = of-none; over = of-none })
@@ -124,10 +124,10 @@ module _ (Σ : List Symbol) where
       let k : EquationsFit more ds = equations-fit more (f .end) (f .rest) ds c in
       rw (← q) (record { few = omega (arith, k .few); fit = of-cons (equation-fits f d a .0) (k .fit); over = of-cons (equation-fits f d a .1) (k .over) })
 
--- A problem that is accepted keeps to the limits.
-pub accepts : (bytes : List ℕ) (P : Problem) → parse bytes ≡ ok P → Accepted P
+-- A problem that is accepted keeps to the limits: its theory and its budget.
+read-fits : (bytes : List ℕ) (P : Problem) → parse bytes ≡ ok P → Accepted (theory P) × (P .budget ≤ 1_000_000)
 unfolding parse
-accepts bytes P e =
+read-fits bytes P e =
     from-bind _ _ P e λ _ _ e.
     from-bind _ _ P e λ s _ e.
     from-bind _ _ P e λ Σ a e.
@@ -136,14 +136,21 @@ accepts bytes P e =
     from-bind _ _ P e λ es d e.
     let q : record { symbols = Σ; budget = budget; equations = es } ≡ P = ok-injective e in
     let k : EquationsFit Σ 16 es = equations-fit Σ 16 (b .end) (b .rest) es d in
-    rw (← q)
-    (record {
-      symbols-few = symbols-few s Σ a;
-      budget-few = budget-few b budget c;
-      equations-few = k .few;
-      equations-fit = k .fit;
-      equations-over = k .over;
-    })
+    rw (← q) (
+      record {
+        symbols-few = symbols-few s Σ a;
+        equations-few = omega (arith, k .few, length-map es (λ (e : Equation). e .sides));
+        equations-fit = every-mapped (λ (e : Equation). e .sides) (k .fit);
+        equations-over = every-mapped (λ (e : Equation). e .sides) (k .over);
+      },
+      budget-few b budget c,
+    )
+
+pub accepts : (bytes : List ℕ) (P : Problem) → parse bytes ≡ ok P → Accepted (theory P)
+accepts bytes P e = read-fits bytes P e .0
+
+pub budget-accepted : (bytes : List ℕ) (P : Problem) → parse bytes ≡ ok P → P .budget ≤ 1_000_000
+budget-accepted bytes P e = read-fits bytes P e .1
 
 -- So does the equation of a problem that has exactly one.
 pub only-fits : (Q : Equation → Type 0) (end : ℕ) (es : List Equation) (e : Equation) → Every Q es → only-equation end es ≡ ok e → Q e
@@ -165,11 +172,11 @@ single-fits bytes S q =
     from-bind _ _ S q λ P a q.
     from-bind _ _ S q λ e b q.
     let r : record { symbols = P .symbols; budget = P .budget; equation = e } ≡ S = cc in
-    let k : Accepted P = accepts bytes P a in
+    let k : Accepted (theory P) = accepts bytes P a in
     rw (← r)
     (record {
       symbols-few = k .symbols-few;
-      budget-few = k .budget-few;
-      fits = only-fits _ (length bytes) (P .equations) e (k .equations-fit) b;
-      over = only-fits _ (length bytes) (P .equations) e (k .equations-over) b;
+      budget-few = budget-accepted bytes P a;
+      fits = only-fits _ (length bytes) (P .equations) e (mapped-every (λ (e : Equation). e .sides) (P .equations) (k .equations-fit)) b;
+      over = only-fits _ (length bytes) (P .equations) e (mapped-every (λ (e : Equation). e .sides) (P .equations) (k .equations-over)) b;
     })

@@ -1,4 +1,4 @@
--- The limits that fixed arrays rely on, for every problem that is accepted: in one place. Assumes nothing.
+-- The limits that fixed arrays rely on, for every theory that is accepted: in one place. Assumes nothing.
 -- Read first: proofs/Kept, proofs/Result.
 use mathlib.Core.Path.{_≡_, refl, subst}
 use mathlib.Core.List.{List, [], _++_, List·Memᴰ}
@@ -18,52 +18,49 @@ use Rattle.rewriting.specs.Overlap.{Rule, Overlap, overlap, Place, all-places}
 use Rattle.rewriting.specs.Rewrite.{End, complete, neither-above, spent, too-large, rules-full, log-full, done, end-number}
 use Rattle.rewriting.proofs.Limits.{OverlapMade, MaybeOverlap, overlap-made}
 use Rattle.rewriting.proofs.Holds.{Holds}
-use Rattle.problem.specs.Problem.{ok, Problem, parse}
-use Rattle.completion.specs.Turn.{Candidate, Entry, State, Taken, take-pair, kept, removed, run}
+use Rattle.problem.specs.Problem.{ok, Theory, theory}
+use Rattle.completion.specs.Turn.{Candidate, Entry, State, Taken, take-pair, kept, removed, Finished, run}
 use Rattle.completion.specs.Calls.{result-bytes, enough, complete-call}
 use Rattle.problem.proofs.Reading.{from-bind, passed}
-use Rattle.completion.proofs.Limits.{CandidateFits, RuleFits, EntryFits, Limits}
+use Rattle.completion.proofs.Limits.{CandidateFits, RuleFits, EntryFits, Limits, Accepted}
 use Rattle.completion.proofs.Kept.{PlaceFits, all-places-fit, kept-removed, TakenFits, reachable-limits}
 use Rattle.completion.proofs.Kept
 use Rattle.completion.proofs.Ends.{Takes, Because}
 use Rattle.completion.proofs.Traced.{takes}
 use Rattle.completion.proofs.Reachable.{Reachable}
-use Rattle.completion.proofs.Stopped.{run-units}
-use Rattle.completion.proofs.Accepts.{accepts}
+use Rattle.completion.proofs.Stopped.{Stopped, run-stops, units-within}
+use Rattle.completion.proofs.Accepts.{accepts, budget-accepted}
 use Rattle.completion.proofs.Result.{result-length, result-is-bytes}
 
-module _ (bytes : List ℕ) (P : Problem) (read : parse bytes ≡ ok P) where
+module _ (T : Theory) (accepted : Accepted T) where
   abbrev symbols : ℕ
-  symbols = length (P .symbols)
-
-  pub symbols-few : symbols ≤ 16
-  symbols-few = accepts bytes P read .symbols-few
+  symbols = length (T .symbols)
 
   -- 1. Every state of a run.
-  pub state-limits : {s : State} {left : ℕ} → Reachable P s left → Limits symbols s
-  state-limits r = reachable-limits P (accepts bytes P read) r
+  pub state-limits : {s : State} → Reachable T s → Limits symbols s
+  state-limits r = reachable-limits T accepted r
 
-  pub made-few : {s : State} {left : ℕ} → Reachable P s left → s .made ≤ 512
+  pub made-few : {s : State} → Reachable T s → s .made ≤ 512
   made-few {s} r =
       let l : Limits symbols s = state-limits r in
       let a : s .made ≤ length (s .log) = l .made-few in
       let b : length (s .log) ≤ 512 = l .log-few in
       omega arith
 
-  pub rule-fits : {s : State} {left : ℕ} → Reachable P s left → (r : Rule) → List·Memᴰ r (s .rules) → RuleFits symbols (s .made) r
+  pub rule-fits : {s : State} → Reachable T s → (r : Rule) → List·Memᴰ r (s .rules) → RuleFits symbols (s .made) r
   rule-fits {s} r rule i = every-in (state-limits r .rules-fit) i
 
-  pub waiting-fits : {s : State} {left : ℕ} → Reachable P s left → (c : Candidate) → List·Memᴰ c (s .waiting) → CandidateFits symbols 16 (s .made) c
+  pub waiting-fits : {s : State} → Reachable T s → (c : Candidate) → List·Memᴰ c (s .waiting) → CandidateFits symbols 16 (s .made) c
   waiting-fits {s} r c i = every-in (state-limits r .waiting-fit) i
 
-  pub entry-fits : {s : State} {left : ℕ} → Reachable P s left → (e : Entry) → List·Memᴰ e (s .log) → EntryFits (s .made) e
+  pub entry-fits : {s : State} → Reachable T s → (e : Entry) → List·Memᴰ e (s .log) → EntryFits (s .made) e
   entry-fits {s} r e i = every-in (state-limits r .log-fits) i
 
   -- 2. Overlaps, before they are held to 120 nodes: variables below 32.
-  pub place-fits : {s : State} {left : ℕ} → Reachable P s left → (at : Place) → List·Memᴰ at (all-places [] (s .rules)) → PlaceFits symbols (s .made) at
+  pub place-fits : {s : State} → Reachable T s → (at : Place) → List·Memᴰ at (all-places [] (s .rules)) → PlaceFits symbols (s .made) at
   place-fits {s} r at i = every-in (all-places-fit (s .rules) (state-limits r .rules-fit)) i
 
-  pub overlap-fits : {s : State} {left : ℕ} → Reachable P s left → (at : Place) → List·Memᴰ at (all-places [] (s .rules)) →
+  pub overlap-fits : {s : State} → Reachable T s → (at : Place) → List·Memᴰ at (all-places [] (s .rules)) →
       (o : Overlap) → overlap (at .inner .sides) (at .outer .sides) (at .position) ≡ some o → OverlapMade (λ f. f < symbols) o
   overlap-fits r at i o e =
       let f : PlaceFits symbols _ at = place-fits r at i in
@@ -77,13 +74,13 @@ module _ (bytes : List ℕ) (P : Problem) (read : parse bytes ≡ ok P) where
       variables-few 32 (o .sides) (made-vars _ (λ x. x < 32) (o .sides .left) (h .left-made)) (made-vars _ (λ x. x < 32) (o .sides .right) (h .right-made))
 
   -- what a turn takes: at most 120 nodes a side, variables below 32, and at most 32 equations wait
-  pub taken-fits : {s : State} {left : ℕ} (r : Reachable P s left) (now rest : ℕ) (t : Taken) → take-pair P (s .rules) (s .waiting) now ≡ done t rest →
-      TakenFits P (accepts bytes P read) s (state-limits r) t
+  pub taken-fits : {s : State} (r : Reachable T s) (now rest : ℕ) (t : Taken) → take-pair T (s .rules) (s .waiting) now ≡ done t rest →
+      TakenFits T accepted s (state-limits r) t
   taken-fits {s} r now rest t e =
-      Kept.taken-fits P (accepts bytes P read) s (state-limits r) t (subst (Holds (Takes P s) (Because P s)) e (takes P s .out now))
+      Kept.taken-fits T accepted s (state-limits r) t (subst (Holds (Takes T s) (Because T s)) e (takes T s .out now))
 
   -- whatever the new rule: what waits and what it removes together are at most 32, before the live rules are counted too
-  pub joined-few : {s : State} {left : ℕ} (r : Reachable P s left) (t : Taken) → TakenFits P (accepts bytes P read) s (state-limits r) t → (new : Rule) →
+  pub joined-few : {s : State} (r : Reachable T s) (t : Taken) → TakenFits T accepted s (state-limits r) t → (new : Rule) →
       length (t .waiting ++ removed new (s .rules)) ≤ 32
   joined-few {s} r t f new =
       let a : length (t .waiting ++ removed new (s .rules)) ≡ length (t .waiting) + length (removed new (s .rules)) =
@@ -92,24 +89,24 @@ module _ (bytes : List ℕ) (P : Problem) (read : parse bytes ≡ ok P) where
       let c : length (s .rules) + suc (length (t .waiting)) ≤ 33 = f .room in
       omega arith
 
-  -- 3. The units.
-  pub units-few : run P .units ≤ 1_000_000
-  units-few = let a : run P .units ≤ P .budget = run-units P in let b : P .budget ≤ 1_000_000 = accepts bytes P read .budget-few in omega arith
-
-  -- so they fit the result's four bytes, and rule numbers fit two
-  pub units-back : number-from 0 (number-bytes 4 (run P .units)) ≡ run P .units
-  units-back = number-back 4 (run P .units) (let a = units-few in omega arith)
-
-  pub number-fits-two : {s : State} {left : ℕ} → Reachable P s left → (r : Rule) → List·Memᴰ r (s .rules) →
+  -- 3. Rule numbers fit two bytes.
+  pub number-fits-two : {s : State} → Reachable T s → (r : Rule) → List·Memᴰ r (s .rules) →
       number-from 0 (number-bytes 2 (r .number)) ≡ r .number
   number-fits-two r rule i = number-back 2 (rule .number) (let a : rule .number ≤ _ = rule-fits r rule i .last in let b = made-few r in omega arith)
 
-  -- 4. The result: at most 13,726 bytes.
-  pub result-few : length (result-bytes (run P)) ≤ most-result
-  result-few = result-length P (accepts bytes P read)
+  -- 4. What turns leave: the units are within their budget and fit four bytes, and the result has at most 13,726 bytes.
+  module _ (budget : ℕ) (few : budget ≤ 1_000_000) (f : Finished) (h : Stopped T budget f) where
+    pub units-few : f .units ≤ 1_000_000
+    units-few = omega (arith, units-within h)
 
-  pub result-bytes-fit : Bytes (result-bytes (run P))
-  result-bytes-fit = result-is-bytes P (accepts bytes P read)
+    pub units-back : number-from 0 (number-bytes 4 (f .units)) ≡ f .units
+    units-back = number-back 4 (f .units) (let a = units-few in omega arith)
+
+    pub result-few : length (result-bytes f) ≤ most-result
+    result-few = result-length symbols (accepted .symbols-few) f (state-limits (h .reachable))
+
+    pub result-bytes-fit : Bytes (result-bytes f)
+    result-bytes-fit = result-is-bytes symbols (accepted .symbols-few) f (state-limits (h .reachable))
 
 -- What complete writes, if it does not refuse: bytes, and fewer than its buffer holds.
 pub record WritesWithin (buffer : ℕ) (r : List ℕ) : Type 0 where
@@ -127,9 +124,11 @@ complete-writes bytes buffer r e =
     from-bind _ _ r e λ u a e.
     from-bind _ _ r e λ P b e.
     let q : result-bytes (run P) ≡ r = cc in
-    let l : length (result-bytes (run P)) ≤ most-result = result-few bytes P b in
+    let ok = accepts bytes P b in
+    let few = budget-accepted bytes P b in
+    let l : length (result-bytes (run P)) ≤ most-result = result-few (theory P) ok (P .budget) few (run P) (run-stops P) in
     let k = buffer-enough buffer u a in
-    rw (← q) (record { are-bytes = result-bytes-fit bytes P b; few = l; room = omega arith })
+    rw (← q) (record { are-bytes = result-bytes-fit (theory P) ok (P .budget) few (run P) (run-stops P); few = l; room = omega arith })
 
 -- 5. "0, complete" and the ends 20 to 24, and no other.
 pub data Listed : ℕ → Type 0 where

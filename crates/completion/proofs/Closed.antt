@@ -16,7 +16,7 @@ use Rattle.order.specs.Order.{above}
 use Rattle.rewriting.specs.Overlap.{Rule, Overlap, overlap}
 use Rattle.rewriting.proofs.Covers.{BothHold, all-places-hold}
 use Rattle.rewriting.proofs.Holds.{Reached}
-use Rattle.problem.specs.Problem.{rank-of, Equation, Problem}
+use Rattle.problem.specs.Problem.{rank-of, Theory}
 use Rattle.completion.specs.Turn.{Origin, removed-rule, Candidate, scanned-input, waiting-input, State, Taken, candidates, initial, rewrites}
 use Rattle.completion.specs.Turn.{kept, removed, waits-again, settled}
 use Rattle.completion.proofs.Ends.{Small, Source, of-waiting, of-overlap, of-input, Takes, Oriented, as-taken, other-way, Rights, none-yet}
@@ -40,27 +40,27 @@ module _ {W : Candidate → Type 0} where
       either-has (Every W) (rewrites new old) _ (removed new rules) (of-cons (f old q) (removed-every new f h)) (removed-every new f h)
 
 -- What holds of the equations, renamed, holds of the candidates.
-pub candidates-every : (W : Pair → Type 0) (origin : ℕ → Origin) (n : ℕ) (es : List Equation) → ((e : Equation) → List·Memᴰ e es → W (renamed (e .sides))) →
+pub candidates-every : (W : Pair → Type 0) (origin : ℕ → Origin) (n : ℕ) (es : List Pair) → ((e : Pair) → List·Memᴰ e es → W (renamed e)) →
     Every (λ (c : Candidate). W (c .sides)) (candidates origin n es)
 unfolding candidates
 candidates-every W origin n [] h = of-none
 candidates-every W origin n (e ∷ es) h = of-cons (h e (List·Memᴰ·head refl)) (candidates-every W origin (suc n) es (λ d i. h d (List·Memᴰ·tail i)))
 
--- R of rules, W of waiting pairs, T of pairs as a turn takes and rewrites them.
-pub record Closed (P : Problem) (R W T : Pair → Type 0) : Type 0 where
-  pub given : (e : Equation) → List·Memᴰ e (P .equations) → W (renamed (e .sides))
-  pub taken : (e : Pair) → W e → T e
-  pub overlapped : (inner outer : Pair) (p : ℕ) (o : Overlap) → overlap inner outer p ≡ some o → Small o → R inner → R outer → T (renamed (o .sides))
+-- R of rules, W of waiting pairs, Q of pairs as a turn takes and rewrites them.
+pub record Closed (T : Theory) (R W Q : Pair → Type 0) : Type 0 where
+  pub given : (e : Pair) → List·Memᴰ e (T .equations) → W (renamed e)
+  pub taken : (e : Pair) → W e → Q e
+  pub overlapped : (inner outer : Pair) (p : ℕ) (o : Overlap) → overlap inner outer p ≡ some o → Small o → R inner → R outer → Q (renamed (o .sides))
   pub rewritten : (rules : List Rule) → Every (λ (r : Rule). R (r .sides)) rules → (e f : Pair) → Reached rules (e .left) (f .left) →
-      Reached rules (e .right) (f .right) → T e → T f
-  pub turned : (e : Pair) → T e → T (swapped e)
-  pub oriented : (e : Pair) → T e → length (pair-variables e) ≤ 16 → above (rank-of (P .symbols)) (e .left) (e .right) ≡ true → R (renamed e)
+      Reached rules (e .right) (f .right) → Q e → Q f
+  pub turned : (e : Pair) → Q e → Q (swapped e)
+  pub oriented : (e : Pair) → Q e → length (pair-variables e) ≤ 16 → above (rank-of (T .symbols)) (e .left) (e .right) ≡ true → R (renamed e)
   pub composed : (rules : List Rule) → Every (λ (r : Rule). R (r .sides)) rules → (e : Pair) (r : Term) → Reached rules (e .right) r → R e →
       R (record { left = e .left; right = r })
   pub put-off : (e : Pair) → R e → W e
-  pub put-again : (e : Pair) → T e → length (pair-variables e) ≤ 16 → W (renamed e)
+  pub put-again : (e : Pair) → Q e → length (pair-variables e) ≤ 16 → W (renamed e)
 
-module _ (P : Problem) (R W T : Pair → Type 0) (k : Closed P R W T) where
+module _ (T : Theory) (R W Q : Pair → Type 0) (k : Closed T R W Q) where
   abbrev pub RuleHas : Rule → Type 0
   RuleHas r = R (r .sides)
 
@@ -71,26 +71,26 @@ module _ (P : Problem) (R W T : Pair → Type 0) (k : Closed P R W T) where
     pub rules : Every RuleHas (s .rules)
     pub waiting : Every WaitingHas (s .waiting)
 
-  source-has : (s : State) → Has s → (c : Candidate) (cs : List Candidate) → Source P s c cs → T (c .sides) × Every WaitingHas cs
+  source-has : (s : State) → Has s → (c : Candidate) (cs : List Candidate) → Source T s c cs → Q (c .sides) × Every WaitingHas cs
   source-has s h c cs (of-waiting e) = first (subst (Every WaitingHas) e (h .waiting))
     where
-      first : Every WaitingHas (c ∷ cs) → T (c .sides) × Every WaitingHas cs
+      first : Every WaitingHas (c ∷ cs) → Q (c .sides) × Every WaitingHas cs
       first (of-cons q h) = (k .taken (c .sides) q, h)
   source-has s h c cs (of-overlap at o z small e q) =
       let both : BothHold RuleHas at = every-in (all-places-hold RuleHas [] (s .rules) of-none (h .rules)) (z .listed) in (
-        subst (λ (d : Candidate). T (d .sides)) (sym e)
+        subst (λ (d : Candidate). Q (d .sides)) (sym e)
             (k .overlapped (at .inner .sides) (at .outer .sides) (at .position) o (z .is) small (both .inner-holds) (both .outer-holds)),
         subst (Every WaitingHas) (sym q) of-none,
       )
   source-has s h c cs (of-input w a i q) =
-      (k .taken (c .sides) (every-in (candidates-every W scanned-input 1 (P .equations) (k .given)) i), subst (Every WaitingHas) (sym q) of-none)
+      (k .taken (c .sides) (every-in (candidates-every W scanned-input 1 (T .equations) (k .given)) i), subst (Every WaitingHas) (sym q) of-none)
 
-  pub taken-has : (s : State) → Has s → (t : Taken) → Takes P s t → T (t .pair .sides) × Every WaitingHas (t .waiting)
+  pub taken-has : (s : State) → Has s → (t : Taken) → Takes T s t → Q (t .pair .sides) × Every WaitingHas (t .waiting)
   taken-has s h t g =
       let a = source-has s h (g .of) (t .waiting) (g .source) in
       (k .rewritten (s .rules) (h .rules) (g .of .sides) (t .pair .sides) (g .forms .left .reached) (g .forms .right .reached) (a .0), a .1)
 
-  oriented-has : (e f : Pair) → T e → length (pair-variables e) ≤ 16 → Oriented P e f → R f
+  oriented-has : (e f : Pair) → Q e → length (pair-variables e) ≤ 16 → Oriented T e f → R f
   oriented-has e f h few (as-taken a q) = subst R (sym q) (k .oriented e h few a)
   oriented-has e f h few (other-way a q) = subst R (sym q) (k .oriented (swapped e) (k .turned e h) (omega (arith, swapped-variables e)) a)
 
@@ -106,7 +106,7 @@ module _ (P : Problem) (R W T : Pair → Type 0) (k : Closed P R W T) where
         l,
       )
 
-  pub next-has : (s s′ : State) → Has s → Next P s s′ → Has s′
+  pub next-has : (s s′ : State) → Has s → Next T s s′ → Has s′
   unfolding settled waits-again
   next-has s s′ h (settles t g room q e) = rw e (record { rules = h .rules; waiting = taken-has s h t g .1 })
   next-has s s′ h (puts-back t g room d few n may e) =
@@ -122,7 +122,7 @@ module _ (P : Problem) (R W T : Pair → Type 0) (k : Closed P R W T) where
       })
 
   -- Every state of a run.
-  pub reachable-has : {s : State} {left : ℕ} → Reachable P s left → Has s
+  pub reachable-has : {s : State} → Reachable T s → Has s
   unfolding initial
-  reachable-has (from-start e b) = rw e (record { rules = of-none; waiting = candidates-every W waiting-input 1 (P .equations) (k .given) })
-  reachable-has (by-turn {s} {s′} {left} {left′} r e) = next-has s s′ (reachable-has r) (turn-next P s s′ left left′ e)
+  reachable-has (from-start e) = rw e (record { rules = of-none; waiting = candidates-every W waiting-input 1 (T .equations) (k .given) })
+  reachable-has (by-turn {s} {s′} left {left′} r e) = next-has s s′ (reachable-has r) (turn-next T s s′ left left′ e)

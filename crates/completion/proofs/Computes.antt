@@ -26,7 +26,7 @@ unfolding flatMap Base.if_then_else_ Base.mapped Base.or-else Base.is-some Base.
     Rewrite.step-in Rewrite.return Rewrite.end-with Rewrite.and-then Rewrite._>>=_ Rewrite.end-if Rewrite.pay Rewrite.hold Rewrite.normalise
     Rewrite.normalise-pair Turn.candidates Turn.initial Turn.scan-overlap Turn.if-different Turn.if-different-overlap Turn.scan-inputs Turn.scan
     Turn.take-pair Turn.orient Turn.rewrites Turn.kept Turn.removed Turn.normalise-rights Turn.waits-again Turn.if-oriented Turn.make-rule Turn.settled
-    Turn.end-if-all-put-back Turn.turn Turn.turns Turn.run Rewrite.end-number Calls.pair-bytes Calls.rule-field Calls.origin-bytes
+    Turn.end-if-all-put-back Turn.turn Turn.turns Turn.run-from Turn.run Rewrite.end-number Calls.pair-bytes Calls.rule-field Calls.origin-bytes
     Calls.entry-field Calls.oldest-field Calls.forms-field Calls.result-fields Calls.result-bytes
     Calls.enough Calls.complete-call Calls.parse-single Calls.compare-call Calls.unified Calls.unify-call Calls.part-of Calls.subterm-part
     Calls.subterm-call Calls.written Calls.after-complete Calls.after-unify Settle.ascii Settle.hex-digit Settle.hex-byte Settle.decimal-in

@@ -3,21 +3,21 @@
 use mathlib.Core.Path.{_≡_, sym, _∙_, subst}
 use mathlib.Core.List.{List}
 use Prim.Native.Nat.{suc}
-use Rattle.terms.specs.Term.{Term}
+use Rattle.terms.specs.Term.{Term, Pair}
 use Rattle.rewriting.specs.Overlap.{Rule, sides-of}
 use Rattle.rewriting.proofs.Relations.{Of, Star, Solves}
 use Rattle.rewriting.proofs.Stepping.{StepBy}
-use Rattle.problem.specs.Problem.{Symbol, Equation}
+use Rattle.problem.specs.Problem.{Symbol}
 use Rattle.completion.specs.Delivery.{Ends, Last}
 use Rattle.problem.specs.Over.{Over}
 use Rattle.completion.specs.Decides.{Decides}
-use Rattle.completion.proofs.Words.{equation-sides, word-step, word-many, word-normal, normal-word}
+use Rattle.completion.proofs.Words.{word-step, word-many, word-normal, normal-word}
 use Rattle.completion.proofs.Over.{OverEquations}
 use Rattle.completion.proofs.OverRules.{OverRules, of-brings, raw-stays, star-stays, star-word}
 use Rattle.completion.proofs.Replacements.{replacement-over, conv-is-many}
 
-module _ (Σ : List Symbol) (es : List Equation) (rules : List Rule) (given : OverEquations Σ es) (good : OverRules Σ rules)
-    (solves : Solves (Of (equation-sides es)) (Of (sides-of rules))) where
+module _ (Σ : List Symbol) (es : List Pair) (rules : List Rule) (given : OverEquations Σ es) (good : OverRules Σ rules)
+    (solves : Solves (Of es) (Of (sides-of rules))) where
   -- the last term in the words is the last term
   last-is : (s t : Term) → Over Σ s → Last Σ rules s t → t ≡ solves .final s
   unfolding Last

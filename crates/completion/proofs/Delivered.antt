@@ -1,16 +1,18 @@
--- The delivery theorem: a rule set delivered as complete settles the buyer's equations, with no hypothesis but the run's end. It is that of the turns
--- (`AtEnd`) from the first state. Assumes nothing.
--- Read first: specs/Decides, proofs/AtEnd.
-use mathlib.Core.Path.{_≡_, refl}
-use mathlib.Core.List.{List}
-use Prim.Native.Nat.{ℕ, suc}
-use Rattle.problem.specs.Problem.{ok, Problem, parse}
+-- The delivery theorem: a rule set delivered as complete settles the equations of its theory. Turns leave it that began in any state of a run, with any
+-- budget, and ended with 0. Assumes nothing.
+-- Read first: specs/Decides, proofs/AtEnd, proofs/Stopped.
+use mathlib.Core.Path.{_≡_}
+use Prim.Native.Nat.{ℕ}
+use Rattle.problem.specs.Problem.{Theory}
 use Rattle.rewriting.specs.Rewrite.{complete}
-use Rattle.completion.specs.Turn.{initial, run}
+use Rattle.completion.specs.Turn.{Finished}
 use Rattle.completion.specs.Decides.{Decides}
-use Rattle.completion.proofs.Reachable.{from-start}
-use Rattle.completion.proofs.AtEnd.{turns-delivered}
+use Rattle.completion.proofs.Over.{OverEquations}
+use Rattle.completion.proofs.Certificate.{certificate-decides}
+use Rattle.completion.proofs.Stopped.{Stopped, run-complete}
+use Rattle.completion.proofs.AtEnd.{certified-certificate}
 
-pub delivered : (bytes : List ℕ) (P : Problem) → parse bytes ≡ ok P → run P .end ≡ complete → Decides (P .symbols) (P .equations) (run P .state .rules)
-unfolding run
-delivered bytes P read d = turns-delivered bytes P read (suc (P .budget)) (initial P) (P .budget) (from-start refl refl) d
+pub delivered : (T : Theory) → OverEquations (T .symbols) (T .equations) → {budget : ℕ} {f : Finished} → Stopped T budget f → f .end ≡ complete →
+    Decides (T .symbols) (T .equations) (f .state .rules)
+delivered T given {budget} {f} h e =
+    certificate-decides (T .symbols) (T .equations) (f .state .rules) (certified-certificate T given (h .reachable) (run-complete h e))

@@ -19,12 +19,11 @@ use Rattle.rewriting.proofs.Stepping.{StepBy, step-none}
 use Rattle.rewriting.proofs.Overlaps.{peak-left, peak-right}
 use Rattle.rewriting.proofs.Covers.{BothHold, all-places-hold}
 use Rattle.rewriting.proofs.Holds.{Forms, reached-star}
-use Rattle.problem.specs.Problem.{Equation}
 use Rattle.completion.specs.Turn.{waiting-input, removed-rule, Candidate, candidates, rewrites, kept, removed}
 use Rattle.completion.specs.Transitions.{Properly, _⨾_, pair, Variants, Reordered, unmoved, behind, moved, collapse, deduce, reorder}
 use Rattle.completion.specs.Transitions.{rename-equation, Derivation, written}
 use Rattle.completion.specs.Systems.{from-removed, still-rule, waiting-equations, waiting-rules, together}
-use Rattle.completion.proofs.Words.{equation-sides, of-item, rule-sides}
+use Rattle.completion.proofs.Words.{of-item, rule-sides}
 use Rattle.completion.proofs.Ends.{Rights, none-yet, one-more, with-right}
 use Rattle.completion.proofs.Reorders.{reordered-in, reordered-back, reordered-eq, with-behind, put-back}
 use Rattle.completion.proofs.Soundness.{step-rewrites, Falls, derivation-falls}
@@ -120,15 +119,15 @@ removed-still rank old h = h
 
 module _ (rank : ℕ → ℕ) where
   -- The input equations, renamed.
-  pub inputs-derive : (n : ℕ) (es : List Equation) (F R : List Pair) →
-      Derivation rank Properly (equation-sides es ++ F ⨾ R) (waiting-sides (candidates waiting-input n es) ++ F ⨾ R)
+  pub inputs-derive : (n : ℕ) (es : List Pair) (F R : List Pair) →
+      Derivation rank Properly (es ++ F ⨾ R) (waiting-sides (candidates waiting-input n es) ++ F ⨾ R)
   unfolding candidates
   inputs-derive n [] F R = none-more rank
   inputs-derive n (e ∷ es) F R =
-      same-as rank (rename-equation (renamed-variants (e .sides)))
-      (same-as rank (reorder (put-back (renamed (e .sides)) (equation-sides es) F) unmoved)
-      (derives rank (inputs-derive (suc n) es (renamed (e .sides) ∷ F) R)
-      (written (reorder (reordered-back (put-back (renamed (e .sides)) (waiting-sides (candidates waiting-input (suc n) es)) F)) (unmoved {l = R})))))
+      same-as rank (rename-equation (renamed-variants e))
+      (same-as rank (reorder (put-back (renamed e) es F) unmoved)
+      (derives rank (inputs-derive (suc n) es (renamed e ∷ F) R)
+      (written (reorder (reordered-back (put-back (renamed e) (waiting-sides (candidates waiting-input (suc n) es)) F)) (unmoved {l = R})))))
 
   -- Step 1, a pair that waits: Simplify, behind Collapse where it is a rule still.
   module _ (rules : List Rule) (cs : List Candidate) where

@@ -18,7 +18,7 @@ use Rattle.rewriting.specs.Rewrite.{step}
 use Rattle.rewriting.proofs.Relations.{Of, Normal}
 use Rattle.rewriting.proofs.Steps.{step-subst, step-plug}
 use Rattle.rewriting.proofs.Stepping.{StepBy, step-none}
-use Rattle.problem.specs.Problem.{rank-of, Problem}
+use Rattle.problem.specs.Problem.{rank-of, Theory}
 use Rattle.completion.specs.Transitions.{Encompasses}
 use Rattle.completion.specs.Turn.{removed-rule, Candidate, State, initial, rewrites, kept, removed, waits-again, settled}
 use Rattle.completion.proofs.Words.{ItemOf, item-of, rule-sides}
@@ -43,10 +43,10 @@ normal-back : (rules : List Rule) (σ : ℕ → Term) (t u : Term) → subst-ter
 normal-back rules σ t u e n v w = n (subst-term σ v) (subst (λ z. StepBy rules z (subst-term σ v)) e (step-subst σ w))
 
 -- The new rule's left side is normal for the rules before it.
-new-normal : (P : Problem) (rules : List Rule) (e f : Pair) → Normal (StepBy rules) (e .left) → Normal (StepBy rules) (e .right) → Oriented P e f →
+new-normal : (T : Theory) (rules : List Rule) (e f : Pair) → Normal (StepBy rules) (e .left) → Normal (StepBy rules) (e .right) → Oriented T e f →
     Normal (StepBy rules) (f .left)
-new-normal P rules e f l r (as-taken a q) = rw q (normal-back rules _ _ (e .left) (renamed-back e .0) l)
-new-normal P rules e f l r (other-way a q) = rw q (normal-back rules _ _ (e .right) (renamed-back (swapped e) .0) r)
+new-normal T rules e f l r (as-taken a q) = rw q (normal-back rules _ _ (e .left) (renamed-back e .0) l)
+new-normal T rules e f l r (other-way a q) = rw q (normal-back rules _ _ (e .right) (renamed-back (swapped e) .0) r)
 
 abbrev left-of : Rule → Term
 left-of r = r .sides .left
@@ -134,9 +134,9 @@ rights-lefts (one-more {before} {done} {later} {old} {r} g f e) =
 abbrev FreeWaiting : (ℕ → ℕ) → List Term → Candidate → Type 0
 FreeWaiting rank ls c = IsRule rank c → Every (Free (c .sides .left)) ls
 
-record Spread (P : Problem) (s : State) : Type 0 where
+record Spread (T : Theory) (s : State) : Type 0 where
   apart : Apart (lefts (s .rules))
-  waiting : Every (FreeWaiting (rank-of (P .symbols)) (lefts (s .rules))) (s .waiting)
+  waiting : Every (FreeWaiting (rank-of (T .symbols)) (lefts (s .rules))) (s .waiting)
 
 -- The rules of the next state.
 module _ (s : State) (new : Rule) (composed : List Rule) (r : Rights new (kept new (s .rules)) composed [])
@@ -170,37 +170,37 @@ module _ (s : State) (new : Rule) (composed : List Rule) (r : Rights new (kept n
   removed-waiting rank h =
       every-map (λ c q e. with-new (c .sides .left) (q .0) (q .1)) (every-both (removed-free new (s .rules) h) (removed-lefts new (s .rules) to-new))
 
-next-spread : (P : Problem) (s s′ : State) → Next P s s′ → Postponed P s → Spread P s → Spread P s′
+next-spread : (T : Theory) (s s′ : State) → Next T s s′ → Postponed T s → Spread T s → Spread T s′
 unfolding settled waits-again
-next-spread P s s′ (settles t g room q e) p h = rw e (record { apart = h .apart; waiting = source-rest P s (g .of) (t .waiting) (g .source) (h .waiting) })
-next-spread P s s′ (makes t g room d few sides o live composed r e) p h =
-    let rank : ℕ → ℕ = rank-of (P .symbols) in
+next-spread T s s′ (settles t g room q e) p h = rw e (record { apart = h .apart; waiting = source-rest T s (g .of) (t .waiting) (g .source) (h .waiting) })
+next-spread T s s′ (makes t g room d few sides o live composed r e) p h =
+    let rank : ℕ → ℕ = rank-of (T .symbols) in
     let new : Rule = new-rule s sides in
     let normal : Normal (StepBy (s .rules)) (sides .left) =
-    new-normal P (s .rules) (t .pair .sides) sides (step-none (s .rules) _ (g .forms .left .normal)) (step-none (s .rules) _ (g .forms .right .normal)) o in
+    new-normal T (s .rules) (t .pair .sides) sides (step-none (s .rules) _ (g .forms .left .normal)) (step-none (s .rules) _ (g .forms .right .normal)) o in
     rw e
     (record {
       apart = next-apart s new composed r normal (h .apart);
       waiting =
           every-append
-          (every-map (still-free s new composed r normal rank) (source-rest P s (g .of) (t .waiting) (g .source) (every-both p (h .waiting))))
+          (every-map (still-free s new composed r normal rank) (source-rest T s (g .of) (t .waiting) (g .source) (every-both p (h .waiting))))
           (removed-waiting s new composed r normal rank (h .apart));
     })
-next-spread P s s′ (puts-back t g room d few n may e) p h =
+next-spread T s s′ (puts-back t g room d few n may e) p h =
     rw e
     (record {
       apart = h .apart;
       waiting =
-          every-append (source-rest P s (g .of) (t .waiting) (g .source) (h .waiting))
-          (equations-have (rank-of (P .symbols)) (put-back-equation P (t .pair .origin) (t .pair .sides) n));
+          every-append (source-rest T s (g .of) (t .waiting) (g .source) (h .waiting))
+          (equations-have (rank-of (T .symbols)) (put-back-equation T (t .pair .origin) (t .pair .sides) n));
     })
 
-reachable-spread : (P : Problem) {s : State} {left : ℕ} → Reachable P s left → Spread P s
+reachable-spread : (T : Theory) {s : State} → Reachable T s → Spread T s
 unfolding initial
-reachable-spread P (from-start e b) =
-    let rank : ℕ → ℕ = rank-of (P .symbols) in
-    rw e (record { apart = none-apart; waiting = equations-have rank (inputs-equations rank 1 (P .equations)) })
-reachable-spread P (by-turn {s} {s′} {left} {left′} r e) = next-spread P s s′ (turn-next P s s′ left left′ e) (reachable-postponed P r) (reachable-spread P r)
+reachable-spread T (from-start e) =
+    let rank : ℕ → ℕ = rank-of (T .symbols) in
+    rw e (record { apart = none-apart; waiting = equations-have rank (inputs-equations rank 1 (T .equations)) })
+reachable-spread T (by-turn {s} {s′} left {left′} r e) = next-spread T s s′ (turn-next T s s′ left left′ e) (reachable-postponed T r) (reachable-spread T r)
 
 -- So in every state the published condition of Collapse holds of a removed rule, whichever live rule rewrites it.
 abbrev pub FreeRemoved : (ℕ → ℕ) → List Rule → Candidate → Type 0
@@ -211,5 +211,5 @@ of-lefts Q rules h l r i =
     let a : ItemOf rule-sides rules l r = item-of rule-sides rules l r i in
     subst Q (a .is-left) (every-in (mapped-every left-of rules h) (a .is-item))
 
-pub reachable-free : (P : Problem) {s : State} {left : ℕ} → Reachable P s left → Every (FreeRemoved (rank-of (P .symbols)) (s .rules)) (s .waiting)
-reachable-free P {s} r = every-map (λ c q e l m i. of-lefts (Free (c .sides .left)) (s .rules) (q e) l m i) (reachable-spread P r .waiting)
+pub reachable-free : (T : Theory) {s : State} → Reachable T s → Every (FreeRemoved (rank-of (T .symbols)) (s .rules)) (s .waiting)
+reachable-free T {s} r = every-map (λ c q e l m i. of-lefts (Free (c .sides .left)) (s .rules) (q e) l m i) (reachable-spread T r .waiting)

@@ -25,22 +25,21 @@ use Rattle.rewriting.proofs.Overlaps.{overlap-conv}
 use Rattle.rewriting.proofs.Lower.{above-lower}
 use Rattle.rewriting.proofs.Covers.{of-every}
 use Rattle.rewriting.proofs.Holds.{Reached, reached-star}
-use Rattle.problem.specs.Problem.{rank-of, Problem}
+use Rattle.problem.specs.Problem.{rank-of, Theory}
 use Rattle.completion.specs.Turn.{State}
-use Rattle.completion.proofs.Words.{equation-sides, equation-pair, of-item}
 use Rattle.completion.proofs.Reachable.{Reachable}
 use Rattle.completion.proofs.Closed.{Closed, reachable-has}
 
-module _ (P : Problem) where
+module _ (T : Theory) where
   abbrev pub Input : Rules
-  Input = Of (equation-sides (P .equations))
+  Input = Of (T .equations)
 
   -- an equality of the input equations
   abbrev pub Equal : Pair → Type 0
   Equal e = Conv (Step Input) (e .left) (e .right)
 
   pub record Good (e : Pair) : Type 0 where
-    pub down : above (rank-of (P .symbols)) (e .left) (e .right) ≡ true
+    pub down : above (rank-of (T .symbols)) (e .left) (e .right) ≡ true
     pub low : VarsIn (λ (x : ℕ). x < 16) (e .left)
     pub equal : Equal e
 
@@ -51,11 +50,11 @@ module _ (P : Problem) where
   unfolding renamed
   renamed-equal e c = conv-subst (renaming e) c
 
-  renamed-good : (e : Pair) → Equal e → length (pair-variables e) ≤ 16 → above (rank-of (P .symbols)) (e .left) (e .right) ≡ true → Good (renamed e)
+  renamed-good : (e : Pair) → Equal e → length (pair-variables e) ≤ 16 → above (rank-of (T .symbols)) (e .left) (e .right) ≡ true → Good (renamed e)
   unfolding renamed
   renamed-good e q h a =
       record {
-        down = above-dec (rank-of (P .symbols)) _ _ .1 (above-subst (rank-of (P .symbols)) (renaming e) (above-dec (rank-of (P .symbols)) _ _ .0 a));
+        down = above-dec (rank-of (T .symbols)) _ _ .1 (above-subst (rank-of (T .symbols)) (renaming e) (above-dec (rank-of (T .symbols)) _ _ .0 a));
         low = λ x i. omega (arith, renamed-low e x i);
         equal = renamed-equal e q;
       }
@@ -71,16 +70,16 @@ module _ (P : Problem) where
       Good (record { left = e .left; right = r })
   composed-good rules good e r s q =
       record {
-        down = above-lower (rank-of (P .symbols)) (Of (sides-of rules)) (λ a b i. of-every Good good a b i .down) (e .left) (e .right) r
+        down = above-lower (rank-of (T .symbols)) (Of (sides-of rules)) (λ a b i. of-every Good good a b i .down) (e .left) (e .right) r
             (reached-star s) (q .down);
         low = q .low;
         equal = chain (q .equal) (conv-conv (rules-sound good) (star-conv (reached-star s)));
       }
 
-  pub good-closed : Closed P Good Equal Equal
+  pub good-closed : Closed T Good Equal Equal
   good-closed =
       record {
-        given = λ e i. renamed-equal (e .sides) (sound-itself Input _ _ (of-item equation-pair (P .equations) e i));
+        given = λ e i. renamed-equal e (sound-itself Input _ _ i);
         taken = λ e q. q;
         overlapped = λ inner outer p o e small a b. renamed-equal (o .sides) (overlap-equal inner outer p o e (a .equal) (b .equal));
         rewritten = λ rules good e f l r q. simplify Input (Of (sides-of rules)) (rules-sound good) q (reached-star l) (reached-star r);
@@ -91,5 +90,5 @@ module _ (P : Problem) where
         put-again = λ e q few. renamed-equal e q;
       }
 
-  pub reachable-good : {s : State} {left : ℕ} → Reachable P s left → GoodRules (s .rules)
-  reachable-good r = reachable-has P Good Equal Equal good-closed r .rules
+  pub reachable-good : {s : State} → Reachable T s → GoodRules (s .rules)
+  reachable-good r = reachable-has T Good Equal Equal good-closed r .rules

@@ -17,9 +17,9 @@ use Rattle.rewriting.specs.Rewrite.{step}
 use Rattle.rewriting.proofs.Limits.{step-made, MaybeOverlap, overlap-made}
 use Rattle.rewriting.proofs.Covers.{all-places-hold}
 use Rattle.rewriting.proofs.Holds.{Reached, reached-keeps}
-use Rattle.problem.specs.Problem.{Problem}
+use Rattle.problem.specs.Problem.{Theory}
 use Rattle.completion.specs.Turn.{Origin, overlapping, scanned-input, Candidate, made-put-back, State, Taken, rewrites, kept, removed}
-use Rattle.completion.specs.Turn.{waits-again, settled, run}
+use Rattle.completion.specs.Turn.{waits-again, settled}
 use Rattle.completion.proofs.Limits.{HeldTo, HeldPair, OriginFits, CandidateFits, RuleFits, EntryFits, Ascending, numbers, Limits, Accepted}
 use Rattle.completion.proofs.Limits.{later-origin, later-candidate, later-entry, pair-wide, renamed-held, few-variables, candidates-fit}
 use Rattle.completion.proofs.Limits.{initial-limits}
@@ -27,7 +27,6 @@ use Rattle.completion.proofs.Ends.{inputs, Small, Source, of-waiting, o
 use Rattle.completion.proofs.Ends.{older-rules, Next, settles, makes, puts-back}
 use Rattle.completion.proofs.Closed.{Closed, Has, taken-has, next-has, kept-every, removed-every}
 use Rattle.completion.proofs.Reachable.{Reachable, from-start, by-turn, turn-next}
-use Rattle.completion.proofs.Stopped.{run-stops}
 
 -- Places.
 pub record PlaceFits (n made : ℕ) (at : Place) : Type 0 where
@@ -111,9 +110,9 @@ module _ (n v : ℕ) (wide : 16 ≤ v) (rules : List Rule) (fit : Every (λ (r :
   pub reached-held : (t u : Term) → Reached rules t u → HeldTo n v t → HeldTo n v u
   reached-held t u r h = reached-keeps (HeldTo n v) step-held r h
 
-module _ (P : Problem) (ok : Accepted P) where
+module _ (T : Theory) (ok : Accepted T) where
   abbrev pub symbols : ℕ
-  symbols = length (P .symbols)
+  symbols = length (T .symbols)
 
   overlap-held : (inner outer : Pair) (p : ℕ) (o : Overlap) → overlap inner outer p ≡ some o → Small o → HeldPair symbols 16 inner →
       HeldPair symbols 16 outer → HeldPair symbols 32 (renamed (o .sides))
@@ -125,11 +124,11 @@ module _ (P : Problem) (ok : Accepted P) where
       record { left = record { small = small .left; made = h .left-made }; right = record { small = small .right; made = h .right-made } } in
       renamed-held symbols 32 32 (o .sides) (few-variables symbols 32 (o .sides) q) q
 
-  pub held-closed : Closed P (HeldPair symbols 16) (HeldPair symbols 16) (HeldPair symbols 32)
+  pub held-closed : Closed T (HeldPair symbols 16) (HeldPair symbols 16) (HeldPair symbols 32)
   held-closed =
       record {
-        given = λ e i. let h : HeldPair symbols 16 (e .sides) = every-in (ok .equations-fit) i in renamed-held symbols 16 16 (e .sides)
-            (few-variables symbols 16 (e .sides) h) h;
+        given = λ e i. let h : HeldPair symbols 16 e = every-in (ok .equations-fit) i in renamed-held symbols 16 16 e
+            (few-variables symbols 16 e h) h;
         taken = λ e h. pair-wide symbols 16 32 (omega arith) e h;
         overlapped = overlap-held;
         rewritten = λ rules fit e f l r h.
@@ -147,7 +146,7 @@ module _ (P : Problem) (ok : Accepted P) where
   -- The turn that begins with s.
   module _ (s : State) (lim : Limits symbols s) where
     abbrev HasHeld : State → Type 0
-    HasHeld = Has P (HeldPair symbols 16) (HeldPair symbols 16) (HeldPair symbols 32) held-closed
+    HasHeld = Has T (HeldPair symbols 16) (HeldPair symbols 16) (HeldPair symbols 32) held-closed
 
     has : HasHeld s
     has = record { rules = every-map (λ r h. h .fits) (lim .rules-fit); waiting = every-map (λ c h. h .fits) (lim .waiting-fit) }
@@ -160,10 +159,10 @@ module _ (P : Problem) (ok : Accepted P) where
       pub waiting-few : suc (length (t .waiting)) ≤ 32
       pub behind : MayTake s → s .put-back ≤ length (t .waiting)
 
-    inputs-fit : Every (CandidateFits symbols 16 (s .made)) (inputs P)
+    inputs-fit : Every (CandidateFits symbols 16 (s .made)) (inputs T)
     unfolding OriginFits
-    inputs-fit = candidates-fit symbols (s .made) scanned-input (λ k l m. (l, m)) 1 (P .equations) (omega arith)
-        (let few : length (P .equations) ≤ 16 = ok .equations-few in omega arith) (ok .equations-fit)
+    inputs-fit = candidates-fit symbols (s .made) scanned-input (λ k l m. (l, m)) 1 (T .equations) (omega arith)
+        (let few : length (T .equations) ≤ 16 = ok .equations-few in omega arith) (ok .equations-fit)
 
     abbrev SourceFits : Origin → List Candidate → Type 0
     SourceFits o cs =
@@ -177,7 +176,7 @@ module _ (P : Problem) (ok : Accepted P) where
         let n : length (s .waiting) ≡ 0 = ap length w in
         (h, of-none, omega arith, omega arith, λ g. omega arith)
 
-    source-fits : (c : Candidate) (cs : List Candidate) → Source P s c cs → SourceFits (c .origin) cs
+    source-fits : (c : Candidate) (cs : List Candidate) → Source T s c cs → SourceFits (c .origin) cs
     unfolding OriginFits
     source-fits c cs (of-waiting e) =
         let h : Every (CandidateFits symbols 16 (s .made)) (c ∷ cs) = subst (Every (CandidateFits symbols 16 (s .made))) e (lim .waiting-fit) in
@@ -191,12 +190,12 @@ module _ (P : Problem) (ok : Accepted P) where
         (f .inner-fits .first, f .inner-fits .last, f .outer-fits .first, f .outer-fits .last, f .position-fits))
     source-fits c cs (of-input w a i q) = rw q (none-wait (c .origin) w (every-in inputs-fit i .from))
 
-    pub taken-fits : (t : Taken) → Takes P s t → TakenFits t
+    pub taken-fits : (t : Taken) → Takes T s t → TakenFits t
     taken-fits t g =
         let a = source-fits (g .of) (t .waiting) (g .source) in
         record {
           from = subst (OriginFits (s .made)) (sym (g .origin)) (a .0);
-          fits = taken-has P (HeldPair symbols 16) (HeldPair symbols 16) (HeldPair symbols 32) held-closed s has t g .0;
+          fits = taken-has T (HeldPair symbols 16) (HeldPair symbols 16) (HeldPair symbols 32) held-closed s has t g .0;
           waiting-fits = a .1;
           room = a .2;
           waiting-few = a .3;
@@ -288,19 +287,16 @@ module _ (P : Problem) (ok : Accepted P) where
           put-back-few = omega arith;
         }
 
-    pub next-limits : (s′ : State) → Next P s s′ → Limits symbols s′
+    pub next-limits : (s′ : State) → Next T s s′ → Limits symbols s′
     next-limits s′ (settles t g room q e) = rw e (settled-limits t (taken-fits t g) room)
     next-limits s′ (puts-back t g room d few n may e) = rw e (put-back-limits t (taken-fits t g) may room few)
     next-limits s′ (makes t g room d few sides o live done r e) =
         let h : HasHeld s′ =
-        next-has P (HeldPair symbols 16) (HeldPair symbols 16) (HeldPair symbols 32) held-closed s s′ has (makes t g room d few sides o live done r e) in
+        next-has T (HeldPair symbols 16) (HeldPair symbols 16) (HeldPair symbols 32) held-closed s s′ has (makes t g room d few sides o live done r e) in
         rw e (made-limits t sides (done ++ (new-rule s sides ∷ [])) (taken-fits t g) room live (rights-numbers r)
         (subst (λ (z : State). Every (λ (r : Rule). HeldPair symbols 16 (r .sides)) (z .rules)) e (h .rules)))
 
   -- Every state of a run keeps the limits.
-  pub reachable-limits : {s : State} {left : ℕ} → Reachable P s left → Limits symbols s
-  reachable-limits (from-start e b) = rw e (initial-limits P ok)
-  reachable-limits (by-turn {s} {s′} {left} {left′} r e) = next-limits s (reachable-limits r) s′ (turn-next P s s′ left left′ e)
-
-  pub run-limits : Limits symbols (run P .state)
-  run-limits = reachable-limits (run-stops P .reachable)
+  pub reachable-limits : {s : State} → Reachable T s → Limits symbols s
+  reachable-limits (from-start e) = rw e (initial-limits T ok)
+  reachable-limits (by-turn {s} {s′} left {left′} r e) = next-limits s (reachable-limits r) s′ (turn-next T s s′ left left′ e)

@@ -12,7 +12,7 @@ use Rattle.terms.specs.Term.{Term, Pair, same, size, renamed}
 use Rattle.rewriting.specs.Overlap.{Rule, Overlap, Place}
 use Rattle.rewriting.specs.Rewrite.{End, complete, neither-above, spent, too-large, rules-full, log-full, Paying, return, end-with, _>>=_, end-if}
 use Rattle.rewriting.specs.Rewrite.{pay, hold, normalise, normalise-pair}
-use Rattle.problem.specs.Problem.{Problem}
+use Rattle.problem.specs.Problem.{Theory}
 use Rattle.completion.specs.Turn.{Origin, Candidate, State, Taken, scan-overlap, if-different, if-different-overlap, scan-inputs, scan}
 use Rattle.completion.specs.Turn.{take-pair, normalise-rights, if-oriented, make-rule, settled, end-if-all-put-back, turn}
 
@@ -82,10 +82,10 @@ module _ (L : (A : Type 0) → Paying A → Type 0) (k : Lawful L) where
   scan-lawful rules inputs [] = inputs-lawful rules inputs
   scan-lawful rules inputs (at ∷ ps) = k .bound _ _ _ _ (overlap-lawful rules _) λ forms. different-overlap-lawful at forms _ (scan-lawful rules inputs ps)
 
-  pub take-lawful : (P : Problem) (rules : List Rule) (cs : List Candidate) → L Taken (take-pair P rules cs)
+  pub take-lawful : (T : Theory) (rules : List Rule) (cs : List Candidate) → L Taken (take-pair T rules cs)
   unfolding take-pair
-  take-lawful P rules [] = k .bound _ _ _ _ (scan-lawful rules _ _) λ c. k .returned _ _
-  take-lawful P rules (c ∷ cs) = k .bound _ _ _ _ (pair-lawful rules (c .sides)) λ forms. k .returned _ _
+  take-lawful T rules [] = k .bound _ _ _ _ (scan-lawful rules _ _) λ c. k .returned _ _
+  take-lawful T rules (c ∷ cs) = k .bound _ _ _ _ (pair-lawful rules (c .sides)) λ forms. k .returned _ _
 
   rights-lawful : (before rules : List Rule) (new : Rule) → L (List Rule) (normalise-rights before rules new)
   unfolding normalise-rights
@@ -100,9 +100,9 @@ module _ (L : (A : Type 0) → Paying A → Type 0) (k : Lawful L) where
       k .bound _ _ _ _ (rights-lawful [] _ _) λ rules.
       k .returned _ _
 
-  make-lawful : (P : Problem) (s : State) (t : Taken) → L State (make-rule P s t)
+  make-lawful : (T : Theory) (s : State) (t : Taken) → L State (make-rule T s t)
   unfolding make-rule
-  make-lawful P s t = k .bound _ _ _ _ (end-if-lawful _ too-large tt) λ _. oriented-lawful s t _
+  make-lawful T s t = k .bound _ _ _ _ (end-if-lawful _ too-large tt) λ _. oriented-lawful s t _
 
   all-put-back-lawful : (waiting : List Candidate) (n : ℕ) → L (Unit {0}) (end-if-all-put-back waiting n)
   unfolding end-if-all-put-back
@@ -110,17 +110,17 @@ module _ (L : (A : Type 0) → Paying A → Type 0) (k : Lawful L) where
   all-put-back-lawful (c ∷ waiting) n = end-if-lawful _ neither-above tt
 
   -- the turn behind its first unit
-  pub rest-lawful : (P : Problem) (s : State) →
+  pub rest-lawful : (T : Theory) (s : State) →
       L State (end-if-all-put-back (s .waiting) (s .put-back) >>= λ _.
-      take-pair P (s .rules) (s .waiting) >>= λ t.
+      take-pair T (s .rules) (s .waiting) >>= λ t.
       end-if (leb 512 (length (s .log))) log-full >>= λ _.
-      if same (t .pair .sides .left) (t .pair .sides .right) then return (settled s t) else make-rule P s t)
-  rest-lawful P s =
+      if same (t .pair .sides .left) (t .pair .sides .right) then return (settled s t) else make-rule T s t)
+  rest-lawful T s =
       k .bound _ _ _ _ (all-put-back-lawful (s .waiting) (s .put-back)) λ _.
-      k .bound _ _ _ _ (take-lawful P (s .rules) (s .waiting)) λ t.
+      k .bound _ _ _ _ (take-lawful T (s .rules) (s .waiting)) λ t.
       k .bound _ _ _ _ (end-if-lawful _ log-full tt) λ _.
-      either-has (L _) _ _ _ (k .returned _ _) (make-lawful P s t)
+      either-has (L _) _ _ _ (k .returned _ _) (make-lawful T s t)
 
-  pub turn-lawful : (P : Problem) (s : State) → L State (turn P s)
+  pub turn-lawful : (T : Theory) (s : State) → L State (turn T s)
   unfolding turn
-  turn-lawful P s = k .bound _ _ _ _ (k .paid) λ _. rest-lawful P s
+  turn-lawful T s = k .bound _ _ _ _ (k .paid) λ _. rest-lawful T s

@@ -15,13 +15,13 @@ use Rattle.terms.proofs.Every.{every-append}
 use Rattle.rewriting.specs.Overlap.{Rule, Overlap, overlap, Place, all-places}
 use Rattle.rewriting.specs.Rewrite.{step, End, complete, neither-above, too-large, rules-full, log-full, Paid, done, stop, Paying, return, end-with}
 use Rattle.rewriting.specs.Rewrite.{and-then, _>>=_, end-if, pay, hold, normalise, normalise-pair}
-use Rattle.problem.specs.Problem.{Problem}
-use Rattle.completion.specs.Turn.{Origin, Candidate, State, Taken, Finished, initial, scan-overlap, if-different, if-different-overlap, scan-inputs, scan}
-use Rattle.completion.specs.Turn.{take-pair, orient, normalise-rights, if-oriented, make-rule, settled, end-if-all-put-back, turn, turns, run}
+use Rattle.problem.specs.Problem.{Theory}
+use Rattle.completion.specs.Turn.{Origin, Candidate, State, Taken, Finished, scan-overlap, if-different, if-different-overlap, scan-inputs, scan}
+use Rattle.completion.specs.Turn.{take-pair, orient, normalise-rights, if-oriented, make-rule, settled, end-if-all-put-back, turn, turns, run-from}
 use Rattle.completion.proofs.Sentences.{new-rule}
 use Rattle.completion.proofs.Ends.{inputs, older-rules}
 use Rattle.completion.proofs.Units.{left-of}
-use Rattle.completion.proofs.Reachable.{Reachable, from-start, by-turn, next-entry, turn-next, turn-less}
+use Rattle.completion.proofs.Reachable.{next-entry, turn-next, turn-less}
 
 -- what a unit is paid for
 pub data Event : Type 0 where
@@ -82,9 +82,9 @@ scan-events rules inputs (at ∷ places) =
     let o : Option Overlap = overlap (at .inner .sides) (at .outer .sides) (at .position) in
     also (overlap-events rules o) (scan-overlap rules o) λ forms. different-overlap-events forms (scan-events rules inputs places)
 
-unfoldable pub take-events : Problem → List Rule → List Candidate → Ledger
-take-events P rules [] = scan-events rules (inputs P) (all-places [] rules)
-take-events P rules (c ∷ waiting) = pair-events rules (c .sides)
+unfoldable pub take-events : Theory → List Rule → List Candidate → Ledger
+take-events T rules [] = scan-events rules (inputs T) (all-places [] rules)
+take-events T rules (c ∷ waiting) = pair-events rules (c .sides)
 
 unfoldable pub rights-events : List Rule → List Rule → Rule → Ledger
 rights-events before [] new = nothing
@@ -98,28 +98,28 @@ oriented-events s none = nothing
 oriented-events s (some sides) =
     also nothing (end-if (ltb 32 (suc (length (older-rules s sides)))) rules-full) λ _. rights-events [] (older-rules s sides) (new-rule s sides)
 
-unfoldable pub make-events : Problem → State → Taken → Ledger
-make-events P s t =
+unfoldable pub make-events : Theory → State → Taken → Ledger
+make-events T s t =
     also nothing (end-if (ltb 16 (length (pair-variables (t .pair .sides)))) too-large) λ _.
-    oriented-events s (orient P (t .pair .sides))
+    oriented-events s (orient T (t .pair .sides))
 
-unfoldable pub rest-events : Problem → State → Ledger
-rest-events P s =
+unfoldable pub rest-events : Theory → State → Ledger
+rest-events T s =
     also nothing (end-if-all-put-back (s .waiting) (s .put-back)) λ _.
-    also (take-events P (s .rules) (s .waiting)) (take-pair P (s .rules) (s .waiting)) λ t.
+    also (take-events T (s .rules) (s .waiting)) (take-pair T (s .rules) (s .waiting)) λ t.
     also nothing (end-if (leb 512 (length (s .log))) log-full) λ _.
-    if same (t .pair .sides .left) (t .pair .sides .right) then nothing else make-events P s t
+    if same (t .pair .sides .left) (t .pair .sides .right) then nothing else make-events T s t
 
-unfoldable pub turn-events : Problem → State → Ledger
-turn-events P s zero = []
-turn-events P s (suc left) = began ∷ rest-events P s left
+unfoldable pub turn-events : Theory → State → Ledger
+turn-events T s zero = []
+turn-events T s (suc left) = began ∷ rest-events T s left
 
-unfoldable pub turns-events : ℕ → Problem → State → Ledger
-turns-events zero P s left = []
-turns-events (suc n) P s left = turn-events P s left ++ elim (turn P s left) [ done s′ left′ ↦ turns-events n P s′ left′ | stop e left′ ↦ [] ]
+unfoldable pub turns-events : ℕ → Theory → State → Ledger
+turns-events zero T s left = []
+turns-events (suc n) T s left = turn-events T s left ++ elim (turn T s left) [ done s′ left′ ↦ turns-events n T s′ left′ | stop e left′ ↦ [] ]
 
-unfoldable pub run-events : Problem → List Event
-run-events P = turns-events (suc (P .budget)) P (initial P) (P .budget)
+unfoldable pub run-events : Theory → State → ℕ → List Event
+run-events T s budget = turns-events (suc budget) T s budget
 
 -- The list is as long as the units paid are many, and every step in it is one.
 pub record Booked (left : ℕ) (rest : ℕ) (events : List Event) : Type 0 where
@@ -239,10 +239,10 @@ scan-books rules inputs (at ∷ ps) =
     bind-books (scan-overlap rules o) _ (overlap-events rules o) _ (overlap-books rules o) λ forms.
     different-overlap-books at forms (scan rules inputs ps) (scan-events rules inputs ps) (scan-books rules inputs ps)
 
-take-books : (P : Problem) (rules : List Rule) (cs : List Candidate) → Books (take-pair P rules cs) (take-events P rules cs)
+take-books : (T : Theory) (rules : List Rule) (cs : List Candidate) → Books (take-pair T rules cs) (take-events T rules cs)
 unfolding take-pair take-events
-take-books P rules [] = last-books (scan rules (inputs P) (all-places [] rules)) _ _ (scan-books rules (inputs P) (all-places [] rules))
-take-books P rules (c ∷ cs) = last-books (normalise-pair rules (c .sides)) _ (pair-events rules (c .sides)) (pair-books rules (c .sides))
+take-books T rules [] = last-books (scan rules (inputs T) (all-places [] rules)) _ _ (scan-books rules (inputs T) (all-places [] rules))
+take-books T rules (c ∷ cs) = last-books (normalise-pair rules (c .sides)) _ (pair-events rules (c .sides)) (pair-books rules (c .sides))
 
 rights-books : (before rules : List Rule) (new : Rule) → Books (normalise-rights before rules new) (rights-events before rules new)
 unfolding normalise-rights rights-events
@@ -259,11 +259,11 @@ oriented-books s t (some sides) =
     bind-books (end-if (ltb 32 (suc (length (older-rules s sides)))) rules-full) _ nothing _ (end-if-books _ rules-full) λ _.
     last-books (normalise-rights [] (older-rules s sides) (new-rule s sides)) _ _ (rights-books [] (older-rules s sides) (new-rule s sides))
 
-make-books : (P : Problem) (s : State) (t : Taken) → Books (make-rule P s t) (make-events P s t)
+make-books : (T : Theory) (s : State) (t : Taken) → Books (make-rule T s t) (make-events T s t)
 unfolding make-rule make-events
-make-books P s t =
+make-books T s t =
     bind-books (end-if (ltb 16 (length (pair-variables (t .pair .sides)))) too-large) _ nothing _ (end-if-books _ too-large) λ _.
-    oriented-books s t (orient P (t .pair .sides))
+    oriented-books s t (orient T (t .pair .sides))
 
 all-put-back-books : (waiting : List Candidate) (n : ℕ) → Books (end-if-all-put-back waiting n) nothing
 unfolding end-if-all-put-back
@@ -271,13 +271,13 @@ all-put-back-books [] n = return-books tt
 all-put-back-books (c ∷ waiting) n = end-if-books _ neither-above
 
 -- Behind the unit of the turn there are steps only.
-pub rest-books : (P : Problem) (s : State) (left : ℕ) → Booked left (left-of (turn P s (suc left))) (rest-events P s left)
+pub rest-books : (T : Theory) (s : State) (left : ℕ) → Booked left (left-of (turn T s (suc left))) (rest-events T s left)
 unfolding turn rest-events _>>=_ and-then pay
-rest-books P s left =
+rest-books T s left =
     bind-books (end-if-all-put-back (s .waiting) (s .put-back)) _ nothing _ (all-put-back-books (s .waiting) (s .put-back)) (λ _.
-    bind-books (take-pair P (s .rules) (s .waiting)) _ (take-events P (s .rules) (s .waiting)) _ (take-books P (s .rules) (s .waiting)) (λ t.
+    bind-books (take-pair T (s .rules) (s .waiting)) _ (take-events T (s .rules) (s .waiting)) _ (take-books T (s .rules) (s .waiting)) (λ t.
     bind-books (end-if (leb 512 (length (s .log))) log-full) _ nothing _ (end-if-books _ log-full) λ _.
-    if-books _ (return (settled s t)) (make-rule P s t) nothing (make-events P s t) (return-books (settled s t)) (make-books P s t))) left
+    if-books _ (return (settled s t)) (make-rule T s t) nothing (make-events T s t) (return-books (settled s t)) (make-books T s t))) left
 
 -- how many turns were begun
 unfoldable pub begun : List Event → ℕ
@@ -314,51 +314,40 @@ pub record TurnBooked (left rest : ℕ) (events : List Event) : Type 0 where
   pub once : begun events ≡ min 1 left
   pub valid : Every Made-or-begun events
 
-pub turn-books : (P : Problem) (s : State) (left : ℕ) → TurnBooked left (left-of (turn P s left)) (turn-events P s left)
+pub turn-books : (T : Theory) (s : State) (left : ℕ) → TurnBooked left (left-of (turn T s left)) (turn-events T s left)
 unfolding turn-events begun Made-or-begun
-turn-books P s zero = record { counted = unfold turn _>>=_ and-then pay left-of in refl; once = refl; valid = of-none }
-turn-books P s (suc left) =
-    let b : Booked left (left-of (turn P s (suc left))) (rest-events P s left) = rest-books P s left in
-    let c : length (rest-events P s left) + left-of (turn P s (suc left)) ≡ left = b .counted in
-    let z : begun (rest-events P s left) ≡ 0 = begun-none (rest-events P s left) (b .valid) in
-    record { counted = omega arith; once = omega arith; valid = of-cons tt (valid-or (rest-events P s left) (b .valid)) }
+turn-books T s zero = record { counted = unfold turn _>>=_ and-then pay left-of in refl; once = refl; valid = of-none }
+turn-books T s (suc left) =
+    let b : Booked left (left-of (turn T s (suc left))) (rest-events T s left) = rest-books T s left in
+    let c : length (rest-events T s left) + left-of (turn T s (suc left)) ≡ left = b .counted in
+    let z : begun (rest-events T s left) ≡ 0 = begun-none (rest-events T s left) (b .valid) in
+    record { counted = omega arith; once = omega arith; valid = of-cons tt (valid-or (rest-events T s left) (b .valid)) }
 
 -- A run's events: as many as the units paid.
-pub record RunBooked (P : Problem) (s : State) (left : ℕ) (f : Finished) (events : List Event) : Type 0 where
-  pub counted : length events + P .budget ≡ f .units + left
+pub record RunBooked (budget left : ℕ) (f : Finished) (events : List Event) : Type 0 where
+  pub counted : length events + budget ≡ f .units + left
   pub valid : Every Made-or-begun events
 
-turns-books : (n : ℕ) (P : Problem) (s : State) (left : ℕ) → left < n → left ≤ P .budget → RunBooked P s left (turns n P s left) (turns-events n P s left)
+turns-books : (n : ℕ) (T : Theory) (budget : ℕ) (s : State) (left : ℕ) → left < n → left ≤ budget →
+    RunBooked budget left (turns n T budget s left) (turns-events n T s left)
 unfolding turns turns-events
-turns-books zero P s left h l = absurd (omega arith)
-turns-books (suc n) P s left h l = go (turn P s left) refl (turn-books P s left) (λ s′ left′ h l. turns-books n P s′ left′ h l)
+turns-books zero T budget s left h l = absurd (omega arith)
+turns-books (suc n) T budget s left h l = go (turn T s left) refl (turn-books T s left) (λ s′ left′ h l. turns-books n T budget s′ left′ h l)
   where
-    go : (p : Paid State) → turn P s left ≡ p → TurnBooked left (left-of (turn P s left)) (turn-events P s left) →
-        ((s′ : State) (left′ : ℕ) → left′ < n → left′ ≤ P .budget → RunBooked P s′ left′ (turns n P s′ left′) (turns-events n P s′ left′)) →
-        RunBooked P s left (turns (suc n) P s left) (turns-events (suc n) P s left)
+    go : (p : Paid State) → turn T s left ≡ p → TurnBooked left (left-of (turn T s left)) (turn-events T s left) →
+        ((s′ : State) (left′ : ℕ) → left′ < n → left′ ≤ budget → RunBooked budget left′ (turns n T budget s′ left′) (turns-events n T s′ left′)) →
+        RunBooked budget left (turns (suc n) T budget s left) (turns-events (suc n) T s left)
     go (done s′ left′) e b ih =
-        let less : left′ < left = turn-less P s s′ left left′ e in
-        let c : length (turn-events P s left) + left′ ≡ left = unfold left-of in (rw e at (b .counted)) in
-        let k : RunBooked P s′ left′ (turns n P s′ left′) (turns-events n P s′ left′) = ih s′ left′ (omega arith) (omega arith) in
-        let d : length (turns-events n P s′ left′) + P .budget ≡ turns n P s′ left′ .units + left′ = k .counted in
-        let a = length-append (turn-events P s left) (turns-events n P s′ left′) in
+        let less : left′ < left = turn-less T s s′ left left′ e in
+        let c : length (turn-events T s left) + left′ ≡ left = unfold left-of in (rw e at (b .counted)) in
+        let k : RunBooked budget left′ (turns n T budget s′ left′) (turns-events n T s′ left′) = ih s′ left′ (omega arith) (omega arith) in
+        let d : length (turns-events n T s′ left′) + budget ≡ turns n T budget s′ left′ .units + left′ = k .counted in
+        let a = length-append (turn-events T s left) (turns-events n T s′ left′) in
         rw (e, turns, turns-events) (record { counted = omega arith; valid = every-append (b .valid) (k .valid) })
     go (stop end left′) e b ih =
-        let c : length (turn-events P s left) + left′ ≡ left = unfold left-of in (rw e at (b .counted)) in
-        let a = length-append (turn-events P s left) [] in
+        let c : length (turn-events T s left) + left′ ≡ left = unfold left-of in (rw e at (b .counted)) in
+        let a = length-append (turn-events T s left) [] in
         rw (e, turns, turns-events) (record { counted = omega arith; valid = every-append (b .valid) (of-none) })
-
--- "the count equals the definition's steps and turns"
-pub run-books : (P : Problem) → length (run-events P) ≡ run P .units
-unfolding run-events run
-run-books P =
-    let k = turns-books (suc (P .budget)) P (initial P) (P .budget) (omega arith) (omega arith) in
-    let c : length (run-events P) + P .budget ≡ run P .units + P .budget = k .counted in
-    omega arith
-
-pub run-events-valid : (P : Problem) → Every Made-or-begun (run-events P)
-unfolding run-events run
-run-events-valid P = turns-books (suc (P .budget)) P (initial P) (P .budget) (omega arith) (omega arith) .valid
 
 -- The turns begun: one for each log entry, and the last one, unless no unit was left for it.
 pub record TurnsBegun (before after : ℕ) (events : List Event) : Type 0 where
@@ -366,32 +355,41 @@ pub record TurnsBegun (before after : ℕ) (events : List Event) : Type 0 where
   pub at-most-one : last ≤ 1
   pub begun-are : begun events + before ≡ after + last
 
-module _ (P : Problem) where
-  turns-begun : (n : ℕ) (s : State) (left : ℕ) → left < n → Reachable P s left →
-      TurnsBegun (length (s .log)) (length (turns n P s left .state .log)) (turns-events n P s left)
-  unfolding turns turns-events
-  turns-begun zero s left h r = absurd (omega arith)
-  turns-begun (suc n) s left h r = go (turn P s left) refl (turn-books P s left .once) (λ s′ left′ h r. turns-begun n s′ left′ h r)
-    where
-      go : (p : Paid State) → turn P s left ≡ p → begun (turn-events P s left) ≡ min 1 left →
-          ((s′ : State) (left′ : ℕ) → left′ < n → Reachable P s′ left′ → TurnsBegun (length (s′ .log)) (length (turns n P s′ left′ .state .log))
-          (turns-events n P s′ left′)) → TurnsBegun (length (s .log)) (length (turns (suc n) P s left .state .log)) (turns-events (suc n) P s left)
-      go (done s′ left′) e b ih =
-          let less : left′ < left = turn-less P s s′ left left′ e in
-          let g : length (s′ .log) ≡ suc (length (s .log)) = next-entry P _ _ (turn-next P _ _ _ _ e) in
-          let k : TurnsBegun (length (s′ .log)) (length (turns n P s′ left′ .state .log)) (turns-events n P s′ left′) =
-          ih s′ left′ (omega arith) (by-turn r e) in
-          let c : begun (turns-events n P s′ left′) + length (s′ .log) ≡ length (turns n P s′ left′ .state .log) + k .last = k .begun-are in
-          let d = begun-append (turn-events P s left) (turns-events n P s′ left′) in
-          rw (e, turns, turns-events) (record { last = k .last; at-most-one = k .at-most-one; begun-are = omega arith })
-      go (stop end left′) e b ih =
-          let d = begun-append (turn-events P s left) [] in
-          let z : begun [] ≡ 0 = unfold begun in refl in
-          rw (e, turns, turns-events) (record { last = min 1 left; at-most-one = omega arith; begun-are = omega arith })
+turns-begun : (n : ℕ) (T : Theory) (budget : ℕ) (s : State) (left : ℕ) → left < n →
+    TurnsBegun (length (s .log)) (length (turns n T budget s left .state .log)) (turns-events n T s left)
+unfolding turns turns-events
+turns-begun zero T budget s left h = absurd (omega arith)
+turns-begun (suc n) T budget s left h = go (turn T s left) refl (turn-books T s left .once) (λ s′ left′ h. turns-begun n T budget s′ left′ h)
+  where
+    go : (p : Paid State) → turn T s left ≡ p → begun (turn-events T s left) ≡ min 1 left →
+        ((s′ : State) (left′ : ℕ) → left′ < n →
+        TurnsBegun (length (s′ .log)) (length (turns n T budget s′ left′ .state .log)) (turns-events n T s′ left′)) →
+        TurnsBegun (length (s .log)) (length (turns (suc n) T budget s left .state .log)) (turns-events (suc n) T s left)
+    go (done s′ left′) e b ih =
+        let less : left′ < left = turn-less T s s′ left left′ e in
+        let g : length (s′ .log) ≡ suc (length (s .log)) = next-entry T _ _ (turn-next T _ _ _ _ e) in
+        let k : TurnsBegun (length (s′ .log)) (length (turns n T budget s′ left′ .state .log)) (turns-events n T s′ left′) = ih s′ left′ (omega arith) in
+        let c : begun (turns-events n T s′ left′) + length (s′ .log) ≡ length (turns n T budget s′ left′ .state .log) + k .last = k .begun-are in
+        let d = begun-append (turn-events T s left) (turns-events n T s′ left′) in
+        rw (e, turns, turns-events) (record { last = k .last; at-most-one = k .at-most-one; begun-are = omega arith })
+    go (stop end left′) e b ih =
+        let d = begun-append (turn-events T s left) [] in
+        let z : begun [] ≡ 0 = unfold begun in refl in
+        rw (e, turns, turns-events) (record { last = min 1 left; at-most-one = omega arith; begun-are = omega arith })
 
-  pub run-begun : TurnsBegun 0 (length (run P .state .log)) (run-events P)
-  unfolding run run-events
-  run-begun =
-      let z : length (initial P .log) ≡ 0 = unfold initial in refl in
-      let k = turns-begun (suc (P .budget)) (initial P) (P .budget) (omega arith) (from-start refl refl) in
-      rw z at k
+-- A run from any state, with any budget.
+module _ (T : Theory) (s : State) (budget : ℕ) where
+  run-booked : RunBooked budget budget (run-from T s budget) (run-events T s budget)
+  unfolding run-events run-from
+  run-booked = turns-books (suc budget) T budget s budget (omega arith) (omega arith)
+
+  -- "the count equals the definition's steps and turns"
+  pub run-books : length (run-events T s budget) ≡ run-from T s budget .units
+  run-books = let c = run-booked .counted in omega arith
+
+  pub run-events-valid : Every Made-or-begun (run-events T s budget)
+  run-events-valid = run-booked .valid
+
+  pub run-begun : TurnsBegun (length (s .log)) (length (run-from T s budget .state .log)) (run-events T s budget)
+  unfolding run-events run-from
+  run-begun = turns-begun (suc budget) T budget s budget (omega arith)

@@ -15,7 +15,7 @@ use Rattle.terms.proofs.Limits.{Made, MadeAll, made-vars, made-with, variables-
 use Rattle.terms.proofs.Limits.{renamed-right-made}
 use Rattle.terms.specs.Base.{Every, of-none, of-cons}
 use Rattle.rewriting.specs.Overlap.{Rule}
-use Rattle.problem.specs.Problem.{Symbol, Equation, Problem}
+use Rattle.problem.specs.Problem.{Symbol, Theory}
 use Rattle.problem.specs.Over.{Over, OverAll}
 use Rattle.completion.proofs.Over.{OverPair, OverEquations}
 use Rattle.completion.specs.Turn.{Origin, waiting-input, removed-rule, scanned-input, overlapping, Candidate, made-put-back, Entry, State, candidates}
@@ -73,13 +73,12 @@ pub record Limits (n : ℕ) (s : State) : Type 0 where
   pub together : length (s .rules) + length (s .waiting) ≤ 33
   pub put-back-few : s .put-back ≤ length (s .waiting)
 
--- What a problem that was accepted has.
-pub record Accepted (P : Problem) : Type 0 where
-  pub symbols-few : length (P .symbols) ≤ 16
-  pub budget-few : P .budget ≤ 1_000_000
-  pub equations-few : length (P .equations) ≤ 16
-  pub equations-fit : Every (λ e. HeldPair (length (P .symbols)) 16 (e .sides)) (P .equations)
-  pub equations-over : OverEquations (P .symbols) (P .equations)
+-- What the theory of a problem that was accepted has.
+pub record Accepted (T : Theory) : Type 0 where
+  pub symbols-few : length (T .symbols) ≤ 16
+  pub equations-few : length (T .equations) ≤ 16
+  pub equations-fit : Every (HeldPair (length (T .symbols)) 16) (T .equations)
+  pub equations-over : OverEquations (T .symbols) (T .equations)
 
 -- More rules made, and the same still fits.
 pub later-origin : (a b : ℕ) → a ≤ b → (o : Origin) → OriginFits a o → OriginFits b o
@@ -152,31 +151,31 @@ keeps-held Σ e k =
     }
 
 -- The inputs as candidates.
-pub length-candidates : (origin : ℕ → Origin) (k : ℕ) (es : List Equation) → length (candidates origin k es) ≡ length es
+pub length-candidates : (origin : ℕ → Origin) (k : ℕ) (es : List Pair) → length (candidates origin k es) ≡ length es
 unfolding candidates
 length-candidates origin k [] = refl
 length-candidates origin k (e ∷ es) = ap suc (length-candidates origin (suc k) es)
 
-pub candidates-sides : (origin : ℕ → Origin) (k : ℕ) (es : List Equation) →
-    map (λ (e : Equation). renamed (e .sides)) es ≡ map (λ (c : Candidate). c .sides) (candidates origin k es)
+pub candidates-sides : (origin : ℕ → Origin) (k : ℕ) (es : List Pair) →
+    map renamed es ≡ map (λ (c : Candidate). c .sides) (candidates origin k es)
 unfolding candidates
 candidates-sides origin k [] = refl
-candidates-sides origin k (e ∷ es) = ap (λ z. renamed (e .sides) ∷ z) (candidates-sides origin (suc k) es)
+candidates-sides origin k (e ∷ es) = ap (λ z. renamed e ∷ z) (candidates-sides origin (suc k) es)
 
 pub candidates-fit : (n made : ℕ) (origin : ℕ → Origin) → ((k : ℕ) → 1 ≤ k → k ≤ 16 → OriginFits made (origin k)) →
-    (k : ℕ) (es : List Equation) → 1 ≤ k → k + length es ≤ 17 → Every (λ e. HeldPair n 16 (e .sides)) es →
+    (k : ℕ) (es : List Pair) → 1 ≤ k → k + length es ≤ 17 → Every (HeldPair n 16) es →
     Every (CandidateFits n 16 made) (candidates origin k es)
 unfolding candidates
 candidates-fit n made origin f k [] l m of-none = of-none
 candidates-fit n made origin f k (e ∷ es) l m (of-cons q h) =
-    of-cons (record { from = f k l (omega arith); fits = renamed-held n 16 16 (e .sides) (few-variables n 16 (e .sides) q) q })
+    of-cons (record { from = f k l (omega arith); fits = renamed-held n 16 16 e (few-variables n 16 e q) q })
     (candidates-fit n made origin f (suc k) es (omega arith) (omega arith) h)
 
-pub initial-limits : (P : Problem) → Accepted P → Limits (length (P .symbols)) (initial P)
+pub initial-limits : (T : Theory) → Accepted T → Limits (length (T .symbols)) (initial T)
 unfolding initial Ascending OriginFits
-initial-limits P a =
-    let l : length (candidates waiting-input 1 (P .equations)) ≡ length (P .equations) = length-candidates waiting-input 1 (P .equations) in
-    let few : length (P .equations) ≤ 16 = a .equations-few in
+initial-limits T a =
+    let l : length (candidates waiting-input 1 (T .equations)) ≡ length (T .equations) = length-candidates waiting-input 1 (T .equations) in
+    let few : length (T .equations) ≤ 16 = a .equations-few in
     record {
       live = omega arith;
       rules-fit = of-none;
@@ -184,7 +183,7 @@ initial-limits P a =
       made-few = omega arith;
       log-few = omega arith;
       log-fits = of-none;
-      waiting-fit = candidates-fit _ 0 waiting-input (λ k l m. (l, m)) 1 (P .equations) (omega arith) (omega arith) (a .equations-fit);
+      waiting-fit = candidates-fit _ 0 waiting-input (λ k l m. (l, m)) 1 (T .equations) (omega arith) (omega arith) (a .equations-fit);
       waiting-few = omega arith;
       together = omega arith;
       put-back-few = omega arith;

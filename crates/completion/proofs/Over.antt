@@ -17,7 +17,7 @@ use Rattle.rewriting.specs.Overlap.{Overlap, overlap, apart}
 use Rattle.rewriting.proofs.Relations.{Rules, Step, here, Star, stop, move}
 use Rattle.rewriting.proofs.Order.{StepAt, step-at}
 use Rattle.rewriting.proofs.Overlaps.{Made, made}
-use Rattle.problem.specs.Problem.{Symbol, Equation}
+use Rattle.problem.specs.Problem.{Symbol}
 use Rattle.problem.specs.Over.{Over, OverAll}
 use Rattle.completion.proofs.Words.{over-inherits, over-at}
 
@@ -30,8 +30,8 @@ count-plugs (later s cs) a b = ap suc (count-plugs cs a b)
 abbrev pub OverPair : List Symbol → Pair → Type 0
 OverPair Σ e = Over Σ (e .left) × Over Σ (e .right)
 
-abbrev pub OverEquations : List Symbol → List Equation → Type 0
-OverEquations Σ es = Every (λ (e : Equation). OverPair Σ (e .sides)) es
+abbrev pub OverEquations : List Symbol → List Pair → Type 0
+OverEquations Σ es = Every (OverPair Σ) es
 
 module _ (Σ : List Symbol) where
   pub over-var : (x : ℕ) → Over Σ (var x)

@@ -11,7 +11,7 @@ use Rattle.order.specs.Order.{above}
 use Rattle.rewriting.specs.Overlap.{Rule}
 use Rattle.rewriting.proofs.Holds.{Reached, reached-star}
 use Rattle.rewriting.proofs.Variables.{brings-subst, star-brings}
-use Rattle.problem.specs.Problem.{Symbol, rank-of, Problem}
+use Rattle.problem.specs.Problem.{Symbol, rank-of, Theory}
 use Rattle.problem.specs.Over.{Over}
 use Rattle.completion.specs.Turn.{State}
 use Rattle.completion.proofs.Over.{OverPair, OverEquations, over-renamed, over-overlap}
@@ -27,16 +27,16 @@ module _ (Σ : List Symbol) where
   unfolding renamed
   renamed-rule rank e o a = record { over = over-renamed Σ e o; brings = brings-subst _ (e .left) (e .right) (above-brings rank (e .left) (e .right) a) }
 
-  module _ (P : Problem) (given : OverEquations Σ (P .equations)) where
-    pub over-closed : Closed P (OverRule Σ) (OverPair Σ) (OverPair Σ)
+  module _ (T : Theory) (given : OverEquations Σ (T .equations)) where
+    pub over-closed : Closed T (OverRule Σ) (OverPair Σ) (OverPair Σ)
     over-closed =
         record {
-          given = λ e i. over-renamed Σ (e .sides) (every-in given i);
+          given = λ e i. over-renamed Σ e (every-in given i);
           taken = λ e o. o;
           overlapped = λ inner outer p o e small a b. over-renamed Σ (o .sides) (over-overlap Σ inner outer p o e (a .over) (b .over) .1);
           rewritten = λ rules h e f l r o. (reached-over rules h (e .left) (f .left) l (o .0), reached-over rules h (e .right) (f .right) r (o .1));
           turned = λ e o. (o .1, o .0);
-          oriented = λ e o few a. renamed-rule (rank-of (P .symbols)) e o a;
+          oriented = λ e o few a. renamed-rule (rank-of (T .symbols)) e o a;
           composed = λ rules h e r s o.
               record {
                 over = (o .over .0, reached-over rules h (e .right) r s (o .over .1));
@@ -47,5 +47,5 @@ module _ (Σ : List Symbol) where
         }
 
     -- All rules of every state of a run.
-    pub reachable-over : {s : State} {left : ℕ} → Reachable P s left → OverRules Σ (s .rules)
-    reachable-over r = reachable-has P (OverRule Σ) (OverPair Σ) (OverPair Σ) over-closed r .rules
+    pub reachable-over : {s : State} → Reachable T s → OverRules Σ (s .rules)
+    reachable-over r = reachable-has T (OverRule Σ) (OverPair Σ) (OverPair Σ) over-closed r .rules

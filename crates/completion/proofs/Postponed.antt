@@ -19,7 +19,7 @@ use Rattle.rewriting.proofs.Relations.{Of, root}
 use Rattle.rewriting.proofs.Steps.{step-subst, step-plug}
 use Rattle.rewriting.proofs.Order.{StepAt, step-at}
 use Rattle.rewriting.proofs.Stepping.{StepBy, step-sound}
-use Rattle.problem.specs.Problem.{rank-of, Equation, Problem}
+use Rattle.problem.specs.Problem.{rank-of, Theory}
 use Rattle.completion.specs.Turn.{Origin, waiting-input, removed-rule, Candidate, State, candidates, initial}
 use Rattle.completion.specs.Turn.{rewrites, kept, removed, waits-again, settled}
 use Rattle.completion.specs.Systems.{from-removed, still-rule}
@@ -124,19 +124,19 @@ pub equations-have : {Q : Candidate → Type 0} (rank : ℕ → ℕ) {cs : List 
 equations-have rank h = every-map (λ c e p. absurd (false≢true (sym e ∙ p))) h
 
 -- An input is an equation,
-pub inputs-equations : (rank : ℕ → ℕ) (n : ℕ) (es : List Equation) → Every (IsEquation rank) (candidates waiting-input n es)
+pub inputs-equations : (rank : ℕ → ℕ) (n : ℕ) (es : List Pair) → Every (IsEquation rank) (candidates waiting-input n es)
 unfolding candidates still-rule from-removed
 inputs-equations rank n [] = of-none
 inputs-equations rank n (e ∷ es) = of-cons refl (inputs-equations rank (suc n) es)
 
 -- and so is what is put back, wherever it came from: neither side is above.
-neither-equation : (P : Problem) (o : Origin) (e : Pair) → NeitherAbove P e → IsEquation (rank-of (P .symbols)) (record { origin = o; sides = e })
+neither-equation : (T : Theory) (o : Origin) (e : Pair) → NeitherAbove T e → IsEquation (rank-of (T .symbols)) (record { origin = o; sides = e })
 unfolding still-rule
-neither-equation P o e h = ap (λ b. from-removed o && b) (h .not-left) ∙ and-false (from-removed o)
+neither-equation T o e h = ap (λ b. from-removed o && b) (h .not-left) ∙ and-false (from-removed o)
 
-pub put-back-equation : (P : Problem) (o : Origin) (e : Pair) → NeitherAbove P e →
-    Every (IsEquation (rank-of (P .symbols))) (record { origin = o; sides = renamed e } ∷ [])
-put-back-equation P o e h = every-one (neither-equation P o (renamed e) (renamed-neither P e h))
+pub put-back-equation : (T : Theory) (o : Origin) (e : Pair) → NeitherAbove T e →
+    Every (IsEquation (rank-of (T .symbols))) (record { origin = o; sides = renamed e } ∷ [])
+put-back-equation T o e h = every-one (neither-equation T o (renamed e) (renamed-neither T e h))
 
 -- What waits from a removed rule, if it is a rule still.
 abbrev pub LeftReduces : List Rule → Candidate → Type 0
@@ -156,33 +156,33 @@ removed-reduce new (old ∷ rules) = go (rewrites new old) refl (removed-reduce 
     go true e h = of-cons (rewrites-reduces new old e) h
     go false e h = h
 
-abbrev pub Postponed : Problem → State → Type 0
-Postponed P s = Every (ReducesRemoved (rank-of (P .symbols)) (s .rules)) (s .waiting)
+abbrev pub Postponed : Theory → State → Type 0
+Postponed T s = Every (ReducesRemoved (rank-of (T .symbols)) (s .rules)) (s .waiting)
 
 -- What waits behind the pair taken waited before.
-pub source-rest : {Q : Candidate → Type 0} (P : Problem) (s : State) (c : Candidate) (cs : List Candidate) → Source P s c cs → Every Q (s .waiting) → Every Q cs
-source-rest {Q} P s c cs (of-waiting e) h = every-tail (subst (Every Q) e h)
-source-rest P s c cs (of-overlap at o z small e q) h = rw q of-none
-source-rest P s c cs (of-input w a i q) h = rw q of-none
+pub source-rest : {Q : Candidate → Type 0} (T : Theory) (s : State) (c : Candidate) (cs : List Candidate) → Source T s c cs → Every Q (s .waiting) → Every Q cs
+source-rest {Q} T s c cs (of-waiting e) h = every-tail (subst (Every Q) e h)
+source-rest T s c cs (of-overlap at o z small e q) h = rw q of-none
+source-rest T s c cs (of-input w a i q) h = rw q of-none
 
-next-postponed : (P : Problem) (s s′ : State) → Next P s s′ → Postponed P s → Postponed P s′
+next-postponed : (T : Theory) (s s′ : State) → Next T s s′ → Postponed T s → Postponed T s′
 unfolding settled waits-again
-next-postponed P s s′ (settles t g room q e) h = rw e (source-rest P s (g .of) (t .waiting) (g .source) h)
-next-postponed P s s′ (makes t g room d few sides o live done r e) h =
+next-postponed T s s′ (settles t g room q e) h = rw e (source-rest T s (g .of) (t .waiting) (g .source) h)
+next-postponed T s s′ (makes t g room d few sides o live done r e) h =
     let new : Rule = new-rule s sides in
     rw e
     (every-append
-    (every-map (λ c q p. reduces-next new (s .rules) done r (c .sides .left) (q p)) (source-rest P s (g .of) (t .waiting) (g .source) h))
+    (every-map (λ c q p. reduces-next new (s .rules) done r (c .sides .left) (q p)) (source-rest T s (g .of) (t .waiting) (g .source) h))
     (every-map (λ c q p. by-new new (s .rules) done r (c .sides .left) q) (removed-reduce new (s .rules))))
-next-postponed P s s′ (puts-back t g room d few n may e) h =
+next-postponed T s s′ (puts-back t g room d few n may e) h =
     rw e
     (every-append
-    (source-rest P s (g .of) (t .waiting) (g .source) h)
-    (equations-have (rank-of (P .symbols)) (put-back-equation P (t .pair .origin) (t .pair .sides) n)))
+    (source-rest T s (g .of) (t .waiting) (g .source) h)
+    (equations-have (rank-of (T .symbols)) (put-back-equation T (t .pair .origin) (t .pair .sides) n)))
 
-pub reachable-postponed : (P : Problem) {s : State} {left : ℕ} → Reachable P s left → Postponed P s
+pub reachable-postponed : (T : Theory) {s : State} → Reachable T s → Postponed T s
 unfolding initial
-reachable-postponed P (from-start e b) =
-    let rank : ℕ → ℕ = rank-of (P .symbols) in
-    rw e (equations-have rank (inputs-equations rank 1 (P .equations)))
-reachable-postponed P (by-turn {s} {s′} {left} {left′} r e) = next-postponed P s s′ (turn-next P s s′ left left′ e) (reachable-postponed P r)
+reachable-postponed T (from-start e) =
+    let rank : ℕ → ℕ = rank-of (T .symbols) in
+    rw e (equations-have rank (inputs-equations rank 1 (T .equations)))
+reachable-postponed T (by-turn {s} {s′} left {left′} r e) = next-postponed T s s′ (turn-next T s s′ left left′ e) (reachable-postponed T r)

@@ -15,17 +15,17 @@ use Rattle.terms.specs.Base.{if_then_else_, number-bytes, Field, Every, of-none
 use Rattle.terms.proofs.Every.{every-one, every-append, every-map, every-both}
 use Rattle.rewriting.specs.Overlap.{Rule}
 use Rattle.rewriting.specs.Rewrite.{End, complete, neither-above, spent, too-large, rules-full, log-full, end-number}
-use Rattle.problem.specs.Problem.{ok, Problem, parse}
+use Rattle.problem.specs.Problem.{ok, Theory, theory}
 use Rattle.problem.proofs.Reading.{from-bind, ok-injective}
-use Rattle.completion.specs.Turn.{Candidate, Entry, run}
+use Rattle.completion.specs.Turn.{Candidate, Entry, Finished, run}
 use Rattle.completion.specs.Calls.{rule-field, entry-field, oldest-field, forms-field, result-fields, result-bytes, complete-call}
 use Rattle.completion.specs.Promise.{fields-of, one-byte, end-in, rules-in, Promise, Delivers}
 use Rattle.completion.proofs.Limits.{RuleFits, Accepted, Limits}
 use Rattle.completion.proofs.OverRules.{OverRule}
 use Rattle.completion.proofs.OverRun.{reachable-over}
-use Rattle.completion.proofs.Stopped.{run-stops}
-use Rattle.completion.proofs.Kept.{run-limits}
-use Rattle.completion.proofs.Accepts.{accepts}
+use Rattle.completion.proofs.Stopped.{Stopped, run-stops}
+use Rattle.completion.proofs.Kept.{reachable-limits}
+use Rattle.completion.proofs.Accepts.{accepts, budget-accepted}
 use Rattle.completion.proofs.Result.{fields-fit}
 use Rattle.completion.proofs.Keeping.{run-keeps}
 use Rattle.completion.proofs.ReadBack.{fields-are, Fits, no-rules, rules-back}
@@ -62,68 +62,68 @@ forms-other too-large waiting = of-none
 forms-other rules-full waiting = of-none
 forms-other log-full waiting = of-none
 
-module _ (bytes : List ℕ) (P : Problem) (read : parse bytes ≡ ok P) where
-  accepted : Accepted P
-  accepted = accepts bytes P read
+-- What turns of an accepted theory leave, that began in any state of a run.
+module _ (T : Theory) (accepted : Accepted T) (budget : ℕ) (f : Finished) (h : Stopped T budget f) where
+  limits : Limits (length (T .symbols)) (f .state)
+  limits = reachable-limits T accepted (h .reachable)
 
-  limits : Limits (length (P .symbols)) (run P .state)
-  limits = run-limits P accepted
-
-  rule-fits : (r : Rule) → OverRule (P .symbols) (r .sides) × RuleFits (length (P .symbols)) (run P .state .made) r →
-      Fits (P .symbols) (accepted .symbols-few) r
-  rule-fits r h =
-      let a : r .number ≤ run P .state .made = h .1 .last in
-      let b : run P .state .made ≤ length (run P .state .log) = limits .made-few in
-      let c : length (run P .state .log) ≤ 512 = limits .log-few in
+  rule-fits : (r : Rule) → OverRule (T .symbols) (r .sides) × RuleFits (length (T .symbols)) (f .state .made) r →
+      Fits (T .symbols) (accepted .symbols-few) r
+  rule-fits r k =
+      let a : r .number ≤ f .state .made = k .1 .last in
+      let b : f .state .made ≤ length (f .state .log) = limits .made-few in
+      let c : length (f .state .log) ≤ 512 = limits .log-few in
       record {
         number = omega arith;
-        left-over = h .0 .over .0;
-        right-over = h .0 .over .1;
-        left-named = h .1 .fits .left .made;
-        right-named = h .1 .fits .right .made;
+        left-over = k .0 .over .0;
+        right-over = k .0 .over .1;
+        left-named = k .1 .fits .left .made;
+        right-named = k .1 .fits .right .made;
       }
 
   -- The fields of the result are those that its bytes hold.
-  pub fields-read : fields-of (result-bytes (run P)) ≡ ok (result-fields (run P))
+  pub fields-read : fields-of (result-bytes f) ≡ ok (result-fields f)
   unfolding result-bytes
   fields-read =
-      fields-are (result-fields (run P)) (every-map (λ f h. let l : length (f .contents) ≤ 242 = h .length-fits in omega arith) (fields-fit P accepted))
+      fields-are (result-fields f) (every-map (λ g k. let l : length (g .contents) ≤ 242 = k .length-fits in omega arith)
+      (fields-fit (length (T .symbols)) (accepted .symbols-few) f limits))
 
   -- "which is so exactly when the turns defined above end with 0 for that problem"
-  pub end-read : (end-in (result-fields (run P)) ≡ some 0) ↔ (run P .end ≡ complete)
+  pub end-read : (end-in (result-fields f) ≡ some 0) ↔ (f .end ≡ complete)
   unfolding result-fields end-in one-byte if_then_else_ number-bytes
-  end-read = end-zero (run P .end)
+  end-read = end-zero (f .end)
 
   -- the rules read back are the live rules: the same numbers, in the same order
-  pub rules-read : rules-in (P .symbols) (result-fields (run P)) ≡ ok (run P .state .rules)
+  pub rules-read : rules-in (T .symbols) (result-fields f) ≡ ok (f .state .rules)
   unfolding result-fields rules-in if_then_else_
   rules-read =
-      let forms : List Field = forms-field (run P .end) (run P .state .waiting) in
-      rw (append-assoc (map rule-field (run P .state .rules)) (map entry-field (run P .state .log)) forms)
-      (rules-back (P .symbols) (accepted .symbols-few) (run P .state .rules) (map entry-field (run P .state .log) ++ forms)
-      (every-map rule-fits (every-both (reachable-over (P .symbols) P (accepted .equations-over) (run-stops P .reachable)) (limits .rules-fit)))
-      (no-rules (P .symbols) (accepted .symbols-few) _ (every-append (entries-other (run P .state .log)) (forms-other (run P .end) (run P .state .waiting)))))
+      let forms : List Field = forms-field (f .end) (f .state .waiting) in
+      rw (append-assoc (map rule-field (f .state .rules)) (map entry-field (f .state .log)) forms)
+      (rules-back (T .symbols) (accepted .symbols-few) (f .state .rules) (map entry-field (f .state .log) ++ forms)
+      (every-map rule-fits (every-both (reachable-over (T .symbols) T (accepted .equations-over) (h .reachable)) (limits .rules-fit)))
+      (no-rules (T .symbols) (accepted .symbols-few) _ (every-append (entries-other (f .state .log)) (forms-other (f .end) (f .state .waiting)))))
 
-  pub run-promise : Promise P (result-bytes (run P))
-  run-promise =
+  pub run-promise : budget ≤ 1_000_000 → Promise T f (result-bytes f)
+  run-promise few =
       record {
-        fields = result-fields (run P);
+        fields = result-fields f;
         are-fields = fields-read;
         exactly = end-read;
-        rules = run P .state .rules;
+        rules = f .state .rules;
         are-rules = rules-read;
         are-live = refl;
-        keeps = run-keeps P accepted;
-        decide = λ h. delivered bytes P read (end-read .0 h);
-        derived = run-derived P;
-        derived-alone = λ h. complete-derived P (end-read .0 h);
+        keeps = run-keeps T accepted budget f h few;
+        decide = λ k. delivered T (accepted .equations-over) h (end-read .0 k);
+        derived = run-derived T h;
+        derived-alone = λ k. complete-derived T h (end-read .0 k);
       }
 
--- The theorem.
+-- The theorem: complete leaves what the turns from the first state leave.
 pub promised : (problem : List ℕ) (buffer : ℕ) (r : List ℕ) → complete-call problem buffer ≡ ok r → Delivers problem r
 unfolding complete-call Delivers
 promised problem buffer r e P p =
     from-bind _ _ r e λ u a e.
     from-bind _ _ r e λ Q b e.
     let same : Q ≡ P = ok-injective (sym b ∙ p) in
-    subst (Promise P) (ap (λ Q. result-bytes (run Q)) (sym same) ∙ ok-injective e) (run-promise problem P p)
+    subst (Promise (theory P) (run P)) (ap (λ Q. result-bytes (run Q)) (sym same) ∙ ok-injective e)
+    (run-promise (theory P) (accepts problem P p) (P .budget) (run P) (run-stops P) (budget-accepted problem P p))

@@ -17,10 +17,9 @@ use Rattle.rewriting.proofs.Relations.{Of}
 use Rattle.rewriting.proofs.Covers.{of-every}
 use Rattle.rewriting.proofs.Holds.{Reached, reached-star}
 use Rattle.rewriting.proofs.Variables.{Brings, brings-subst, star-brings}
-use Rattle.problem.specs.Problem.{rank-of, Problem}
-use Rattle.completion.specs.Turn.{Candidate, scanned-input, State, candidates, run}
+use Rattle.problem.specs.Problem.{rank-of, Theory}
+use Rattle.completion.specs.Turn.{Candidate, scanned-input, State, candidates}
 use Rattle.completion.proofs.Reachable.{Reachable}
-use Rattle.completion.proofs.Stopped.{run-stops}
 use Rattle.completion.proofs.Closed.{Closed, candidates-every, reachable-has}
 use Rattle.completion.proofs.OverRules.{above-brings}
 
@@ -57,31 +56,27 @@ pub record AllRenamed (s : State) : Type 0 where
   pub rules : Every (λ (r : Rule). Renamed (r .sides)) (s .rules)
   pub waiting : Every (λ (c : Candidate). Renamed (c .sides)) (s .waiting)
 
-module _ (P : Problem) where
-  renamed-closed : Closed P RenamedRule Renamed (λ e. Unit {0})
+module _ (T : Theory) where
+  renamed-closed : Closed T RenamedRule Renamed (λ e. Unit {0})
   renamed-closed =
       record {
-        given = λ e i. renamed-again (e .sides);
+        given = λ e i. renamed-again e;
         taken = λ e q. tt;
         overlapped = λ inner outer p o e small a b. tt;
         rewritten = λ rules h e f l r q. tt;
         turned = λ e q. tt;
-        oriented = λ e q few a. oriented-renamed (rank-of (P .symbols)) e a;
+        oriented = λ e q few a. oriented-renamed (rank-of (T .symbols)) e a;
         composed = composed-renamed;
         put-off = λ e q. q .unchanged;
         put-again = λ e q few. renamed-again e;
       }
 
   -- Every state of a run.
-  pub reachable-renamed : {s : State} {left : ℕ} → Reachable P s left → AllRenamed s
+  pub reachable-renamed : {s : State} → Reachable T s → AllRenamed s
   reachable-renamed r =
-      let h = reachable-has P RenamedRule Renamed (λ e. Unit {0}) renamed-closed r in
+      let h = reachable-has T RenamedRule Renamed (λ e. Unit {0}) renamed-closed r in
       record { rules = every-map (λ rule q. q .unchanged) (h .rules); waiting = h .waiting }
 
-  -- What the run leaves.
-  pub run-renamed : AllRenamed (run P .state)
-  run-renamed = reachable-renamed (run-stops P .reachable)
-
   -- The inputs at the scan.
-  pub inputs-renamed : Every (λ (c : Candidate). Renamed (c .sides)) (candidates scanned-input 1 (P .equations))
-  inputs-renamed = candidates-every Renamed scanned-input 1 (P .equations) (λ e i. renamed-again (e .sides))
+  pub inputs-renamed : Every (λ (c : Candidate). Renamed (c .sides)) (candidates scanned-input 1 (T .equations))
+  inputs-renamed = candidates-every Renamed scanned-input 1 (T .equations) (λ e i. renamed-again e)

@@ -13,11 +13,9 @@ use Rattle.terms.proofs.Limits.{Bytes, number-bytes-bytes, length-number-bytes}
 use Rattle.terms.proofs.Every.{every-head, every-tail, every-one, every-append, every-map, every-mapped, every-of}
 use Rattle.rewriting.specs.Overlap.{Rule}
 use Rattle.rewriting.specs.Rewrite.{End, complete, neither-above, spent, too-large, rules-full, log-full, end-number}
-use Rattle.problem.specs.Problem.{Problem}
-use Rattle.completion.specs.Turn.{Candidate, Entry, run}
+use Rattle.completion.specs.Turn.{Candidate, Entry, Finished}
 use Rattle.completion.specs.Calls.{pair-bytes, rule-field, entry-field, oldest-field, forms-field, result-fields, result-bytes}
-use Rattle.completion.proofs.Limits.{HeldPair, CandidateFits, RuleFits, Limits, Accepted}
-use Rattle.completion.proofs.Kept.{run-limits}
+use Rattle.completion.proofs.Limits.{HeldPair, CandidateFits, RuleFits, Limits}
 use Rattle.completion.proofs.Widths.{FieldFits, flat, flat-bytes, flat-cons, pair-bytes-length, pair-bytes-fit, rule-field-fits, entry-length}
 use Rattle.completion.proofs.Widths.{entry-field-fits}
 
@@ -62,57 +60,57 @@ unfolding oldest-field
 oldest-fits n made log [] l m h = no-forms log m
 oldest-fits n made log (oldest ∷ waiting) l m h = one-forms n log (oldest .sides) l m (every-head h .fits)
 
-module _ (P : Problem) (a : Accepted P) where
-  forms-fit : (end : End) → FormsFit (length (run P .state .log)) (forms-field end (run P .state .waiting))
+-- What is left in a state that keeps the limits, with n symbols.
+module _ (n : ℕ) (few : n ≤ 16) (f : Finished) (lim : Limits n (f .state)) where
+  forms-fit : (end : End) → FormsFit (length (f .state .log)) (forms-field end (f .state .waiting))
   unfolding forms-field
-  forms-fit complete = no-forms _ (run-limits P a .log-few)
+  forms-fit complete = no-forms _ (lim .log-few)
   forms-fit neither-above =
-      oldest-fits (length (P .symbols)) (run P .state .made) (length (run P .state .log)) (run P .state .waiting) (a .symbols-few)
-      (run-limits P a .log-few) (run-limits P a .waiting-fit)
-  forms-fit spent = no-forms _ (run-limits P a .log-few)
-  forms-fit too-large = no-forms _ (run-limits P a .log-few)
-  forms-fit rules-full = no-forms _ (run-limits P a .log-few)
-  forms-fit log-full = no-forms _ (run-limits P a .log-few)
+      oldest-fits n (f .state .made) (length (f .state .log)) (f .state .waiting) few
+      (lim .log-few) (lim .waiting-fit)
+  forms-fit spent = no-forms _ (lim .log-few)
+  forms-fit too-large = no-forms _ (lim .log-few)
+  forms-fit rules-full = no-forms _ (lim .log-few)
+  forms-fit log-full = no-forms _ (lim .log-few)
 
-  pub fields-fit : Every (FieldFits 242) (result-fields (run P))
+  pub fields-fit : Every (FieldFits 242) (result-fields f)
   unfolding result-fields
   fields-fit =
-      of-cons {x = record { tag = 0x10; contents = number-bytes 1 (end-number (run P .end)) }}
+      of-cons {x = record { tag = 0x10; contents = number-bytes 1 (end-number (f .end)) }}
       (record {
         tag-fits = omega arith;
-        contents-fit = number-bytes-bytes 1 (end-number (run P .end));
+        contents-fit = number-bytes-bytes 1 (end-number (f .end));
         length-fits = omega
-            (arith, length-number-bytes 1 (end-number (run P .end)));
+            (arith, length-number-bytes 1 (end-number (f .end)));
       })
-      (of-cons {x = record { tag = 0x11; contents = number-bytes 4 (run P .units) }}
-      (record { tag-fits = omega arith; contents-fit = number-bytes-bytes 4 (run P .units); length-fits = omega (arith, length-number-bytes 4 (run P .units)) })
+      (of-cons {x = record { tag = 0x11; contents = number-bytes 4 (f .units) }}
+      (record { tag-fits = omega arith; contents-fit = number-bytes-bytes 4 (f .units); length-fits = omega (arith, length-number-bytes 4 (f .units)) })
       (every-append
       (every-append
-      (rules-fit (length (P .symbols)) (run P .state .made) (a .symbols-few) (run P .state .rules) (run-limits P a .rules-fit))
-      (entries-fit (run P .state .log)))
-      (forms-fit (run P .end) .fit)))
+      (rules-fit n (f .state .made) few (f .state .rules) (lim .rules-fit))
+      (entries-fit (f .state .log)))
+      (forms-fit (f .end) .fit)))
 
   -- every byte of the result is one
-  pub result-is-bytes : Bytes (result-bytes (run P))
+  pub result-is-bytes : Bytes (result-bytes f)
   unfolding result-bytes
-  result-is-bytes = flat-bytes 242 (result-fields (run P)) fields-fit
+  result-is-bytes = flat-bytes 242 (result-fields f) fields-fit
 
   -- 4 for the end, 7 for the units, 245 a rule, 11 an entry, 243 for the oldest one waiting
-  pub result-length : length (result-bytes (run P)) ≤ most-result
+  pub result-length : length (result-bytes f) ≤ most-result
   unfolding result-bytes result-fields
   result-length =
-      let rules : List Field = map rule-field (run P .state .rules) in
-      let log : List Field = map entry-field (run P .state .log) in
-      let forms : List Field = forms-field (run P .end) (run P .state .waiting) in
-      let lim : Limits (length (P .symbols)) (run P .state) = run-limits P a in
-      let c1 = flat-cons (record { tag = 0x10; contents = number-bytes 1 (end-number (run P .end)) })
-      (record { tag = 0x11; contents = number-bytes 4 (run P .units) } ∷ (rules ++ log ++ forms)) in
-      let c2 = flat-cons (record { tag = 0x11; contents = number-bytes 4 (run P .units) }) (rules ++ log ++ forms) in
+      let rules : List Field = map rule-field (f .state .rules) in
+      let log : List Field = map entry-field (f .state .log) in
+      let forms : List Field = forms-field (f .end) (f .state .waiting) in
+      let c1 = flat-cons (record { tag = 0x10; contents = number-bytes 1 (end-number (f .end)) })
+      (record { tag = 0x11; contents = number-bytes 4 (f .units) } ∷ (rules ++ log ++ forms)) in
+      let c2 = flat-cons (record { tag = 0x11; contents = number-bytes 4 (f .units) }) (rules ++ log ++ forms) in
       let c3 = ap length (flatMap-append field-bytes (rules ++ log) forms) ∙ length-append (flat (rules ++ log)) (flat forms) in
       let c4 = ap length (flatMap-append field-bytes rules log) ∙ length-append (flat rules) (flat log) in
-      let r : length (flat rules) ≤ 245 * length (run P .state .rules) =
-      rules-length (run P .state .rules) (rules-fit (length (P .symbols)) (run P .state .made) (a .symbols-few) (run P .state .rules) (lim .rules-fit)) in
-      let l : length (flat log) ≡ 11 * length (run P .state .log) = entries-length (run P .state .log) in
-      let f : length (flat forms) + 11 * length (run P .state .log) ≤ 5875 = forms-fit (run P .end) .room in
-      let live : length (run P .state .rules) ≤ 32 = lim .live in
-      omega (arith, length-number-bytes 1 (end-number (run P .end)), length-number-bytes 4 (run P .units))
+      let r : length (flat rules) ≤ 245 * length (f .state .rules) =
+      rules-length (f .state .rules) (rules-fit n (f .state .made) few (f .state .rules) (lim .rules-fit)) in
+      let l : length (flat log) ≡ 11 * length (f .state .log) = entries-length (f .state .log) in
+      let m : length (flat forms) + 11 * length (f .state .log) ≤ 5875 = forms-fit (f .end) .room in
+      let live : length (f .state .rules) ≤ 32 = lim .live in
+      omega (arith, length-number-bytes 1 (end-number (f .end)), length-number-bytes 4 (f .units))

@@ -18,14 +18,14 @@ use Rattle.rewriting.specs.Overlap.{Rule}
 use Rattle.rewriting.specs.Rewrite.{End, neither-above, spent, too-large, rules-full, log-full, Paid, done, stop, return, end-with}
 use Rattle.rewriting.specs.Rewrite.{and-then, _>>=_, end-if, pay, normalise-pair, Paying}
 use Rattle.rewriting.proofs.Holds.{Holds, Pays, bind-holds, return-holds, and-then-assoc}
-use Rattle.problem.specs.Problem.{rank-of, Problem}
+use Rattle.problem.specs.Problem.{rank-of, Theory}
 use Rattle.completion.specs.Turn.{Candidate, State, Taken, if-different, scan-inputs, scan, take-pair, orient, kept, removed}
 use Rattle.completion.specs.Turn.{waits-again, if-oriented, make-rule, settled, end-if-all-put-back, turn}
 
 -- 1. "Pay a unit": with none left, the end is 21.
-pub turn-unpaid : (P : Problem) (s : State) → turn P s 0 ≡ stop spent 0
+pub turn-unpaid : (T : Theory) (s : State) → turn T s 0 ≡ stop spent 0
 unfolding turn _>>=_ and-then pay
-turn-unpaid P s = refl
+turn-unpaid T s = refl
 
 -- 1. "After all overlaps, normalise each input equation": one with equal forms costs its steps, and the next comes,
 pub scan-pays-input : (rules : List Rule) (c : Candidate) (cs : List Candidate) (forms : Pair) (units left : ℕ) →
@@ -42,16 +42,16 @@ unfolding scan scan-inputs _>>=_ and-then if-different if_then_else_ return
 scan-takes-input rules c cs forms units left h d = rw (h, d) refl
 
 -- Behind its unit: not every one waiting has been put back, and a pair is taken.
-abbrev pub taking : Problem → State → Paying Taken
-taking P s = end-if-all-put-back (s .waiting) (s .put-back) >>= λ _. take-pair P (s .rules) (s .waiting)
+abbrev pub taking : Theory → State → Paying Taken
+taking T s = end-if-all-put-back (s .waiting) (s .put-back) >>= λ _. take-pair T (s .rules) (s .waiting)
 
 -- Where none waits, or fewer were put back than wait, a pair is taken;
 abbrev pub MayTake : State → Type 0
 MayTake s = (length (s .waiting) ≡ 0) ⊎ (s .put-back < length (s .waiting))
 
-pub taking-on : (P : Problem) (s : State) (units : ℕ) → MayTake s → taking P s units ≡ take-pair P (s .rules) (s .waiting) units
+pub taking-on : (T : Theory) (s : State) (units : ℕ) → MayTake s → taking T s units ≡ take-pair T (s .rules) (s .waiting) units
 unfolding _>>=_
-taking-on P s units h = ap (λ p. and-then p (λ _. take-pair P (s .rules) (s .waiting))) (go (s .waiting) h) ∙ unfold and-then in refl
+taking-on T s units h = ap (λ p. and-then p (λ _. take-pair T (s .rules) (s .waiting))) (go (s .waiting) h) ∙ unfold and-then in refl
   where
     go : (cs : List Candidate) → (length cs ≡ 0) ⊎ (s .put-back < length cs) → end-if-all-put-back cs (s .put-back) units ≡ done tt units
     go [] h = unfold end-if-all-put-back return in refl
@@ -64,37 +64,37 @@ pub record AllPutBack (s : State) : Type 0 where
   pub some : 0 < length (s .waiting)
   pub all : length (s .waiting) ≤ s .put-back
 
-pub taking-ends : (P : Problem) (s : State) (units : ℕ) → AllPutBack s → taking P s units ≡ stop neither-above units
+pub taking-ends : (T : Theory) (s : State) (units : ℕ) → AllPutBack s → taking T s units ≡ stop neither-above units
 unfolding _>>=_
-taking-ends P s units h = ap (λ p. and-then p (λ _. take-pair P (s .rules) (s .waiting))) (go (s .waiting) (h .some) (h .all)) ∙ unfold and-then in refl
+taking-ends T s units h = ap (λ p. and-then p (λ _. take-pair T (s .rules) (s .waiting))) (go (s .waiting) (h .some) (h .all)) ∙ unfold and-then in refl
   where
     go : (cs : List Candidate) → 0 < length cs → length cs ≤ s .put-back → end-if-all-put-back cs (s .put-back) units ≡ stop neither-above units
     go [] h k = absurd (omega arith)
     go (c ∷ cs) h k = unfold end-if-all-put-back end-if end-with in rw (le-leb (suc (length cs)) (s .put-back) k) refl
 
 -- the rest of a turn
-abbrev pub behind-taking : Problem → State → Taken → Paying State
-behind-taking P s t =
-    end-if (leb 512 (length (s .log))) log-full >>= λ _. if same (t .pair .sides .left) (t .pair .sides .right) then return (settled s t) else make-rule P s t
+abbrev pub behind-taking : Theory → State → Taken → Paying State
+behind-taking T s t =
+    end-if (leb 512 (length (s .log))) log-full >>= λ _. if same (t .pair .sides .left) (t .pair .sides .right) then return (settled s t) else make-rule T s t
 
-pub turn-takes : (P : Problem) (s : State) (units : ℕ) → turn P s (suc units) ≡ and-then (taking P s units) (behind-taking P s)
+pub turn-takes : (T : Theory) (s : State) (units : ℕ) → turn T s (suc units) ≡ and-then (taking T s units) (behind-taking T s)
 unfolding turn _>>=_ pay and-then
-turn-takes P s units =
-    sym (and-then-assoc (end-if-all-put-back (s .waiting) (s .put-back) units) (λ _. take-pair P (s .rules) (s .waiting)) (behind-taking P s))
+turn-takes T s units =
+    sym (and-then-assoc (end-if-all-put-back (s .waiting) (s .put-back) units) (λ _. take-pair T (s .rules) (s .waiting)) (behind-taking T s))
 
 -- 2. "24 when a 513th log entry is due, at step 2 of the turn"
-pub turn-log-full : (P : Problem) (s : State) (units : ℕ) (t : Taken) (left : ℕ) → taking P s units ≡ done t left →
-    512 ≤ length (s .log) → turn P s (suc units) ≡ stop log-full left
-turn-log-full P s units t left h full = turn-takes P s units ∙ ap (λ p. and-then p (behind-taking P s)) h ∙ full-there
+pub turn-log-full : (T : Theory) (s : State) (units : ℕ) (t : Taken) (left : ℕ) → taking T s units ≡ done t left →
+    512 ≤ length (s .log) → turn T s (suc units) ≡ stop log-full left
+turn-log-full T s units t left h full = turn-takes T s units ∙ ap (λ p. and-then p (behind-taking T s)) h ∙ full-there
   where
-    full-there : and-then (done t left) (behind-taking P s) ≡ stop log-full left
+    full-there : and-then (done t left) (behind-taking T s) ≡ stop log-full left
     full-there = unfold and-then _>>=_ end-if end-with in rw (le-leb 512 (length (s .log)) full) refl
 
 -- 4. "An equation with neither side above now goes to the end of the waiting list"
-pub orient-neither : (P : Problem) (e : Pair) → above (rank-of (P .symbols)) (e .left) (e .right) ≡ false →
-    above (rank-of (P .symbols)) (e .right) (e .left) ≡ false → orient P e ≡ none
+pub orient-neither : (T : Theory) (e : Pair) → above (rank-of (T .symbols)) (e .left) (e .right) ≡ false →
+    above (rank-of (T .symbols)) (e .right) (e .left) ≡ false → orient T e ≡ none
 unfolding orient if_then_else_
-orient-neither P e a b = rw (a, b) refl
+orient-neither T e a b = rw (a, b) refl
 
 -- the new rule, and the state that it leads to
 abbrev pub new-rule : State → Pair → Rule
@@ -125,27 +125,27 @@ pub record Behind (before after : List Candidate) : Type 0 where
   pub others : List Candidate
   pub in-front : after ≡ before ++ others
 
-module _ (P : Problem) (s : State) (t : Taken) (units : ℕ) where
+module _ (T : Theory) (s : State) (t : Taken) (units : ℕ) where
   abbrev variables : ℕ
   variables = length (pair-variables (t .pair .sides))
 
   -- 4. "The taken pair has at most 16 different variables, else 22."
-  pub make-many-variables : 16 < variables → make-rule P s t units ≡ stop too-large units
+  pub make-many-variables : 16 < variables → make-rule T s t units ≡ stop too-large units
   unfolding make-rule _>>=_ and-then end-if end-with
   make-many-variables many = rw (lt-ltb 16 variables many) refl
 
   -- then by the new rule's sides, if there are such
-  pub make-oriented : variables ≤ 16 → make-rule P s t units ≡ if-oriented s t (orient P (t .pair .sides)) units
+  pub make-oriented : variables ≤ 16 → make-rule T s t units ≡ if-oriented s t (orient T (t .pair .sides)) units
   unfolding make-rule _>>=_ and-then end-if return
   make-oriented few = rw (le-ltb 16 variables few) refl
 
   -- 4. "An equation with neither side above now goes to the end of the waiting list as its two normal forms"
-  pub make-waits-again : variables ≤ 16 → orient P (t .pair .sides) ≡ none → make-rule P s t units ≡ done (waits-again s t) units
+  pub make-waits-again : variables ≤ 16 → orient T (t .pair .sides) ≡ none → make-rule T s t units ≡ done (waits-again s t) units
   make-waits-again few h = make-oriented few ∙ ap (λ o. if-oriented s t o units) h ∙ unfold if-oriented return in refl
 
   -- 6. "Over 32 live: 23."
-  pub make-many-rules : variables ≤ 16 → (sides : Pair) → orient P (t .pair .sides) ≡ some sides →
-      32 < suc (length (kept (new-rule s sides) (s .rules))) → make-rule P s t units ≡ stop rules-full units
+  pub make-many-rules : variables ≤ 16 → (sides : Pair) → orient T (t .pair .sides) ≡ some sides →
+      32 < suc (length (kept (new-rule s sides) (s .rules))) → make-rule T s t units ≡ stop rules-full units
   make-many-rules few sides h many = make-oriented few ∙ ap (λ o. if-oriented s t o units) h ∙ full
     where
       full : if-oriented s t (some sides) units ≡ stop rules-full units
@@ -161,6 +161,6 @@ oriented-waits s t (some sides) =
     bind-holds _ _ (anything _) λ rules _.
     return-holds _ (record { others = removed (new-rule s sides) (s .rules); in-front = refl })
 
-pub make-waits : (P : Problem) (s : State) (t : Taken) → Pays (λ (s′ : State). Behind (t .waiting) (s′ .waiting)) AnyEnd (make-rule P s t)
+pub make-waits : (T : Theory) (s : State) (t : Taken) → Pays (λ (s′ : State). Behind (t .waiting) (s′ .waiting)) AnyEnd (make-rule T s t)
 unfolding make-rule
-make-waits P s t = bind-holds _ _ (anything _) λ _ _. oriented-waits s t (orient P (t .pair .sides))
+make-waits T s t = bind-holds _ _ (anything _) λ _ _. oriented-waits s t (orient T (t .pair .sides))

@@ -10,7 +10,7 @@ use native.Mathlib.Omega.{arith}
 use lib.Dec.{ltb}
 use Rattle.terms.specs.Base.{if_then_else_}
 use Rattle.terms.specs.Term.{Term, size}
-use Rattle.problem.specs.Problem.{Problem}
+use Rattle.problem.specs.Problem.{Theory}
 use Rattle.rewriting.specs.Overlap.{Rule}
 use Rattle.rewriting.specs.Rewrite.{step, End, complete, neither-above, spent, too-large, rules-full, log-full, Paid, done, stop, Paying, return}
 use Rattle.rewriting.specs.Rewrite.{end-with, and-then, _>>=_, pay, normalise}
@@ -104,5 +104,5 @@ steady =
     }
 
 -- A turn that ends with another end than 21, or with a state, does so with more units, and leaves as many more.
-pub turn-steady : (P : Problem) (s : State) → Steady (turn P s)
-turn-steady P s = turn-lawful (λ A m. Steady m) steady P s
+pub turn-steady : (T : Theory) (s : State) → Steady (turn T s)
+turn-steady T s = turn-lawful (λ A m. Steady m) steady T s

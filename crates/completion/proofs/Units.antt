@@ -8,7 +8,7 @@ use Prim.Native.Nat.{ℕ, zero, suc, _≤_}
 use native.Mathlib.Omega.{arith}
 use Rattle.terms.specs.Base.{if_then_else_}
 use Rattle.terms.specs.Term.{Term}
-use Rattle.problem.specs.Problem.{Problem}
+use Rattle.problem.specs.Problem.{Theory}
 use Rattle.rewriting.specs.Overlap.{Rule}
 use Rattle.rewriting.specs.Rewrite.{step, End, Paid, done, stop, Paying, return, end-with, and-then, _>>=_, pay, normalise}
 use Rattle.completion.proofs.Lawful.{Lawful, rest-lawful}
@@ -74,6 +74,6 @@ fair =
     }
 
 -- "beginning a turn costs one unit"
-pub rest-of-turn : (P : Problem) (s : State) (left : ℕ) → left-of (turn P s (suc left)) ≤ left
+pub rest-of-turn : (T : Theory) (s : State) (left : ℕ) → left-of (turn T s (suc left)) ≤ left
 unfolding turn _>>=_ and-then pay Fair
-rest-of-turn P s left = rest-lawful (λ A m. Fair m) fair P s left
+rest-of-turn T s left = rest-lawful (λ A m. Fair m) fair T s left

@@ -19,7 +19,7 @@ use Rattle.rewriting.proofs.Relations
 use Rattle.rewriting.proofs.Relations.{Rules, Of, Star, Conv, ahead, back, Normal}
 use Rattle.rewriting.proofs.Order.{StepAt, step-at, at-step}
 use Rattle.rewriting.proofs.Stepping.{StepBy}
-use Rattle.problem.specs.Problem.{Symbol, Equation}
+use Rattle.problem.specs.Problem.{Symbol}
 use Rattle.completion.specs.Delivery.{Instance, AtNode, Step, Replacement, Many, stay, go}
 use Rattle.problem.specs.Over.{Over, OverAll}
 
@@ -44,12 +44,6 @@ item-of sides (x ∷ items) l r i =
 
 abbrev pub rule-sides : Rule → Pair
 rule-sides r = r .sides
-
-abbrev pub equation-pair : Equation → Pair
-equation-pair e = e .sides
-
-abbrev pub equation-sides : List Equation → List Pair
-equation-sides es = map (λ (e : Equation). e .sides) es
 
 -- Replacing an instance at a node is a step.
 pub node-step : (R : Rules) (Σ : List Symbol) (e : Pair) (u v s t : Term) → R (e .left) (e .right) → Instance Σ e u v → AtNode u v s t → Relations.Step R s t
@@ -90,12 +84,12 @@ turned u v s t a =
     let f : Found s (a .position) u = found s (a .position) u (a .there) in
     plug-node (f .c) v u t s (a .replaced ∙ f .replaced v) (f .whole)
 
-pub word-replacement : (Σ : List Symbol) (es : List Equation) (s t : Term) → Replacement Σ es s t → Conv (Relations.Step (Of (equation-sides es))) s t
+pub word-replacement : (Σ : List Symbol) (es : List Pair) (s t : Term) → Replacement Σ es s t → Conv (Relations.Step (Of es)) s t
 word-replacement Σ es s t w =
     ⊎-elim
-    (λ i. ahead (node-step _ Σ (w .equation .sides) (w .one) (w .other) s t (of-item equation-pair es (w .equation) (w .is-equation)) i
+    (λ i. ahead (node-step _ Σ (w .equation) (w .one) (w .other) s t (w .is-equation) i
     (w .at-node)) Relations.same)
-    (λ i. back (node-step _ Σ (w .equation .sides) (w .other) (w .one) t s (of-item equation-pair es (w .equation) (w .is-equation)) i
+    (λ i. back (node-step _ Σ (w .equation) (w .other) (w .one) t s (w .is-equation) i
     (turned _ _ s t (w .at-node))) Relations.same)
     (w .instance)
 

@@ -3,13 +3,13 @@
 use mathlib.Core.Path.{_≡_}
 use mathlib.Core.List.{List}
 use mathlib.Core.Logic.{_↔_}
-use Rattle.terms.specs.Term.{Term}
-use Rattle.problem.specs.Problem.{Symbol, Equation}
+use Rattle.terms.specs.Term.{Term, Pair}
+use Rattle.problem.specs.Problem.{Symbol}
 use Rattle.rewriting.specs.Overlap.{Rule}
 use Rattle.completion.specs.Delivery.{Step, Replacement, Many, Ends, Last}
 use Rattle.problem.specs.Over.{Over}
 
-pub record Decides (Σ : List Symbol) (equations : List Equation) (rules : List Rule) : Type 0 where
+pub record Decides (Σ : List Symbol) (equations : List Pair) (rules : List Rule) : Type 0 where
   -- rewriting ends, whichever rules and nodes are chosen
   pub ends : Ends Σ rules
   -- last terms are unique: a term has one, it has no other, and every way leads on to it

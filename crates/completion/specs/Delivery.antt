@@ -5,7 +5,7 @@ use mathlib.Core.Logic.{_⊎_}
 use mathlib.Core.Option.{some}
 use Prim.Native.Nat.{ℕ, suc}
 use Rattle.terms.specs.Term.{Term, Pair, subst-term, subterm-at, replace-at}
-use Rattle.problem.specs.Problem.{Symbol, Equation}
+use Rattle.problem.specs.Problem.{Symbol}
 use Rattle.problem.specs.Over.{Over}
 use Rattle.rewriting.specs.Overlap.{Rule}
 
@@ -32,12 +32,12 @@ pub record Step (Σ : List Symbol) (rules : List Rule) (s t : Term) : Type 0 whe
   pub at-node : AtNode redex contractum s t
 
 -- "Replacement of equals by equals: at any node, one side of an equation's instance by the other, in either direction." [14.9]
-pub record Replacement (Σ : List Symbol) (equations : List Equation) (s t : Term) : Type 0 where
-  pub equation : Equation
+pub record Replacement (Σ : List Symbol) (equations : List Pair) (s t : Term) : Type 0 where
+  pub equation : Pair
   pub is-equation : List·Memᴰ equation equations
   pub one : Term
   pub other : Term
-  pub instance : Instance Σ (equation .sides) one other ⊎ Instance Σ (equation .sides) other one
+  pub instance : Instance Σ equation one other ⊎ Instance Σ equation other one
   pub at-node : AtNode one other s t
 
 -- "finitely many steps, none included" [14.8, 14.9]

@@ -9,11 +9,11 @@ use Prim.Native.Nat.{ℕ, zero, suc}
 use lib.Dec.{eqb, ltb}
 use lib.ListN.{length}
 use Rattle.terms.specs.Base.{if_then_else_, number-from, Field}
-use Rattle.problem.specs.Problem.{Reading, ok, refused, _>>=_, refuse-if, read-field, read-term, Symbol, rank-of, Problem, parse}
+use Rattle.problem.specs.Problem.{Reading, ok, refused, _>>=_, refuse-if, read-field, read-term, Symbol, rank-of, Theory, Problem, theory, parse}
 use Rattle.problem.specs.Stops.{cut-field, wrong-term}
 use Rattle.rewriting.specs.Overlap.{Rule, sides-of}
 use Rattle.rewriting.specs.Rewrite.{complete}
-use Rattle.completion.specs.Turn.{run}
+use Rattle.completion.specs.Turn.{Finished, run}
 use Rattle.completion.specs.Keeps.{Keeps}
 use Rattle.completion.specs.Decides.{Decides}
 use Rattle.completion.specs.Transitions.{Properly, _⨾_, Derivation}
@@ -62,28 +62,27 @@ rules-in Σ (f ∷ fs) =
     let here : Reading (List Rule) = rule-of Σ (f .contents) >>= λ r. later >>= λ rs. ok (r ∷ rs) in
     if eqb (f .tag) 0x12 then here else later
 
--- What the result of an accepted problem holds [14.1 to 14.3, 14.12].
-pub record Promise (P : Problem) (result : List ℕ) : Type 0 where
+-- What a result holds that turns of a theory leave, f being what they leave [14.1 to 14.3, 14.12].
+pub record Promise (T : Theory) (f : Finished) (result : List ℕ) : Type 0 where
   pub fields : List Field
   pub are-fields : fields-of result ≡ ok fields
   -- "field 10 of the result it writes holds 0, which is so exactly when the turns defined above end with 0 for that problem"
-  pub exactly : (end-in fields ≡ some 0) ↔ (run P .end ≡ complete)
+  pub exactly : (end-in fields ≡ some 0) ↔ (f .end ≡ complete)
   -- "Its rules are the fields 12, each rewriting its left side to its right"; "its symbols .. are those of the problem's tag 01"
   pub rules : List Rule
-  pub are-rules : rules-in (P .symbols) fields ≡ ok rules
+  pub are-rules : rules-in (T .symbols) fields ≡ ok rules
   -- "and are the live rules, each once, as those turns leave them"
-  pub are-live : rules ≡ run P .state .rules
+  pub are-live : rules ≡ f .state .rules
   -- what the turns leave, and so the result, keeps document 01's limits, is renamed, and its rules go down [14.12]
-  pub keeps : Keeps (P .symbols) (run P)
+  pub keeps : Keeps (T .symbols) f
   -- "A rule set is delivered as complete when complete accepts a problem and field 10 of the result it writes holds 0";
   -- "the buyer's equations are its fields of tag 03"
-  pub decide : end-in fields ≡ some 0 → Decides (P .symbols) (P .equations) rules
-  -- Demand 2: by the six transitions the problem's equations lead to the rules of the fields 12, with what the turns left waiting; with end 0 to these
-  -- rules alone, and no equation.
-  pub derived : Derivation (rank-of (P .symbols)) Properly (given P)
-      (together (rank-of (P .symbols)) rules (run P .state .waiting))
-  pub derived-alone : end-in fields ≡ some 0 → Derivation (rank-of (P .symbols)) Properly (given P) ([] ⨾ sides-of rules)
+  pub decide : end-in fields ≡ some 0 → Decides (T .symbols) (T .equations) rules
+  -- Demand 2: by the six transitions the equations lead to the rules of the fields 12, with what the turns left waiting; with end 0 to these rules
+  -- alone, and no equation.
+  pub derived : Derivation (rank-of (T .symbols)) Properly (given T) (together (rank-of (T .symbols)) rules (f .state .waiting))
+  pub derived-alone : end-in fields ≡ some 0 → Derivation (rank-of (T .symbols)) Properly (given T) ([] ⨾ sides-of rules)
 
--- "Demand 3, the delivery theorem, is a promise of complete about the bytes it takes and leaves." [14.11]
+-- "Demand 3, the delivery theorem, is a promise of complete about the bytes it takes and leaves": of the problem's theory and its run. [14.11]
 unfoldable pub Delivers : List ℕ → List ℕ → Type 0
-Delivers problem result = (P : Problem) → parse problem ≡ ok P → Promise P result
+Delivers problem result = (P : Problem) → parse problem ≡ ok P → Promise (theory P) (run P) result

@@ -5,12 +5,12 @@
 -- A pair of kind 3, an input at the scan, is no Deduce; none is ever taken (proofs/Published: `scan-takes-overlap`).
 -- Read first: specs/Turn, specs/Transitions.
 use mathlib.Core.Bool.{Bool, true, false, _&&_}
-use mathlib.Core.List.{List, [], _∷_, _++_, map}
+use mathlib.Core.List.{List, [], _∷_, _++_}
 use Prim.Native.Nat.{ℕ}
 use Rattle.terms.specs.Base.{if_then_else_}
 use Rattle.terms.specs.Term.{Pair}
 use Rattle.order.specs.Order.{above}
-use Rattle.problem.specs.Problem.{Equation, Problem}
+use Rattle.problem.specs.Problem.{Theory}
 use Rattle.rewriting.specs.Overlap.{Rule, sides-of}
 use Rattle.completion.specs.Turn.{Origin, waiting-input, removed-rule, scanned-input, overlapping, Candidate, State}
 use Rattle.completion.specs.Transitions.{System, _⨾_}
@@ -46,6 +46,6 @@ together rank rules waiting = waiting-equations rank waiting ⨾ sides-of rules 
 abbrev pub system-of : (ℕ → ℕ) → State → System
 system-of rank s = together rank (s .rules) (s .waiting)
 
--- the input equations, and no rule
-abbrev pub given : Problem → System
-given P = map (λ (e : Equation). e .sides) (P .equations) ⨾ []
+-- the equations of a theory, and no rule
+abbrev pub given : Theory → System
+given T = T .equations ⨾ []

@@ -9,7 +9,7 @@ use lib.ListN.{length}
 use Rattle.limits.specs.Limits.{most-variables, most-rules, most-entries}
 use Rattle.terms.specs.Base.{if_then_else_, is-some}
 use Rattle.terms.specs.Term.{Pair, same, pair-variables, renamed}
-use Rattle.problem.specs.Problem.{rank-of, Equation, Problem}
+use Rattle.problem.specs.Problem.{rank-of, Theory, Problem, theory}
 use Rattle.order.specs.Order.{above}
 use Rattle.rewriting.specs.Overlap.{Rule, Overlap, overlap, Place, all-places}
 use Rattle.rewriting.specs.Rewrite.{step, End, complete, neither-above, spent, too-large, rules-full, log-full, done, stop, Paying, return, end-with}
@@ -49,13 +49,13 @@ pub record State : Type 0 where
   pub put-back : ℕ
 
 -- "Equations are numbered from 1." "Every equation and rule held is so renamed." [2.11, 3.8]
-unfoldable pub candidates : (ℕ → Origin) → ℕ → List Equation → List Candidate
+unfoldable pub candidates : (ℕ → Origin) → ℕ → List Pair → List Candidate
 candidates origin n [] = []
-candidates origin n (e ∷ es) = record { origin = origin n; sides = renamed (e .sides) } ∷ candidates origin (suc n) es
+candidates origin n (e ∷ es) = record { origin = origin n; sides = renamed e } ∷ candidates origin (suc n) es
 
 -- "the waiting list (at first the equations in order)" [8.3, 8.4]
-unfoldable pub initial : Problem → State
-initial P = record { rules = []; made = 0; waiting = candidates waiting-input 1 (P .equations); log = []; put-back = 0 }
+unfoldable pub initial : Theory → State
+initial T = record { rules = []; made = 0; waiting = candidates waiting-input 1 (T .equations); log = []; put-back = 0 }
 
 -- Step 1, the scan. "Test the size of the peak, of the left, of the right, then normalise left, then right."
 -- "Every equation and rule held is so renamed": the pair is renamed first, so no answer depends on which most general unifier was found.
@@ -99,19 +99,19 @@ pub record Taken : Type 0 where
   pub waiting : List Candidate
 
 -- Step 1. "Take the oldest waiting equation and normalise left, then right. If none waits, scan." [9.2, 9.3]
-unfoldable pub take-pair : Problem → List Rule → List Candidate → Paying Taken
-take-pair P rules [] = do
-  c ← scan rules (candidates scanned-input 1 (P .equations)) (all-places [] rules)
+unfoldable pub take-pair : Theory → List Rule → List Candidate → Paying Taken
+take-pair T rules [] = do
+  c ← scan rules (candidates scanned-input 1 (T .equations)) (all-places [] rules)
   return (record { pair = c; waiting = [] })
-take-pair P rules (c ∷ waiting) = do
+take-pair T rules (c ∷ waiting) = do
   forms ← normalise-pair rules (c .sides)
   return (record { pair = record { origin = c .origin; sides = forms }; waiting = waiting })
 
 -- Step 5. "The upper side becomes a new rule's left side." None: neither side is above. [9.12]
-unfoldable pub orient : Problem → Pair → Option Pair
-orient P e =
-    if above (rank-of (P .symbols)) (e .left) (e .right) then some (renamed e)
-    else if above (rank-of (P .symbols)) (e .right) (e .left) then some (renamed (record { left = e .right; right = e .left }))
+unfoldable pub orient : Theory → Pair → Option Pair
+orient T e =
+    if above (rank-of (T .symbols)) (e .left) (e .right) then some (renamed e)
+    else if above (rank-of (T .symbols)) (e .right) (e .left) then some (renamed (record { left = e .right; right = e .left }))
     else none
 
 -- Step 6. "whose left side the new rule rewrites" [9.13]
@@ -168,10 +168,10 @@ if-oriented s t (some sides) = do
   })
 
 -- Steps 4 to 7. "The taken pair has at most 16 different variables, else 22." [9.10]
-unfoldable pub make-rule : Problem → State → Taken → Paying State
-make-rule P s t = do
+unfoldable pub make-rule : Theory → State → Taken → Paying State
+make-rule T s t = do
   _ ← end-if (ltb most-variables (length (pair-variables (t .pair .sides)))) too-large
-  if-oriented s t (orient P (t .pair .sides))
+  if-oriented s t (orient T (t .pair .sides))
 
 -- Step 3. "Equal forms: entry, settled." [9.9]
 unfoldable pub settled : State → Taken → State
@@ -192,13 +192,13 @@ end-if-all-put-back (c ∷ waiting) put-back = end-if (leb (suc (length waiting)
 
 -- "A turn takes the run's state and hands back the next one." Step 1: "Pay a unit." Step 2: "24 when a 513th log entry is due".
 -- [8.5, 9.1, 9.8, 9.19]
-unfoldable pub turn : Problem → State → Paying State
-turn P s = do
+unfoldable pub turn : Theory → State → Paying State
+turn T s = do
   _ ← pay
   _ ← end-if-all-put-back (s .waiting) (s .put-back)
-  t ← take-pair P (s .rules) (s .waiting)
+  t ← take-pair T (s .rules) (s .waiting)
   _ ← end-if (leb most-entries (length (s .log))) log-full
-  if same (t .pair .sides .left) (t .pair .sides .right) then return (settled s t) else make-rule P s t
+  if same (t .pair .sides .left) (t .pair .sides .right) then return (settled s t) else make-rule T s t
 
 -- What a run leaves: its end, the units paid, and the rules and the log [8.7].
 pub record Finished : Type 0 where
@@ -206,16 +206,20 @@ pub record Finished : Type 0 where
   pub units : ℕ
   pub state : State
 
--- "A stop inside a turn leaves rules and log as at its beginning; the units count what was paid." [8.7]
--- Each turn pays a unit, so the first number, the turns, is one more than the budget.
-unfoldable pub turns : ℕ → Problem → State → ℕ → Finished
-turns zero P s left = record { end = spent; units = P .budget - left; state = s }
-turns (suc n) P s left =
-    elim (turn P s left) [
-      | done s′ left′ ↦ turns n P s′ left′
-      | stop e left′ ↦ record { end = e; units = P .budget - left′; state = s }
+-- "A stop inside a turn leaves rules and log as at its beginning; the units count what was paid": of a budget, of which so many units are left. [8.7]
+-- Each turn pays a unit, so one turn more than there are units left, the first number, is enough.
+unfoldable pub turns : ℕ → Theory → ℕ → State → ℕ → Finished
+turns zero T budget s left = record { end = spent; units = budget - left; state = s }
+turns (suc n) T budget s left =
+    elim (turn T s left) [
+      | done s′ left′ ↦ turns n T budget s′ left′
+      | stop e left′ ↦ record { end = e; units = budget - left′; state = s }
     ]
+
+-- turns from a state, with a budget of their own
+unfoldable pub run-from : Theory → State → ℕ → Finished
+run-from T s budget = turns (suc budget) T budget s budget
 
 -- turns from the first state, with the problem's budget [8.4]
 unfoldable pub run : Problem → Finished
-run P = turns (suc (P .budget)) P (initial P) (P .budget)
+run P = run-from (theory P) (initial (theory P)) (P .budget)

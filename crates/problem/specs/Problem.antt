@@ -1,7 +1,7 @@
 -- Document 01, "The problem's fields" and "Stops and what they leave", 2 to 12: a problem's bytes read front to back. Assumes nothing.
 -- Read first: reading/specs/Forms (a field, symbols, a term, a side, a pair).
 use mathlib.Core.Bool.{not, _||_}
-use mathlib.Core.List.{List, [], _∷_}
+use mathlib.Core.List.{List, [], _∷_, map}
 use Prim.Native.Nat.{ℕ, zero, suc, _+_, _%_, _*_}
 use lib.Dec.{eqb, ltb}
 use lib.ListN.{length}
@@ -60,10 +60,22 @@ equation-fields Σ (suc more) at (b ∷ bytes) = do
   es ← equation-fields Σ more (f .end) (f .rest)
   ok (e ∷ es)
 
+-- What a run is of: symbols and equations between terms over them.
+pub record Theory : Type 0 where
+  pub symbols : List Symbol
+  pub equations : List Pair
+
 pub record Problem : Type 0 where
   pub symbols : List Symbol
   pub budget : ℕ
   pub equations : List Equation
+
+-- A problem's theory: neither its budget, nor where its equations stand in its bytes.
+abbrev pub sides-all : List Equation → List Pair
+sides-all es = map (λ (e : Equation). e .sides) es
+
+abbrev pub theory : Problem → Theory
+theory P = record { symbols = P .symbols; equations = sides-all (P .equations) }
 
 -- 2: "problem over 8,192 bytes", place 8,192. "Order: 1, 2, then front to back through the problem." [3.2, 3.9, 4.2, 4.15]
 unfoldable pub parse : List ℕ → Reading Problem
