@@ -9,7 +9,7 @@ use Rattle.problem.specs.Problem.{Reading, ok, refused}
 use Rattle.completion.specs.Calls.{Part}
 use Rattle.completion.specs.Promise.{Delivers}
 use Rattle.decide.specs.Decide.{Answer, are-same, are-different, numbered}
-use Rattle.decide.specs.Answers.{EngineWrote, Leads}
+use Rattle.decide.specs.Answers.{WroteFor, Leads}
 use Rattle.lower.specs.declared.Which.{Which}
 use Rattle.lower.specs.declared.Which.the-variants.{First, Second, Neither}
 use Rattle.calls.specs.Answers.{Returned, bytes-written, none-common, number-only, number-and-place}
@@ -71,5 +71,5 @@ CodeDelivers problem result r = kind-in r ≡ 1 → Delivers problem (take (valu
 -- What decide's answer is right about, for C: of a record that complete wrote for a problem with the same symbol field, where the kind is 1, the value
 -- is 1 exactly if that problem's equations lead from one side to the other, and 2 exactly if they do not. [15.7]
 pub record CodeDecides (problem kept : List ℕ) (r : ℕ) : Type 0 where
-  pub exactly : (w : EngineWrote problem kept) → kind-in r ≡ 1 →
+  pub exactly : (w : WroteFor problem kept) → kind-in r ≡ 1 →
       ((value-in r ≡ 1) ↔ Leads (w .theory) (w .asked)) × ((value-in r ≡ 2) ↔ (Leads (w .theory) (w .asked) → ⊥))

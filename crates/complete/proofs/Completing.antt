@@ -1,23 +1,25 @@
 -- The call complete from the promises of its parts: the run's result, an accepted problem, and the three answers. Assumes nothing.
--- Read first: specs/Answer, completion/specs/Calls (complete-call, after-complete), run/specs/Runs (Runs, RanIs), proofs/Delivering.
-use mathlib.Core.Path.{_≡_, refl, sym, ap, _∙_}
+-- Read first: specs/Answer, completion/specs/Calls (complete-call, after-complete), run/specs/Runs (Runs), state/specs/Run (Leaves), proofs/Delivering.
+use mathlib.Core.Path.{_≡_, refl, sym, ap, _∙_, subst}
 use mathlib.Core.List.{List}
 use Prim.Native.Nat.{ℕ, _-_, _<_, _≤_}
 use native.Mathlib.Omega.{arith}
-use lib.ListN.{length, take, drop}
+use lib.ListN.{length, take, drop, length-map}
 use borrow.Author.Tests.{lt-ltb}
 use Rattle.limits.specs.Limits.{most-equations, most-budget, least-buffer}
 use Rattle.order.specs.Walk.{rank}
-use Rattle.problem.specs.Problem.{Reading, ok, refused, _>>=_, refuse-if, rank-of, Problem, parse}
+use Rattle.problem.specs.Problem.{Reading, ok, refused, _>>=_, refuse-if, rank-of, Equation, Problem, theory, parse}
 use Rattle.problem.specs.Parser.{ParsedAt}
-use Rattle.completion.specs.Turn.{run}
+use Rattle.completion.specs.Turn.{initial, run-from, run}
 use Rattle.completion.specs.Calls.{result-bytes, enough, complete-call, after-complete, Writes}
 use Rattle.report.specs.Report.{Reports}
-use Rattle.completion.proofs.Accepts.{accepts}
+use Rattle.completion.proofs.Accepts.{accepts, budget-accepted}
 use Rattle.completion.proofs.Ranks.{ranks-are}
 use Rattle.completion.proofs.Writing.{complete-is}
 use Rattle.slots.specs.declared.Pairs.{Pairs}
 use Rattle.inputs.specs.Inputs.{InputsRead}
+use Rattle.inputs.proofs.Fields.{problem-fields}
+use Rattle.state.specs.Run.{Leaves}
 use Rattle.run.specs.Runs.{Runs}
 use Rattle.run.specs.declared.Ran.{Ran}
 use Rattle.complete.specs.Answer.{completed-told, counted, Delivery, WritesProblem}
@@ -26,12 +28,17 @@ use Rattle.complete.specs.declared.Completed.the-variants.{Written, Refu
 use Rattle.complete.proofs.Delivering.{delivery}
 
 -- `accepted`
-pub accepted-run : (l : List ℕ) (e b at n : ℕ) (inputs : Pairs) (before after : List ℕ) (o : Ran) (r : ℕ) → InputsRead l e at n inputs →
-    Runs (take (e - 3) (drop 3 l)) inputs b o → Reports o before after r → WritesProblem l e b at n before after r
+pub accepted-run : (l : List ℕ) (e b at n : ℕ) (inputs : Pairs) (before after : List ℕ) (o : Ran) (r : ℕ) →
+    InputsRead (take (e - 3) (drop 3 l)) l at n inputs → Runs (take (e - 3) (drop 3 l)) inputs b o →
+    Reports (o .state) (o .end) (o .paid) before after r → WritesProblem l e b at n before after r
+unfolding run
 accepted-run l e b at n inputs before after o r I R W P A =
     let tab : List ℕ = take (e - 3) (drop 3 l) in
     let ranks : rank-of (P .symbols) ≡ rank tab = ap rank-of (A .symbols-are) ∙ ranks-are tab (A .table .table) in
-    W .writes tab (run P) (R .answer P ranks (I .held b P A) (sym (A .budget-is)))
+    let f = problem-fields l e b at n P A in
+    W .writes tab (run P)
+    (subst (λ k. Leaves tab (run-from (theory P) (initial (theory P)) k) (o .state) (o .end) (o .paid)) (sym (A .budget-is))
+    (R .answer (theory P) (record { ranks = ranks; held = I .held (theory P .equations) (f .0) (f .1) })))
 
 pub record Needs (l : List ℕ) (e b n : ℕ) : Type 0 where
   pub low : 3 ≤ e
@@ -46,8 +53,8 @@ accepted-needs l e b at n (P, A) =
       low = omega (arith, A .table .low);
       within = A .table .within;
       small = omega (arith, A .small);
-      few = omega (arith, A .number, accepts l P (A .is) .equations-few);
-      budget = omega (arith, A .budget-is, accepts l P (A .is) .budget-few);
+      few = omega (arith, A .number, accepts l P (A .is) .equations-few, length-map (P .equations) (λ (e : Equation). e .sides));
+      budget = omega (arith, A .budget-is, budget-accepted l P (A .is));
     }
 
 -- `complete`

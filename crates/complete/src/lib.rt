@@ -26,13 +26,11 @@ fn accepted(
     requires { ⌜ (count ≤ most-equations) × (budget ≤ most-budget) × (most-result ≤ length (now result)) ⌝ }
     ensures { λ r. ⌜ WritesProblem (now (problem .entry)) «table_end» budget equations count (now (result .entry)) (now (result .exit)) r ⌝ }
 {
-    let inputs = inputs::read(problem, table_end, equations, count);
-    let ran = run::run(
-        inputs,
-        &problem[limits::FIELD_HEAD..table_end],
-        budget as u32,
-    );
-    report::report(ran, result)
+    let table = &problem[limits::FIELD_HEAD..table_end];
+    let inputs = inputs::read(problem, table, equations, count);
+    let ran = run::run(inputs, table, budget as u32);
+    let end = ran.end;
+    report::report(ran.state, end, ran.paid, result)
 }
 
 // Completion of the problem's equations. For every input the answer and the lent result bytes are the definition's (refused: every byte as it was;

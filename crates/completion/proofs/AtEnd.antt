@@ -1,6 +1,6 @@
 -- End 0 delivers: the rules that turns leave with `complete` have the certificate of `Certificate`, and decide the buyer's equations. Assumes nothing.
 -- Read first: specs/Decides, proofs/Ends (what each end says), proofs/Invariant (what rules keep), proofs/Certificate.
-use mathlib.Core.Path.{subst₂}
+use mathlib.Core.Path.{_≡_, refl, subst₂}
 use mathlib.Core.List.{List, [], _∷_}
 use Prim.Native.Nat.{ℕ, zero, suc, _<_}
 use native.Mathlib.Omega.{arith}
@@ -8,6 +8,7 @@ use lib.ListN.{length}
 use Rattle.terms.specs.Term.{Pair, renamed}
 use Rattle.terms.proofs.Rename.{renamed-back}
 use Rattle.terms.specs.Base.{Every, of-cons}
+use Rattle.terms.proofs.Shape.{zero≢one}
 use Rattle.rewriting.specs.Overlap.{Rule, sides-of}
 use Rattle.rewriting.proofs.Relations.{Join, Rules, Step, Of}
 use Rattle.rewriting.proofs.Steps.{join-subst}
@@ -17,13 +18,15 @@ use Rattle.rewriting.proofs.Overlaps.{OverlapsJoin}
 use Rattle.rewriting.proofs.Covers.{sides-at, all-places-cover}
 use Rattle.rewriting.proofs.Holds.{reached-star}
 use Rattle.problem.specs.Problem.{Theory}
-use Rattle.completion.specs.Turn.{Origin, scanned-input, candidates, State}
-use Rattle.completion.proofs.Ends.{SameForm, SameAt, OverlapsSame, SameCandidate, Certified}
-use Rattle.completion.proofs.Reachable.{Reachable}
+use Rattle.rewriting.specs.Rewrite.{End, complete, Paid, done, stop}
+use Rattle.completion.specs.Turn.{Origin, scanned-input, candidates, State, turn, turns}
+use Rattle.completion.specs.Decides.{Decides}
+use Rattle.completion.proofs.Ends.{SameForm, SameAt, OverlapsSame, SameCandidate, Certified, Because}
+use Rattle.completion.proofs.Reachable.{Reachable, by-turn, after}
 use Rattle.completion.proofs.Invariant.{Good, GoodRules, reachable-good}
 use Rattle.completion.proofs.Over.{OverEquations}
 use Rattle.completion.proofs.OverRun.{reachable-over}
-use Rattle.completion.proofs.Certificate.{Certificate}
+use Rattle.completion.proofs.Certificate.{Certificate, certificate-decides}
 
 -- A renamed pair joins, so the pair does.
 pub renamed-joins : (R : Rules) (e : Pair) → Join (Step R) (renamed e .left) (renamed e .right) → Join (Step R) (e .left) (e .right)
@@ -60,3 +63,30 @@ certified-certificate T given {s} r c =
       equations-join = inputs-join rules scanned-input 1 (T .equations) (c .inputs-same);
       overlaps-join = overlaps-same-join rules (c .overlaps);
     }
+
+-- So a state of a run in which a turn ends with 0 has rules that decide the equations.
+pub stop-delivered : (T : Theory) → OverEquations (T .symbols) (T .equations) → (s : State) → Reachable T s → (left left′ : ℕ) (e : End) →
+    turn T s left ≡ stop e left′ → e ≡ complete → Decides (T .symbols) (T .equations) (s .rules)
+unfolding Because
+stop-delivered T given s r left left′ e q d =
+    let h : Because T s e left′ = after T s left (stop e left′) q in
+    certificate-decides (T .symbols) (T .equations) (s .rules) (certified-certificate T given r (rw d at h))
+
+-- The delivery theorem of the turns, from any state of a run: where they end with 0, the rules that they leave decide the equations.
+module _ (T : Theory) (given : OverEquations (T .symbols) (T .equations)) (budget : ℕ) where
+  pub turns-delivered : (n : ℕ) (s : State) (left : ℕ) → Reachable T s → turns n T budget s left .end ≡ complete →
+      Decides (T .symbols) (T .equations) (turns n T budget s left .state .rules)
+  unfolding turns
+  turns-delivered zero s left r e = absurd (zero≢one (cc))
+  turns-delivered (suc n) s left r e = go (turn T s left) refl e (λ s′ left′ r′ e′. turns-delivered n s′ left′ r′ e′)
+    where
+      go : (p : Paid State) → turn T s left ≡ p → turns (suc n) T budget s left .end ≡ complete →
+          ((s′ : State) (left′ : ℕ) → Reachable T s′ → turns n T budget s′ left′ .end ≡ complete →
+          Decides (T .symbols) (T .equations) (turns n T budget s′ left′ .state .rules)) →
+          Decides (T .symbols) (T .equations) (turns (suc n) T budget s left .state .rules)
+      go (done s′ left′) q e ih =
+          let e′ : turns n T budget s′ left′ .end ≡ complete = rw (q, turns) at e in
+          rw (q, turns) (ih s′ left′ (by-turn left r q) e′)
+      go (stop end left′) q e ih =
+          let e′ : end ≡ complete = rw (q, turns) at e in
+          rw (q, turns) (stop-delivered T given s r left left′ end q e′)

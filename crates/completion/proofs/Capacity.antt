@@ -9,7 +9,7 @@ use lib.Dec.{ltb}
 use lib.ListN.{length, length-append}
 use borrow.Author.Tests.{ltb-false}
 use Rattle.limits.specs.Limits.{most-result}
-use Rattle.terms.specs.Base.{number-bytes, number-from}
+use Rattle.terms.specs.Base.{number-bytes, number-from, Every}
 use Rattle.terms.specs.Term.{pair-variables}
 use Rattle.terms.proofs.Limits.{made-vars, variables-few, Bytes}
 use Rattle.terms.proofs.Numerals.{number-back}
@@ -18,9 +18,9 @@ use Rattle.rewriting.specs.Overlap.{Rule, Overlap, overlap, Place, all-places}
 use Rattle.rewriting.specs.Rewrite.{End, complete, neither-above, spent, too-large, rules-full, log-full, done, end-number}
 use Rattle.rewriting.proofs.Limits.{OverlapMade, MaybeOverlap, overlap-made}
 use Rattle.rewriting.proofs.Holds.{Holds}
-use Rattle.problem.specs.Problem.{ok, Theory, theory}
+use Rattle.problem.specs.Problem.{ok, Theory, Problem, theory, parse}
 use Rattle.completion.specs.Turn.{Candidate, Entry, State, Taken, take-pair, kept, removed, Finished, run}
-use Rattle.completion.specs.Calls.{result-bytes, enough, complete-call}
+use Rattle.completion.specs.Calls.{result-fields, result-bytes, enough, complete-call}
 use Rattle.problem.proofs.Reading.{from-bind, passed}
 use Rattle.completion.proofs.Limits.{CandidateFits, RuleFits, EntryFits, Limits, Accepted}
 use Rattle.completion.proofs.Kept.{PlaceFits, all-places-fit, kept-removed, TakenFits, reachable-limits}
@@ -30,7 +30,8 @@ use Rattle.completion.proofs.Traced.{takes}
 use Rattle.completion.proofs.Reachable.{Reachable}
 use Rattle.completion.proofs.Stopped.{Stopped, run-stops, units-within}
 use Rattle.completion.proofs.Accepts.{accepts, budget-accepted}
-use Rattle.completion.proofs.Result.{result-length, result-is-bytes}
+use Rattle.completion.proofs.Widths.{FieldFits}
+use Rattle.completion.proofs.Result.{fields-fit, result-length, result-is-bytes}
 
 module _ (T : Theory) (accepted : Accepted T) where
   abbrev symbols : ℕ
@@ -107,6 +108,11 @@ module _ (T : Theory) (accepted : Accepted T) where
 
     pub result-bytes-fit : Bytes (result-bytes f)
     result-bytes-fit = result-is-bytes symbols (accepted .symbols-few) f (state-limits (h .reachable))
+
+pub problem-fields-fit : (bytes : List ℕ) (P : Problem) → parse bytes ≡ ok P → Every (FieldFits 242) (result-fields (run P))
+problem-fields-fit bytes P b =
+    let a = accepts bytes P b in
+    fields-fit (length (P .symbols)) (a .symbols-few) (run P) (state-limits (theory P) a (run-stops P .reachable))
 
 -- What complete writes, if it does not refuse: bytes, and fewer than its buffer holds.
 pub record WritesWithin (buffer : ℕ) (r : List ℕ) : Type 0 where

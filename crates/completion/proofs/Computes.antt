@@ -16,7 +16,7 @@ unfoldable pub computes : Unit {0}
 unfolding flatMap Base.if_then_else_ Base.mapped Base.or-else Base.is-some Base.number-bytes Base.number-from Base.field-bytes Base.count-from
     Base.member Base.without Base.distinct Base.place-in Term.term-bytes Term.terms-bytes Term.size Term.sizes Term.variables Term.variables-of
     Term.same Term.sames Term.subst-term Term.subst-terms Term.subterm-at Term.subterm-in Term.replace-at Term.replace-in Term.pair-variables
-    Term.renamed Problem._>>=_ Problem.refuse-if Problem.read-field Problem.due Problem.arity-of Problem.rank-of Problem.read-symbols
+    Term.renamed Problem._>>=_ Problem.refuse-if Problem.read-field Problem.due Problem.has Problem.arity-of Problem.rank-of Problem.read-symbols
     Problem.symbol-field Problem.budget-field Problem.byte-of Problem.read-terms Problem.read-term Problem.read-side Problem.read-pair
     Problem.equation-field Problem.equation-fields Problem.parse Problem.only-equation Order.by-clauses Order.by-clauses-all Order.above
     Order.some-reaches Order.first-above

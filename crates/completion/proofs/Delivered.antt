@@ -8,11 +8,9 @@ use Rattle.rewriting.specs.Rewrite.{complete}
 use Rattle.completion.specs.Turn.{Finished}
 use Rattle.completion.specs.Decides.{Decides}
 use Rattle.completion.proofs.Over.{OverEquations}
-use Rattle.completion.proofs.Certificate.{certificate-decides}
-use Rattle.completion.proofs.Stopped.{Stopped, run-complete}
-use Rattle.completion.proofs.AtEnd.{certified-certificate}
+use Rattle.completion.proofs.Stopped.{Stopped}
+use Rattle.completion.proofs.AtEnd.{stop-delivered}
 
 pub delivered : (T : Theory) → OverEquations (T .symbols) (T .equations) → {budget : ℕ} {f : Finished} → Stopped T budget f → f .end ≡ complete →
     Decides (T .symbols) (T .equations) (f .state .rules)
-delivered T given {budget} {f} h e =
-    certificate-decides (T .symbols) (T .equations) (f .state .rules) (certified-certificate T given (h .reachable) (run-complete h e))
+delivered T given {budget} {f} h e = stop-delivered T given (f .state) (h .reachable) (h .left) (h .left-over) (f .end) (h .stops) e

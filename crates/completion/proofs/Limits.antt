@@ -17,6 +17,7 @@ use Rattle.terms.specs.Base.{Every, of-none, of-cons}
 use Rattle.rewriting.specs.Overlap.{Rule}
 use Rattle.problem.specs.Problem.{Symbol, Theory}
 use Rattle.problem.specs.Over.{Over, OverAll}
+use Rattle.problem.proofs.Reading.{has-below}
 use Rattle.completion.proofs.Over.{OverPair, OverEquations}
 use Rattle.completion.specs.Turn.{Origin, waiting-input, removed-rule, scanned-input, overlapping, Candidate, made-put-back, Entry, State, candidates}
 use Rattle.completion.specs.Turn.{initial}
@@ -136,7 +137,7 @@ module _ (Σ : List Symbol) (X : ℕ → Type 0) where
 
     over-made : (t : Term) → Over Σ t → VarsIn X t → Made (λ f. f < length Σ) X t
     over-made (var x) o k = k x (List·Memᴰ·head refl)
-    over-made (node f ts) o k = (o .0, over-made-all ts (o .2) k)
+    over-made (node f ts) o k = (has-below Σ f (o .0), over-made-all ts (o .2) k)
 
     over-made-all : (ts : Terms) → OverAll Σ ts → ((x : ℕ) → In x (variables-of ts) → X x) → MadeAll (λ f. f < length Σ) X ts
     over-made-all nil o k = tt

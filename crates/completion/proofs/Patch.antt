@@ -4,24 +4,23 @@
 use mathlib.Core.Path.{_≡_, refl, sym, _∙_, ap, ap₂}
 use mathlib.Core.Bool.{Bool, true, false, _&&_}
 use mathlib.Core.List.{List}
-use Prim.Native.Nat.{ℕ, suc, _<_}
-use lib.Dec.{eqb, ltb}
-use lib.ListN.{length}
+use Prim.Native.Nat.{ℕ, suc}
+use lib.Dec.{eqb}
 use Rattle.terms.specs.Base.{if_then_else_}
 use Rattle.terms.specs.Term.{Term, Terms, var, node, nil, cons, subst-term, subst-terms, count}
-use Rattle.terms.proofs.Shape.{Says, Decides, dec-says, dec-and, ltb-dec, eqb-dec}
+use Rattle.terms.proofs.Shape.{Says, Decides, dec-says, dec-and, eqb-dec}
 use Rattle.terms.proofs.Subst.{Subst, count-subst}
 use Rattle.terms.proofs.Context.{Ctx, Ctxs, hole, beneath, first, later, plug, plugs}
-use Rattle.problem.specs.Problem.{Symbol, arity-of}
+use Rattle.problem.specs.Problem.{Symbol, has, Has, arity-of}
 use Rattle.problem.specs.Over.{Over, OverAll}
 use Rattle.completion.proofs.Over.{count-plugs}
 
 -- a known symbol with so many arguments as its arity
 abbrev proper : List Symbol → ℕ → ℕ → Bool
-proper Σ f n = ltb f (length Σ) && eqb n (arity-of Σ f)
+proper Σ f n = has Σ f && eqb n (arity-of Σ f)
 
-proper-dec : (Σ : List Symbol) (f n : ℕ) → Decides (proper Σ f n) ((f < length Σ) × (n ≡ arity-of Σ f))
-proper-dec Σ f n = dec-and (ltb-dec f (length Σ)) (eqb-dec n (arity-of Σ f))
+proper-dec : (Σ : List Symbol) (f n : ℕ) → Decides (proper Σ f n) (Has Σ f × (n ≡ arity-of Σ f))
+proper-dec Σ f n = dec-and (λ h. h, λ h. h) (eqb-dec n (arity-of Σ f))
 
 module _ (Σ : List Symbol) where
   shape : ℕ → ℕ → Terms → Term
@@ -36,7 +35,7 @@ module _ (Σ : List Symbol) where
     patches nil = nil
     patches (cons t ts) = cons (patch t) (patches ts)
 
-  shape-is : (f n : ℕ) (ts : Terms) → f < length Σ → n ≡ arity-of Σ f → shape f n ts ≡ node f ts
+  shape-is : (f n : ℕ) (ts : Terms) → Has Σ f → n ≡ arity-of Σ f → shape f n ts ≡ node f ts
   unfolding shape if_then_else_
   shape-is f n ts h e = rw (proper-dec Σ f n .1 (h, e)) refl
 
@@ -45,7 +44,7 @@ module _ (Σ : List Symbol) where
   count-patches nil = refl
   count-patches (cons t ts) = ap suc (count-patches ts)
 
-  shape-over : (f n : ℕ) (ts : Terms) → count ts ≡ n → OverAll Σ ts → (b : Bool) → Says ((f < length Σ) × (n ≡ arity-of Σ f)) b →
+  shape-over : (f n : ℕ) (ts : Terms) → count ts ≡ n → OverAll Σ ts → (b : Bool) → Says (Has Σ f × (n ≡ arity-of Σ f)) b →
       Over Σ (if b then node f ts else var 0)
   unfolding Over if_then_else_
   shape-over f n ts c h true k = (k .0, c ∙ k .1, h)

@@ -1,6 +1,6 @@
 -- A record that complete wrote for the same symbol field: "same" and "different" are right about the buyer's equations, 13 and 15 are not given, and
--- 14 exactly if the run did not end with 0. This rests on the promise of complete, and on nothing else of a run. Assumes nothing.
--- Read first: specs/Answers, proofs/Right, completion/specs/Promise, record/proofs/RoundTrip.
+-- 14 exactly if the run did not end with 0. This rests on what a reader of kept results knows (`Kept`), and on nothing else of a run. Assumes nothing.
+-- Read first: specs/Answers, proofs/Right, completion/proofs/Promised (Kept, engine-kept), record/proofs/RoundTrip.
 use mathlib.Core.Path.{_≡_, refl, sym, ap, ap₂, subst, subst₂, _∙_}
 use mathlib.Core.Bool.{Bool, true, false}
 use mathlib.Core.List.{List, [], _∷_}
@@ -11,23 +11,22 @@ use lib.Dec.{eqb}
 use Rattle.terms.specs.Term.{Term, Pair}
 use Rattle.terms.proofs.Shape.{zero≢one, Says}
 use Rattle.reading.specs.Stops.{wrong-record, not-complete, not-above}
-use Rattle.problem.specs.Problem.{Reading, ok, refused, _>>=_, refuse-if, Symbol, Problem}
-use Rattle.problem.proofs.Reading.{from-bind, ok-injective, no-ok}
+use Rattle.problem.specs.Problem.{Reading, ok, refused, _>>=_, refuse-if, Symbol, Theory}
+use Rattle.problem.proofs.Reading.{ok-injective, no-ok}
 use Rattle.rewriting.specs.Overlap.{Rule}
 use Rattle.rewriting.specs.Rewrite.{End, complete, neither-above, spent, too-large, rules-full, log-full, end-number, normalise-pair}
-use Rattle.completion.specs.Turn.{run}
-use Rattle.completion.specs.Calls.{result-bytes, complete-call, Single}
+use Rattle.completion.specs.Turn.{Finished}
+use Rattle.completion.specs.Calls.{Single}
 use Rattle.completion.specs.Keeps.{RulesKeep}
 use Rattle.completion.specs.Delivery.{Replacement, Many, Last}
 use Rattle.completion.specs.Decides.{Decides}
-use Rattle.completion.specs.Promise.{Promise, Delivers, end-in, rules-in}
-use Rattle.completion.proofs.Accepts.{accepts}
-use Rattle.completion.proofs.Promised.{promised}
+use Rattle.completion.specs.Promise.{Promise, end-in, rules-in}
+use Rattle.completion.proofs.Promised.{Kept, engine-kept}
 use Rattle.record.specs.Record.{RuleAt, rules-of, read-record}
 use Rattle.record.specs.Reader.{rules-at}
 use Rattle.record.proofs.RoundTrip.{record-back}
 use Rattle.decide.specs.Decide.{all-above, Question, read-question, Answer, are-same, are-different, answer, decide-call}
-use Rattle.decide.specs.Answers.{OneLast, TwoLasts, AboutRules, EngineWrote, Leads, AboutEquations, NotRefused}
+use Rattle.decide.specs.Answers.{OneLast, TwoLasts, AboutRules, WroteFor, Leads, AboutEquations, NotRefused}
 use Rattle.decide.proofs.Asked.{Asked, asked}
 use Rattle.decide.proofs.Right.{Told, Answered, answered, about-rules}
 
@@ -47,52 +46,57 @@ unfolding all-above rules-at RulesKeep _>>=_ refuse-if
 keep-above Σ at before [] h = refl
 keep-above Σ at before (r ∷ rules) h = rw (h .0 .down) (keep-above Σ _ (r .number) rules (h .1))
 
-module _ (problem kept : List ℕ) (w : EngineWrote problem kept) where
-  abbrev P : Problem
-  P = w .theory
+module _ (problem kept : List ℕ) (w : WroteFor problem kept) where
+  abbrev T : Theory
+  T = w .theory
+
+  abbrev f : Finished
+  f = w .left
 
   abbrev S : Single
   S = w .asked
 
-  promise : Promise P kept
-  unfolding Delivers
-  promise = promised (w .given) (w .buffer) kept (w .written) P (w .is-theory)
+  known : Kept T f kept
+  known = engine-kept (w .wrote)
+
+  promise : Promise T f kept
+  promise = known .promise
 
   -- the equations lead from one side to the other
   abbrev Led : List Symbol → Pair → Type 0
-  Led Σ e = Many (Replacement Σ (P .equations)) (e .left) (e .right)
+  Led Σ e = Many (Replacement Σ (T .equations)) (e .left) (e .right)
 
   module _ (q : Question) (k : Asked problem kept q) where
     single-is : k .single ≡ S
     single-is = ok-injective (sym (k .is-single) ∙ w .is-asked)
 
-    asked-symbols : q .symbols ≡ P .symbols
+    asked-symbols : q .symbols ≡ T .symbols
     asked-symbols = k .symbols-are ∙ ap (λ (S : Single). S .symbols) single-is ∙ sym (w .same-symbols)
 
     asked-sides : q .sides ≡ S .equation .sides
     asked-sides = k .sides-are ∙ ap (λ (S : Single). S .equation .sides) single-is
 
     -- The record's rules decide the equations of the problem that it was written for.
-    rules-decide : Decides (q .symbols) (P .equations) (q .rules)
+    rules-decide : Decides (q .symbols) (T .equations) (q .rules)
     rules-decide =
         let fields : promise .fields ≡ k .fields = ok-injective (sym (promise .are-fields) ∙ k .are-fields) in
-        let rules : promise .rules ≡ q .rules = ok-injective (sym (promise .are-rules) ∙ ap (λ fs. rules-in (P .symbols) fs) fields
+        let rules : promise .rules ≡ q .rules = ok-injective (sym (promise .are-rules) ∙ ap (λ fs. rules-in (T .symbols) fs) fields
         ∙ ap (λ Σ. rules-in Σ (k .fields)) (sym asked-symbols) ∙ k .rules-are) in
-        subst₂ (λ Σ rules. Decides Σ (P .equations) rules) (sym asked-symbols) rules (promise .decide (ap end-in fields ∙ k .end-zero))
+        subst₂ (λ Σ rules. Decides Σ (T .equations) rules) (sym asked-symbols) rules (promise .decide (ap end-in fields ∙ k .end-zero))
 
-    last-exactly : (u v : Term) → Last (q .symbols) (q .rules) (q .sides .left) u → Last (q .symbols) (q .rules) (q .sides .right) v → (u ≡ v) ↔ Leads P S
+    last-exactly : (u v : Term) → Last (q .symbols) (q .rules) (q .sides .left) u → Last (q .symbols) (q .rules) (q .sides .right) v → (u ≡ v) ↔ Leads T S
     last-exactly u v l r =
         let c = rules-decide .same-last (q .sides .left) (q .sides .right) u v (k .sides-over .0) (k .sides-over .1) l r in
         (λ e. subst₂ Led asked-symbols asked-sides (c .0 e), λ m. c .1 (subst₂ Led (sym asked-symbols) (sym asked-sides) m))
 
-  same-leads : decide-call problem kept ≡ ok are-same → Leads P S
+  same-leads : decide-call problem kept ≡ ok are-same → Leads T S
   unfolding Told
   same-leads h =
       let a : Answered problem kept are-same = answered problem kept are-same h in
       let t : OneLast (a .question) = a .is-told in
       last-exactly (a .question) (asked problem kept _ (a .is-question)) (t .term) (t .term) (t .left-last) (t .right-last) .0 refl
 
-  different-leads : decide-call problem kept ≡ ok are-different → Leads P S → ⊥
+  different-leads : decide-call problem kept ≡ ok are-different → Leads T S → ⊥
   unfolding Told
   different-leads h m =
       let a : Answered problem kept are-different = answered problem kept are-different h in
@@ -103,7 +107,7 @@ module _ (problem kept : List ℕ) (w : EngineWrote problem kept) where
   not-both h d = different-leads d (same-leads h)
 
   equations-exactly : (decide-call problem kept ≡ ok are-same) ⊎ (decide-call problem kept ≡ ok are-different) →
-      ((decide-call problem kept ≡ ok are-same) ↔ Leads P S) × ((decide-call problem kept ≡ ok are-different) ↔ (Leads P S → ⊥))
+      ((decide-call problem kept ≡ ok are-same) ↔ Leads T S) × ((decide-call problem kept ≡ ok are-different) ↔ (Leads T S → ⊥))
   equations-exactly h =
       ⊎-elim
       (λ e. ((λ _. same-leads e, λ _. e), (λ d. absurd (not-both e d), λ n. absurd (n (same-leads e)))))
@@ -111,39 +115,31 @@ module _ (problem kept : List ℕ) (w : EngineWrote problem kept) where
       h
 
   -- What the record is read as.
-  kept-is : kept ≡ result-bytes (run P)
-  unfolding complete-call
-  kept-is =
-      from-bind _ _ kept (w .written) λ _ _ e.
-      from-bind _ _ kept e λ Q b e.
-      sym (ok-injective e) ∙ ap (λ (Q : Problem). result-bytes (run Q)) (ok-injective (sym b ∙ w .is-theory))
-
   abbrev rules-left : List RuleAt
-  rules-left = rules-at 11 (run P .state .rules)
+  rules-left = rules-at 11 (f .state .rules)
 
-  record-read : read-record (S .symbols) kept ≡ ok (record { end = end-number (run P .end); units = run P .units; rules = rules-left })
+  record-read : read-record (S .symbols) kept ≡ ok (record { end = end-number (f .end); units = f .units; rules = rules-left })
   record-read =
-      ap₂ read-record (sym (w .same-symbols)) kept-is
-      ∙ record-back (P .symbols) (accepts (w .given) P (w .is-theory) .symbols-few) (run P) (promise .keeps)
+      ap₂ read-record (sym (w .same-symbols)) (known .bytes) ∙ record-back (T .symbols) (known .symbols-few) f (promise .keeps)
 
   above-passed : all-above (S .symbols) rules-left ≡ ok tt
-  above-passed = ap (λ Σ. all-above Σ rules-left) (sym (w .same-symbols)) ∙ keep-above (P .symbols) 11 0 (run P .state .rules) (promise .keeps .rules-keep)
+  above-passed = ap (λ Σ. all-above Σ rules-left) (sym (w .same-symbols)) ∙ keep-above (T .symbols) 11 0 (f .state .rules) (promise .keeps .rules-keep)
 
-  when-complete : eqb (end-number (run P .end)) 0 ≡ true →
+  when-complete : eqb (end-number (f .end)) 0 ≡ true →
       decide-call problem kept ≡ ok (answer (normalise-pair (rules-of rules-left) (S .equation .sides) (S .budget)))
   unfolding decide-call read-question _>>=_ refuse-if
   when-complete z = rw (w .is-asked) (rw record-read (rw z (rw above-passed refl)))
 
-  when-not : eqb (end-number (run P .end)) 0 ≡ false → decide-call problem kept ≡ refused not-complete 0
+  when-not : eqb (end-number (f .end)) 0 ≡ false → decide-call problem kept ≡ refused not-complete 0
   unfolding decide-call read-question _>>=_ refuse-if
   when-not z = rw (w .is-asked) (rw record-read (rw z refl))
 
   -- 13 and 15 are not given, and 14 as the run's end says
   record ByEnd (r : Reading Answer) : Type 0 where
     never : (place : ℕ) → (r ≡ refused wrong-record place → ⊥) × (r ≡ refused not-above place → ⊥)
-    unfinished : (r ≡ refused not-complete 0) ↔ (run P .end ≡ complete → ⊥)
+    unfinished : (r ≡ refused not-complete 0) ↔ (f .end ≡ complete → ⊥)
 
-  by-end : (b : Bool) → eqb (end-number (run P .end)) 0 ≡ b → Says (run P .end ≡ complete) b → ByEnd (decide-call problem kept)
+  by-end : (b : Bool) → eqb (end-number (f .end)) 0 ≡ b → Says (f .end ≡ complete) b → ByEnd (decide-call problem kept)
   by-end true z e =
       rw (when-complete z)
       (record {
@@ -158,7 +154,7 @@ module _ (problem kept : List ℕ) (w : EngineWrote problem kept) where
       })
 
   engine-end : ByEnd (decide-call problem kept)
-  engine-end = by-end _ refl (zero-end (run P .end))
+  engine-end = by-end _ refl (zero-end (f .end))
 
 pub about-equations : (problem kept : List ℕ) → AboutEquations problem kept (decide-call problem kept)
 about-equations problem kept = record { exactly = λ w. equations-exactly problem kept w }

@@ -1,16 +1,17 @@
 -- Document 02, Three: what the answers "same" and "different" are right about, said of the bytes that are lent. Assumes nothing.
--- Read first: Decide, completion/specs/Delivery (Step, Replacement, Many, Last), completion/specs/Calls (complete-call).
+-- Read first: Decide, completion/specs/Delivery (Step, Replacement, Many, Last), completion/specs/Promise (EngineWrote).
 use mathlib.Core.Path.{_≡_}
 use mathlib.Core.List.{List}
 use mathlib.Core.Logic.{_↔_, _⊎_}
 use Prim.Native.Nat.{ℕ}
 use Rattle.terms.specs.Term.{Term}
 use Rattle.reading.specs.Stops.{wrong-record, not-complete, not-above}
-use Rattle.problem.specs.Problem.{Reading, ok, refused, Problem, parse}
+use Rattle.problem.specs.Problem.{Reading, ok, refused, Theory}
 use Rattle.rewriting.specs.Rewrite.{complete}
-use Rattle.completion.specs.Turn.{run}
+use Rattle.completion.specs.Turn.{Finished}
 use Rattle.completion.specs.Delivery.{Replacement, Many, Last}
-use Rattle.completion.specs.Calls.{complete-call, Single, parse-single}
+use Rattle.completion.specs.Calls.{Single, parse-single}
+use Rattle.completion.specs.Promise.{EngineWrote}
 use Rattle.decide.specs.Decide.{Question, read-question, Answer, are-same, are-different, numbered}
 use Rattle.decide.specs.declared.Decided.{Decided}
 use Rattle.decide.specs.declared.Decided.the-variants.{Same, Different, Spent, TooLarge, Refused}
@@ -43,29 +44,27 @@ pub record AboutRules (problem kept : List ℕ) (r : Reading Answer) : Type 0 wh
   pub different : (q : Question) → read-question problem kept ≡ ok q → r ≡ ok are-different → TwoLasts q
   pub numbers : (n : ℕ) → r ≡ ok (numbered n) → (n ≡ 21) ⊎ (n ≡ 22)
 
--- "a record that the engine wrote .. for the same symbol field": complete left it in a result buffer of some length for a problem, `given`, that has the
--- symbols of the asked one [18.15]
-pub record EngineWrote (problem kept : List ℕ) : Type 0 where
-  pub given : List ℕ
-  pub buffer : ℕ
-  pub written : complete-call given buffer ≡ ok kept
-  pub theory : Problem
-  pub is-theory : parse given ≡ ok theory
+-- "a record that the engine wrote .. for the same symbol field": for a theory that has the symbols of the asked problem; `left` is what its turns left
+-- [18.15]
+pub record WroteFor (problem kept : List ℕ) : Type 0 where
+  pub theory : Theory
+  pub left : Finished
+  pub wrote : EngineWrote theory left kept
   pub asked : Single
   pub is-asked : parse-single problem ≡ ok asked
   pub same-symbols : theory .symbols ≡ asked .symbols
 
 -- "the buyer's equations" lead from one side of the asked equation to the other
-abbrev pub Leads : Problem → Single → Type 0
-Leads P S = Many (Replacement (P .symbols) (P .equations)) (S .equation .sides .left) (S .equation .sides .right)
+abbrev pub Leads : Theory → Single → Type 0
+Leads T S = Many (Replacement (T .symbols) (T .equations)) (S .equation .sides .left) (S .equation .sides .right)
 
 -- "For a record that the engine wrote with end 0 for the same symbol field, "same" and "different" are right about the buyer's equations." That the
 -- end is 0 need not be said: with another one the answer is 14. [18.15]
 pub record AboutEquations (problem kept : List ℕ) (r : Reading Answer) : Type 0 where
-  pub exactly : (w : EngineWrote problem kept) → (r ≡ ok are-same) ⊎ (r ≡ ok are-different) →
+  pub exactly : (w : WroteFor problem kept) → (r ≡ ok are-same) ⊎ (r ≡ ok are-different) →
       ((r ≡ ok are-same) ↔ Leads (w .theory) (w .asked)) × ((r ≡ ok are-different) ↔ (Leads (w .theory) (w .asked) → ⊥))
 
 -- Such a record is not refused with 13 or 15, and with 14 exactly if the run did not end with 0. [18.16]
 pub record NotRefused (problem kept : List ℕ) (r : Reading Answer) : Type 0 where
-  pub never : EngineWrote problem kept → (place : ℕ) → (r ≡ refused wrong-record place → ⊥) × (r ≡ refused not-above place → ⊥)
-  pub unfinished : (w : EngineWrote problem kept) → (r ≡ refused not-complete 0) ↔ (run (w .theory) .end ≡ complete → ⊥)
+  pub never : WroteFor problem kept → (place : ℕ) → (r ≡ refused wrong-record place → ⊥) × (r ≡ refused not-above place → ⊥)
+  pub unfinished : (w : WroteFor problem kept) → (r ≡ refused not-complete 0) ↔ (w .left .end ≡ complete → ⊥)

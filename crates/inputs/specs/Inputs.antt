@@ -1,6 +1,6 @@
--- Candidates in slots; where the sides of the input equations stand in a problem's bytes, and what is left of them in the slots. Assumes nothing.
+-- Candidates in slots; where the sides of the input equations stand in lent bytes, and what is left of them in the slots. Assumes nothing.
 use mathlib.Core.Path.{_≡_}
-use mathlib.Core.List.{List, _++_, map}
+use mathlib.Core.List.{List, [], _∷_, _++_, map}
 use Prim.Native.Nat.{ℕ, _+_, _-_, _<_, _≤_}
 use lib.ListN.{length, drop, take}
 use Rattle.limits.specs.Limits.{most-nodes, most-variables, first-variable}
@@ -9,8 +9,8 @@ use Rattle.terms.specs.Term.{Term, Pair, term-bytes, size, renamed}
 use Rattle.terms.specs.Flat.{Wf}
 use Rattle.slots.specs.Slots.{slot, mark-of, Short, PairAt, Marked, Holds, Layout, OnlySlot, numbered-bytes}
 use Rattle.slots.specs.declared.Pairs.{Pairs}
-use Rattle.problem.specs.Problem.{ok, due, Problem}
-use Rattle.problem.specs.Parser.{field-at, ParsedAt}
+use Rattle.problem.specs.Problem.{ok, due}
+use Rattle.problem.specs.Parser.{field-at}
 use Rattle.completion.specs.Turn.{waiting-input, Candidate, candidates}
 use Rattle.completion.specs.Calls.{origin-bytes}
 
@@ -59,11 +59,16 @@ pub record PutsEquation (tab l : List ℕ) (at : ℕ) (slots : List ℕ) (k : �
   pub answer : (e : ℕ) (p : Pair) → due 0x03 at (drop at l) ≡ ok (field-at 0x03 l at e) → SidesAt tab l (at + 3) p →
       (r ≡ e) × PairAt most-variables tab slots′ k (renamed p)
 
--- `read`: "the waiting list (at first the equations in order)"
-abbrev pub inputs-of : Problem → List Candidate
-inputs-of P = candidates waiting-input 1 (P .equations)
+-- the equations stand in fields of tag 03, one behind the other, from `at` on; what stands behind them is of no account
+unfoldable pub InFields : List ℕ → List ℕ → ℕ → List Pair → Type 0
+InFields tab l at [] = Unit {0}
+InFields tab l at (p ∷ es) = (e : ℕ) × (due 0x03 at (drop at l) ≡ ok (field-at 0x03 l at e)) × SidesAt tab l (at + 3) p × InFields tab l e es
 
-pub record InputsRead (l : List ℕ) (table-end equations count : ℕ) (r : Pairs) : Type 0 where
+-- `read`: "the waiting list (at first the equations in order)"
+abbrev pub inputs-of : List Pair → List Candidate
+inputs-of es = candidates waiting-input 1 es
+
+pub record InputsRead (tab l : List ℕ) (at count : ℕ) (r : Pairs) : Type 0 where
   pub layout : Layout (r .bytes) (r .count)
   pub counted : r .count ≡ count
-  pub held : (budget : ℕ) (P : Problem) → ParsedAt l table-end budget equations count P → Held (take (table-end - 3) (drop 3 l)) r (inputs-of P)
+  pub held : (es : List Pair) → InFields tab l at es → length es ≡ count → Held tab r (inputs-of es)

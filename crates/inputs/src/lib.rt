@@ -1,7 +1,7 @@
-// The input equations of a problem, each renamed as a pair, in slots, marked as they wait at first.
+// Input equations, read from lent bytes: each renamed as a pair, in slots, marked as they wait at first.
 ghost use Prim.Native.Nat.{_+_, _*_, _<_, _≤_};
 ghost use lib.ListN.{length};
-ghost use Rattle.limits.specs.Limits.{most-equations, two-byte-values, field-head};
+ghost use Rattle.limits.specs.Limits.{most-equations, two-byte-values};
 ghost use Rattle.slots.specs.Slots.{slot-width};
 ghost use Rattle.inputs.specs.Inputs.{SideEnd, PutsSides, PutsEquation, InputsRead};
 use limits::FIELD_HEAD;
@@ -13,17 +13,17 @@ use slots::origins;
 const EQUATION: u8 = 3;
 
 // The end of the side that starts at `at`; at the latest it ends before a byte above the last variable's, and after 120 bytes.
-fn side_end(problem: &[u8], table: &[u8], at: usize) -> usize
-    requires { ⌜ (at ≤ length (now problem)) × (length (now problem) ≤ two-byte-values) ⌝ }
-    ensures { λ r. ⌜ SideEnd (now (table .entry)) (now (problem .entry)) at r ⌝ }
+fn side_end(source: &[u8], table: &[u8], at: usize) -> usize
+    requires { ⌜ (at ≤ length (now source)) × (length (now source) ≤ two-byte-values) ⌝ }
+    ensures { λ r. ⌜ SideEnd (now (table .entry)) (now (source .entry)) at r ⌝ }
 {
-    let e = terms::term_end(problem, table, at);
+    let e = terms::term_end(source, table, at);
     let mut i = at;
     while i < e {
         if i - at >= NODES {
             return i;
         }
-        if problem[i] > limits::LAST_VARIABLE {
+        if source[i] > limits::LAST_VARIABLE {
             return i;
         }
         i += 1;
@@ -32,15 +32,15 @@ fn side_end(problem: &[u8], table: &[u8], at: usize) -> usize
 }
 
 // The two sides that start at `at`, renamed together, into slot k.
-fn put_sides(problem: &[u8], table: &[u8], at: usize, slots: &mut [u8], k: usize)
+fn put_sides(source: &[u8], table: &[u8], at: usize, slots: &mut [u8], k: usize)
     requires { ⌜ slot-width * (k + 1) ≤ length (now slots) ⌝ }
-    requires { ⌜ (at ≤ length (now problem)) × (length (now problem) ≤ two-byte-values) ⌝ }
-    ensures { λ _. ⌜ PutsSides (now (table .entry)) (now (problem .entry)) at (now (slots .entry)) k (now (slots .exit)) ⌝ }
+    requires { ⌜ (at ≤ length (now source)) × (length (now source) ≤ two-byte-values) ⌝ }
+    ensures { λ _. ⌜ PutsSides (now (table .entry)) (now (source .entry)) at (now (slots .entry)) k (now (slots .exit)) ⌝ }
 {
-    let m = side_end(problem, table, at);
-    let e = side_end(problem, table, m);
+    let m = side_end(source, table, at);
+    let e = side_end(source, table, m);
     let mut held = [0u8; limits::PAIR];
-    bytes::copy(&problem[at..e], &mut held);
+    bytes::copy(&source[at..e], &mut held);
     naming::rename_front(&mut held, e - at);
     let n = m - at;
     let end = e - at;
@@ -49,34 +49,34 @@ fn put_sides(problem: &[u8], table: &[u8], at: usize, slots: &mut [u8], k: usize
 }
 
 // The equation field at `at`, into slot k: the place behind it. Where there is none, the slot keeps its sides.
-fn put_equation(problem: &[u8], table: &[u8], at: usize, slots: &mut [u8], k: usize) -> usize
+fn put_equation(source: &[u8], table: &[u8], at: usize, slots: &mut [u8], k: usize) -> usize
     requires { ⌜ (slot-width * (k + 1) ≤ length (now slots)) × (k < most-equations) ⌝ }
-    requires { ⌜ length (now problem) ≤ two-byte-values ⌝ }
-    ensures { λ r. ⌜ PutsEquation (now (table .entry)) (now (problem .entry)) at (now (slots .entry)) k (now (slots .exit)) r ⌝ }
+    requires { ⌜ length (now source) ≤ two-byte-values ⌝ }
+    ensures { λ r. ⌜ PutsEquation (now (table .entry)) (now (source .entry)) at (now (slots .entry)) k (now (slots .exit)) r ⌝ }
 {
     let mark = origins::numbered(origins::WAITING_INPUT, (k + 1) as u16);
     slots::put_mark(slots, k, &mark);
-    match problem::due(problem, at, EQUATION) {
+    match problem::due(source, at, EQUATION) {
         problem::Read::Refused {
             number: _,
             place: _,
         } => at,
         problem::Read::Value(e) => {
-            put_sides(problem, table, at + FIELD_HEAD, slots, k);
+            put_sides(source, table, at + FIELD_HEAD, slots, k);
             e
         }
     }
 }
 
-// The problem's equations. The table ends at `table_end`, and the equation fields start at `equations`.
-pub fn read(problem: &[u8], table_end: usize, equations: usize, count: usize) -> Pairs
-    requires { ⌜ (field-head ≤ «table_end») × («table_end» ≤ length (now problem)) × (length (now problem) ≤ two-byte-values) × (count ≤ most-equations) ⌝ }
-    ensures { λ r. ⌜ InputsRead (now (problem .entry)) «table_end» equations count r ⌝ }
+// The equations whose fields start at `at`, over the symbols of the table.
+pub fn read(source: &[u8], table: &[u8], at: usize, count: usize) -> Pairs
+    requires { ⌜ (length (now source) ≤ two-byte-values) × (count ≤ most-equations) ⌝ }
+    ensures { λ r. ⌜ InputsRead (now (table .entry)) (now (source .entry)) at count r ⌝ }
 {
     let mut slots = [0u8; slots::ROOM];
-    let mut i = equations;
+    let mut i = at;
     for k in 0..count {
-        i = put_equation(problem, &problem[FIELD_HEAD..table_end], i, &mut slots, k);
+        i = put_equation(source, table, i, &mut slots, k);
     }
     Pairs {
         bytes: slots,

@@ -7,7 +7,7 @@ use lib.ListN.{length}
 use Rattle.limits.specs.Limits.{most-variables, most-apart, variables-end}
 use Rattle.terms.specs.Term.{Pair, pair-variables, renamed}
 use Rattle.order.specs.Walk.{rank}
-use Rattle.problem.specs.Problem.{rank-of, Problem}
+use Rattle.problem.specs.Problem.{rank-of, Theory}
 use Rattle.completion.specs.Turn.{removed-rule, orient}
 use Rattle.completion.specs.Calls.{origin-bytes}
 use Rattle.slots.specs.Slots.{slot, mark-of, left-of, right-of, Layout, Sides, PairAt}
@@ -26,11 +26,11 @@ abbrev pub turned : Pair → Pair
 turned e = record { left = e .right; right = e .left }
 
 -- `upper`: which pair of sides the definition renames, if it does
-abbrev pub UpperIs : Problem → Pair → Above → Type 0
-UpperIs P e Left = Few e × (orient P e ≡ some (renamed e))
-UpperIs P e Right = Few e × (orient P e ≡ some (renamed (turned e)))
-UpperIs P e Neither = Few e × (orient P e ≡ none)
-UpperIs P e TooMany = most-variables < length (pair-variables e)
+abbrev pub UpperIs : Theory → Pair → Above → Type 0
+UpperIs T e Left = Few e × (orient T e ≡ some (renamed e))
+UpperIs T e Right = Few e × (orient T e ≡ some (renamed (turned e)))
+UpperIs T e Neither = Few e × (orient T e ≡ none)
+UpperIs T e TooMany = most-variables < length (pair-variables e)
 
 -- no byte above those of the variables of two rules set apart
 abbrev pub LowBytes : List ℕ → Type 0
@@ -47,7 +47,7 @@ LowIfFew l TooMany = Unit {0}
 
 pub record IsUpper (tab left right : List ℕ) (r : Above) : Type 0 where
   pub low : LowIfFew (left ++ right) r
-  pub answer : (P : Problem) → rank-of (P .symbols) ≡ rank tab → (e : Pair) → Sides most-apart tab left right e → UpperIs P e r
+  pub answer : (T : Theory) → rank-of (T .symbols) ≡ rank tab → (e : Pair) → Sides most-apart tab left right e → UpperIs T e r
 
 -- `placed`: the pair, renamed, stands in the slot, which has the mark
 pub record Placed (left right mark one : List ℕ) : Type 0 where
@@ -56,21 +56,21 @@ pub record Placed (left right mark one : List ℕ) : Type 0 where
   pub pair : (tab : List ℕ) (e : Pair) → Sides most-apart tab left right e → Few e → PairAt most-variables tab one 0 (renamed e)
 
 -- `rule_of`: the new rule's sides in its slot, or why there is none
-pub record Becomes (tab one : List ℕ) (P : Problem) (e : Pair) : Type 0 where
+pub record Becomes (tab one : List ℕ) (T : Theory) (e : Pair) : Type 0 where
   pub sides : Pair
-  pub oriented : orient P e ≡ some sides
+  pub oriented : orient T e ≡ some sides
   pub stands : PairAt most-variables tab one 0 sides
 
-abbrev pub OrientedIs : List ℕ → List ℕ → Problem → Pair → Way → Type 0
-OrientedIs tab one P e Rule = Few e × Becomes tab one P e
-OrientedIs tab one P e NoneAbove = Few e × (orient P e ≡ none)
-OrientedIs tab one P e TooLarge = most-variables < length (pair-variables e)
+abbrev pub OrientedIs : List ℕ → List ℕ → Theory → Pair → Way → Type 0
+OrientedIs tab one T e Rule = Few e × Becomes tab one T e
+OrientedIs tab one T e NoneAbove = Few e × (orient T e ≡ none)
+OrientedIs tab one T e TooLarge = most-variables < length (pair-variables e)
 
 pub record RuleOf (tab pair : List ℕ) (number : ℕ) (o : Oriented) : Type 0 where
   pub layout : Layout (o .rule) 1
   pub marked : o .way ≡ Rule → mark-of (slot (o .rule) 0) ≡ origin-bytes (removed-rule number)
   pub low : o .way ≡ NoneAbove → LowPair pair
-  pub answer : (P : Problem) → rank-of (P .symbols) ≡ rank tab → (e : Pair) → PairAt most-apart tab pair 0 e → OrientedIs tab (o .rule) P e (o .way)
+  pub answer : (T : Theory) → rank-of (T .symbols) ≡ rank tab → (e : Pair) → PairAt most-apart tab pair 0 e → OrientedIs tab (o .rule) T e (o .way)
 
 -- `renamed`
 pub record Renames (pair one : List ℕ) : Type 0 where

@@ -1,3 +1,3 @@
 -- What is read from bytes, passed on. Assumes nothing.
 -- Read first: reading/proofs/Reading.
-pub use Rattle.reading.proofs.Reading.{no-ok, ok-injective, from-bind, passed, ByteIs, byte-is, ReadsTo, ReadsAll, reads-all, reads, read-back, read-back-all}
+pub use Rattle.reading.proofs.Reading.{no-ok, ok-injective, from-bind, passed, has-below, below-has, ByteIs, byte-is, ReadsTo, ReadsAll, reads-all, reads, read-back, read-back-all}

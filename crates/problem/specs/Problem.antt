@@ -9,8 +9,8 @@ use Rattle.limits.specs.Limits.{most-symbols, most-budget, most-problem, most-e
 use Rattle.terms.specs.Base.{number-from}
 use Rattle.terms.specs.Term.{Pair}
 use Rattle.reading.specs.Stops.{long-problem, wrong-tag, wrong-symbol-field, wrong-budget, many-equations, not-one-equation}
-pub use Rattle.reading.specs.Forms.{Reading, ok, refused, ReadField, Symbol, Byte, symbol, variable, neither, ReadPart}
-unfoldable pub use Rattle.reading.specs.Forms.{_>>=_, refuse-if, read-field, arity-of, rank-of, read-symbols, byte-of, read-terms, read-term, read-side, read-pair}
+pub use Rattle.reading.specs.Forms.{Reading, ok, refused, ReadField, Symbol, Has, Byte, symbol, variable, neither, ReadPart}
+unfoldable pub use Rattle.reading.specs.Forms.{_>>=_, refuse-if, read-field, has, arity-of, rank-of, read-symbols, byte-of, read-terms, read-term, read-side, read-pair}
 
 -- 4: "tag not the one due, or the problem ends where tag 01 or 02 is due", at the "field's first byte or the end" [4.4, 4.16]
 unfoldable pub due : ℕ → ℕ → List ℕ → Reading ReadField

@@ -5,14 +5,14 @@ use mathlib.Core.Bool.{Bool, true, false, _&&_}
 use mathlib.Core.List.{List, [], _∷_, _++_, append-assoc}
 use Prim.Native.Nat.{ℕ, zero, suc, _+_, _-_, _≤_, _<_}
 use native.Mathlib.Omega.{arith}
-use lib.Dec.{ltb, leb}
+use lib.Dec.{leb}
 use lib.ListN.{length}
-use borrow.Author.Tests.{ltb-true, leb-true, lt-ltb, le-ltb, le-leb}
+use borrow.Author.Tests.{ltb-true, ltb-false, leb-true, lt-ltb, le-ltb, le-leb}
 use Rattle.terms.proofs.Shape.{zero≢one, both-true}
 use Rattle.terms.specs.Base.{if_then_else_}
 use Rattle.terms.specs.Term.{Term, var, node, Terms, nil, cons, size, sizes, term-bytes, terms-bytes, count}
 use Rattle.terms.proofs.Limits.{Made, MadeAll}
-use Rattle.reading.specs.Forms.{Reading, ok, refused, _>>=_, refuse-if, Symbol, arity-of, Byte, symbol, variable, neither, byte-of, ReadPart}
+use Rattle.reading.specs.Forms.{Reading, ok, refused, _>>=_, refuse-if, Symbol, has, Has, arity-of, Byte, symbol, variable, neither, byte-of, ReadPart}
 use Rattle.reading.specs.Forms.{read-term, read-terms}
 use Rattle.reading.specs.Over.{Over, OverAll}
 
@@ -44,19 +44,36 @@ unfolding refuse-if
 passed true n at u e = absurd (no-ok e)
 passed false n at u e = refl
 
+-- A table without holes: its symbols are the numbers below its length.
+pub has-below : (Σ : List Symbol) (f : ℕ) → Has Σ f → f < length Σ
+unfolding has
+has-below Σ f h = ltb-true f (length Σ) h
+
+pub below-has : (Σ : List Symbol) (f : ℕ) → f < length Σ → Has Σ f
+unfolding has
+below-has Σ f h = lt-ltb f (length Σ) h
+
+has-not : (Σ : List Symbol) (f : ℕ) → length Σ ≤ f → has Σ f ≡ false
+unfolding has
+has-not Σ f h = le-ltb f (length Σ) h
+
+pub not-has : (Σ : List Symbol) (f : ℕ) → has Σ f ≡ false → length Σ ≤ f
+unfolding has
+not-has Σ f h = ltb-false f (length Σ) h
+
 -- What a byte is: a symbol of the table by its number, or a variable from 0 to 15.
 pub ByteIs : List Symbol → ℕ → Byte → Type 0
-ByteIs Σ b (symbol f) = (f ≡ b) × (f < length Σ)
+ByteIs Σ b (symbol f) = (f ≡ b) × Has Σ f
 ByteIs Σ b (variable x) = (b ≡ 0x80 + x) × (x < 16)
 ByteIs Σ b neither = Unit {0}
 
 pub byte-is : (Σ : List Symbol) (b : ℕ) → ByteIs Σ b (byte-of Σ b)
 unfolding ByteIs byte-of if_then_else_
-byte-is Σ b = go (ltb b (length Σ)) (leb 0x80 b && leb b 0x8f) refl refl
+byte-is Σ b = go (has Σ b) (leb 0x80 b && leb b 0x8f) refl refl
   where
-    go : (p q : Bool) → ltb b (length Σ) ≡ p → (leb 0x80 b && leb b 0x8f) ≡ q →
+    go : (p q : Bool) → has Σ b ≡ p → (leb 0x80 b && leb b 0x8f) ≡ q →
         ByteIs Σ b (byte-of Σ b)
-    go true q h k = rw (h, byte-of) (refl, ltb-true b (length Σ) h)
+    go true q h k = rw (h, byte-of) (refl, h)
     go false true h k =
         let c = both-true (leb 0x80 b) (leb b 0x8f) k in
         let lo : 0x80 ≤ b = leb-true 0x80 b (c .0) in
@@ -94,11 +111,11 @@ module _ (Σ : List Symbol) where
         counted = ap suc (s .counted);
       }
 
-  one-node : (f at : ℕ) (bytes : List ℕ) (ts : ReadPart Terms) → f < length Σ → ReadsAll (arity-of Σ f) (at + 1) bytes ts →
+  one-node : (f at : ℕ) (bytes : List ℕ) (ts : ReadPart Terms) → Has Σ f → ReadsAll (arity-of Σ f) (at + 1) bytes ts →
       ReadsTo at (f ∷ bytes) (record { part = node f (ts .part); end = ts .end; rest = ts .rest })
   unfolding term-bytes size Over Made count
   one-node f at bytes ts h s =
-      record { front = ap (λ l. f ∷ l) (s .front); ends = omega (arith, s .ends); over = (h, s .counted, s .over); made = (h, s .made) }
+      record { front = ap (λ l. f ∷ l) (s .front); ends = omega (arith, s .ends); over = (h, s .counted, s .over); made = (has-below Σ f h, s .made) }
 
   one-variable : (x at : ℕ) (bytes : List ℕ) → x < 16 → ReadsTo at ((0x80 + x) ∷ bytes) (record { part = var x; end = at + 1; rest = bytes })
   unfolding term-bytes size Over Made
@@ -134,16 +151,16 @@ module _ (Σ : List Symbol) where
       go neither k i ih = absurd (no-ok (rw (k, read-term) at e))
 
 module _ (Σ : List Symbol) (few : length Σ ≤ 16) where
-  byte-symbol : (f : ℕ) → f < length Σ → byte-of Σ f ≡ symbol f
+  byte-symbol : (f : ℕ) → Has Σ f → byte-of Σ f ≡ symbol f
   unfolding byte-of if_then_else_
-  byte-symbol f h = rw (lt-ltb f (length Σ) h)
+  byte-symbol f h = rw h
 
   byte-variable : (x : ℕ) → x < 16 → byte-of Σ (0x80 + x) ≡ variable x
   unfolding byte-of if_then_else_
   byte-variable x h =
       let lo : leb 0x80 (0x80 + x) ≡ true = le-leb 0x80 (0x80 + x) (omega arith) in
       let hi : leb (0x80 + x) 0x8f ≡ true = le-leb (0x80 + x) 0x8f (omega arith) in
-      let no : ltb (0x80 + x) (length Σ) ≡ false = le-ltb (0x80 + x) (length Σ) (omega arith) in
+      let no : has Σ (0x80 + x) ≡ false = has-not Σ (0x80 + x) (omega arith) in
       let back : 0x80 + x - 0x80 ≡ x = omega arith in
       rw no (rw lo (rw hi (ap variable back)))
 
@@ -152,7 +169,7 @@ module _ (Σ : List Symbol) (few : length Σ ≤ 16) where
   unfolding read-term
   var-step x d at end rest h e = rw (byte-variable x h, read-term) (rw e refl)
 
-  node-step : (f : ℕ) (ts : Terms) (d at end : ℕ) (bytes rest : List ℕ) → f < length Σ → count ts ≡ arity-of Σ f →
+  node-step : (f : ℕ) (ts : Terms) (d at end : ℕ) (bytes rest : List ℕ) → Has Σ f → count ts ≡ arity-of Σ f →
       read-terms (λ at bytes. read-term Σ d at bytes) (count ts) (at + 1) bytes ≡ ok (record { part = ts; end = end; rest = rest }) →
       read-term Σ (suc d) at (f ∷ bytes) ≡ ok (record { part = node f ts; end = end; rest = rest })
   unfolding read-term _>>=_

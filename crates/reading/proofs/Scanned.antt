@@ -7,10 +7,10 @@ use mathlib.Core.List.{List, [], _∷_}
 use Prim.Native.Nat.{ℕ, zero, suc, _+_, _-_, _<_, _≤_}
 use native.Mathlib.Omega.{arith}
 use native.Mathlib.Nat.{zero-add, suc-add, sub-zero}
-use lib.Dec.{ltb, leb}
+use lib.Dec.{leb}
 use lib.ListN.{length, take, drop, getD, length-take, length-drop, length-append}
 use lib.Seq.{drop-at, drop-drop}
-use borrow.Author.Tests.{lt-ltb, le-ltb, ltb-true, ltb-false, leb-true}
+use borrow.Author.Tests.{lt-ltb, le-ltb, leb-true}
 use Rattle.terms.proofs.Shape.{both-true}
 use Rattle.terms.specs.Base.{if_then_else_}
 use Rattle.terms.specs.Term.{Term, node, Terms, cons, size, term-bytes, Pair}
@@ -19,10 +19,10 @@ use Rattle.terms.specs.declared.Ends.{Ends}
 use Rattle.terms.specs.declared.Ends.the-variants.{At, Bad}
 use Rattle.terms.proofs.Bytes.{length-bytes}
 use Rattle.terms.proofs.Scans.{owes-symbol, owes-other, scan-none}
-use Rattle.reading.specs.Forms.{Reading, ok, refused, _>>=_, refuse-if, Symbol, arity-of, rank-of, Byte, symbol, variable, neither, byte-of, ReadPart}
+use Rattle.reading.specs.Forms.{Reading, ok, refused, _>>=_, refuse-if, Symbol, has, arity-of, rank-of, Byte, symbol, variable, neither, byte-of, ReadPart}
 use Rattle.reading.specs.Forms.{read-term, read-terms, read-side, read-pair}
 use Rattle.reading.specs.Answers.{symbols-of, Table, between, TermAt, IsTerm, SideAt, PairAt}
-use Rattle.reading.proofs.Reading.{reads, bind-ok, bind-refused}
+use Rattle.reading.proofs.Reading.{has-below, not-has, reads, bind-ok, bind-refused}
 
 -- the symbols of a table, by number
 module _ (default : Symbol) where
@@ -64,19 +64,19 @@ module _ (tab : List ℕ) (T : Table tab) where
 
   byte-node : (b : ℕ) → ByteNode b (byte-of (symbols-of tab) b)
   unfolding ByteNode byte-of if_then_else_ is-node
-  byte-node b = go (ltb b (length (symbols-of tab))) (leb 0x80 b && leb b 0x8f) refl refl
+  byte-node b = go (has (symbols-of tab) b) (leb 0x80 b && leb b 0x8f) refl refl
     where
-      go : (p q : Bool) → ltb b (length (symbols-of tab)) ≡ p → (leb 0x80 b && leb b 0x8f) ≡ q → ByteNode b (byte-of (symbols-of tab) b)
+      go : (p q : Bool) → has (symbols-of tab) b ≡ p → (leb 0x80 b && leb b 0x8f) ≡ q → ByteNode b (byte-of (symbols-of tab) b)
       go true q h k =
-          let lt : b < length (symbols-of tab) = ltb-true b _ h in
+          let lt : b < length (symbols-of tab) = has-below (symbols-of tab) b h in
           rw (h, byte-of)
           (rw (lt-ltb (b + b) (length tab) (omega (arith, T .even))) refl, owes-symbol tab b (omega (arith, T .even, T .small)) ∙ sym (arity-is b))
       go false true h k =
-          let le : length (symbols-of tab) ≤ b = ltb-false b _ h in
+          let le : length (symbols-of tab) ≤ b = not-has (symbols-of tab) b h in
           let high : 0x80 ≤ b = leb-true 0x80 b (both-true (leb 0x80 b) (leb b 0x8f) k .0) in
           rw (h, byte-of) (rw k (is-variable b (omega (arith, T .even)) k, owes-other tab b (omega arith)))
       go false false h k =
-          let le : length (symbols-of tab) ≤ b = ltb-false b _ h in
+          let le : length (symbols-of tab) ≤ b = not-has (symbols-of tab) b h in
           rw (h, byte-of) (rw k (is-neither b (omega (arith, T .even)) k))
 
   -- The walk with so many terms owed, where the first n are read as this says.

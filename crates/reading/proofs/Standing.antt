@@ -14,7 +14,7 @@ use Rattle.terms.proofs.Limits.{Made, MadeAll}
 use Rattle.reading.specs.Forms.{ok, ReadPart, read-term, read-side, read-pair}
 use Rattle.reading.specs.Over.{Over, OverAll}
 use Rattle.reading.specs.Answers.{symbols-of, Table}
-use Rattle.reading.proofs.Reading.{from-bind, passed, reads, ok-injective}
+use Rattle.reading.proofs.Reading.{has-below, from-bind, passed, reads, ok-injective}
 use Rattle.reading.proofs.Scanned.{arity-is}
 
 module _ (tab : List ℕ) (T : Table tab) where
@@ -25,7 +25,7 @@ module _ (tab : List ℕ) (T : Table tab) where
 
       over-wf : (t : Term) → Over (symbols-of tab) t → Made S (λ x. x < 16) t → Wf 16 tab t
       over-wf (var x) o m = m
-      over-wf (node f ts) o m = (omega (arith, o .0, T .even, T .small), o .1 ∙ arity-is tab T f, over-wf-all ts (o .2) (m .1))
+      over-wf (node f ts) o m = (omega (arith, has-below (symbols-of tab) f (o .0), T .even, T .small), o .1 ∙ arity-is tab T f, over-wf-all ts (o .2) (m .1))
 
       over-wf-all : (ts : Terms) → OverAll (symbols-of tab) ts → MadeAll S (λ x. x < 16) ts → Wfs 16 tab ts
       over-wf-all nil o m = tt

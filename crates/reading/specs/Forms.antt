@@ -1,5 +1,6 @@
 -- Document 01, "Terms" and "The problem's fields": what is read from bytes, wherever it stands: a field, symbols, a term, a side, a pair. A refusal has its
 -- number of "Stops and what they leave" and its place. Assumes nothing.
+use mathlib.Core.Path.{_≡_}
 use mathlib.Core.Bool.{Bool, true, false, _&&_}
 use mathlib.Core.List.{List, [], _∷_}
 use Prim.Native.Nat.{ℕ, zero, suc, _+_, _-_}
@@ -48,6 +49,13 @@ pub record Symbol : Type 0 where
   pub arity : ℕ
   pub rank : ℕ
 
+-- the table has a symbol f
+unfoldable pub has : List Symbol → ℕ → Bool
+has Σ f = ltb f (length Σ)
+
+abbrev pub Has : List Symbol → ℕ → Type 0
+Has Σ f = has Σ f ≡ true
+
 unfoldable pub arity-of : List Symbol → ℕ → ℕ
 arity-of Σ f = getD Σ f (record { arity = 0; rank = 0 }) .arity
 
@@ -73,7 +81,7 @@ pub data Byte : Type 0 where
 -- "Symbol n (0 to 15) is byte n. Variable n (0 to 15) is byte 80 + n." [2.3, 2.4]
 unfoldable pub byte-of : List Symbol → ℕ → Byte
 byte-of Σ b =
-    if ltb b (length Σ) then symbol b
+    if has Σ b then symbol b
     else if leb 0x80 b && leb b 0x8f then variable (b - 0x80)
     else neither
 

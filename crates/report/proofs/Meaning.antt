@@ -1,5 +1,5 @@
 -- The fields written from slots and log are the result fields of the run that these stand for. Assumes nothing.
--- Read first: run/specs/Runs (RanIs), state/specs/Run (Represents), completion/specs/Calls (result-bytes), proofs/Whole.
+-- Read first: state/specs/Run (Represents, Leaves), completion/specs/Calls (result-bytes), proofs/Whole.
 use mathlib.Core.Path.{_≡_, refl, sym, ap, ap₂, subst, _∙_}
 use mathlib.Core.List.{List, [], _∷_, _++_, map, flatMap, append-assoc, append-nil}
 use Prim.Native.Nat.{ℕ, suc, _+_, _*_}
@@ -23,10 +23,9 @@ use Rattle.completion.specs.Turn.{Origin, waiting-input, removed-rule, scanned-
 use Rattle.completion.specs.Calls.{pair-bytes, rule-field, origin-bytes, entry-field, oldest-field, forms-field, result-fields, result-bytes, Writes}
 use Rattle.fields.specs.Puts.{tagged}
 use Rattle.inputs.specs.Inputs.{marked}
-use Rattle.state.specs.Run.{logged-width, logged, as-removed, held}
+use Rattle.state.specs.Run.{logged-width, logged, as-removed, held, Leaves}
 use Rattle.state.proofs.Rows.{row, held-rows, length-held, length-rows, row-at, rule-number}
-use Rattle.run.specs.declared.Ran.{Ran}
-use Rattle.run.specs.Runs.{RanIs}
+use Rattle.state.specs.declared.State.{State}
 use Rattle.report.specs.Fields.{pair-field, slot-field, slot-fields, logged-field, logged-fields, oldest-if}
 use Rattle.report.proofs.Whole.{all-bytes}
 
@@ -110,42 +109,42 @@ behind-units R L F =
     flatMap-append field-bytes (R ++ L) F ∙ ap (λ l. l ++ flatMap field-bytes F) (flatMap-append field-bytes R L)
     ∙ append-assoc (flatMap field-bytes R) (flatMap field-bytes L) (flatMap field-bytes F)
 
-module _ (tab : List ℕ) (f : Finished) (o : Ran) (h : RanIs tab f o) where
-  end-is : end-of (o .end) ≡ end-number (f .end)
-  end-is = ap end-of (h .end) ∙ number-of-ending (f .end)
+module _ (tab : List ℕ) (f : Finished) (st : State) (end : Ending) (paid : ℕ) (h : Leaves tab f st end paid) where
+  end-is : end-of end ≡ end-number (f .end)
+  end-is = ap end-of (h .end-is) ∙ number-of-ending (f .end)
 
-  rules-put : slot-fields (o .state .pairs .bytes) 0 (o .state .live) ≡ map rule-field (f .state .rules)
+  rules-put : slot-fields (st .pairs .bytes) 0 (st .live) ≡ map rule-field (f .state .rules)
   rules-put =
-      ap (slot-fields (o .state .pairs .bytes) 0) (h .state .live)
-      ∙ rules-are tab (o .state .pairs .bytes) 0 (f .state .rules) (f .state .waiting) (h .state .pairs .holds)
+      ap (slot-fields (st .pairs .bytes) 0) (h .state .live)
+      ∙ rules-are tab (st .pairs .bytes) 0 (f .state .rules) (f .state .waiting) (h .state .pairs .holds)
 
-  log-put : logged-fields (o .state .log .bytes) 0 (o .state .log .count) ≡ map entry-field (f .state .log)
+  log-put : logged-fields (st .log .bytes) 0 (st .log .count) ≡ map entry-field (f .state .log)
   log-put =
-      let log : List ℕ = o .state .log .bytes in
-      let n : ℕ = logged-width * o .state .log .count in
+      let log : List ℕ = st .log .bytes in
+      let n : ℕ = logged-width * st .log .count in
       let q : log ≡ flatMap logged (f .state .log) ++ drop n log = sym (take-append-drop n log) ∙ ap (λ l. l ++ drop n log) (h .state .log .bytes) in
       ap (logged-fields log 0) (h .state .log .counted) ∙ entries-are log 0 (f .state .log) (drop n log) q
 
   abbrev oldest-bytes : Ending → List ℕ
-  oldest-bytes e = oldest-if e (o .state .pairs .bytes) (o .state .live) (o .state .pairs .count)
+  oldest-bytes e = oldest-if e (st .pairs .bytes) (st .live) (st .pairs .count)
 
-  forms-put : oldest-bytes (o .end) ≡ flatMap field-bytes (forms-field (f .end) (f .state .waiting))
+  forms-put : oldest-bytes end ≡ flatMap field-bytes (forms-field (f .end) (f .state .waiting))
   forms-put =
-      ap oldest-bytes (h .end)
-      ∙ forms-are tab (o .state .pairs .bytes) (f .end) (f .state .rules) (f .state .waiting) (o .state .live) (o .state .pairs .count)
+      ap oldest-bytes (h .end-is)
+      ∙ forms-are tab (st .pairs .bytes) (f .end) (f .state .rules) (f .state .waiting) (st .live) (st .pairs .count)
       (h .state .live) (h .state .pairs .counted) (h .state .pairs .holds)
 
   abbrev put : ℕ → List ℕ
   put n =
-      all-bytes n (o .paid) (slot-fields (o .state .pairs .bytes) 0 (o .state .live)) (logged-fields (o .state .log .bytes) 0 (o .state .log .count))
-      (oldest-bytes (o .end))
+      all-bytes n paid (slot-fields (st .pairs .bytes) 0 (st .live)) (logged-fields (st .log .bytes) 0 (st .log .count))
+      (oldest-bytes end)
 
-  bytes-are : put (end-of (o .end)) ≡ result-bytes f
+  bytes-are : put (end-of end) ≡ result-bytes f
   unfolding all-bytes result-bytes result-fields flatMap
   bytes-are =
-      rw (end-is, h .paid, rules-put, log-put, forms-put)
+      rw (end-is, h .paid-is, rules-put, log-put, forms-put)
       (ap (λ (l : List ℕ). field-bytes (tagged 0x10 (number-bytes 1 (end-number (f .end)))) ++ (field-bytes (tagged 0x11 (number-bytes 4 (f .units))) ++ l))
       (sym (behind-units (map rule-field (f .state .rules)) (map entry-field (f .state .log)) (forms-field (f .end) (f .state .waiting)))))
 
-  pub reported : (before after : List ℕ) (r n : ℕ) → n ≡ end-of (o .end) → Writes before (put n) after r → Writes before (result-bytes f) after r
+  pub reported : (before after : List ℕ) (r n : ℕ) → n ≡ end-of end → Writes before (put n) after r → Writes before (result-bytes f) after r
   reported before after r n e w = subst (λ ys. Writes before ys after r) (ap put e ∙ bytes-are) w

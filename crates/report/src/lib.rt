@@ -10,7 +10,7 @@ ghost use Rattle.state.specs.Run.{logged-width, Fine};
 ghost use Rattle.report.specs.Fields.{pair-field, slot-field, slot-fields, logged-fields, oldest-if};
 ghost use Rattle.report.specs.Report.{Reports};
 use rewriting::End;
-use run::Ran;
+use state::State;
 
 // The tags of the result's fields.
 const END: u8 = 0x10;
@@ -94,19 +94,18 @@ fn put_oldest(out: &mut [u8], at: usize, end: End, pairs: &[u8], live: usize, co
     put_pair(out, at, FORMS, &pairs[0..0], pairs, live)
 }
 
-// The result of a run: its bytes at the front, and their count.
-pub fn report(ran: Ran, out: &mut [u8]) -> usize
+// The result of a run, from its last state, its end and the units paid: its bytes at the front, and their count.
+pub fn report(state: State, end: End, paid: u32, out: &mut [u8]) -> usize
     requires { ⌜ most-result ≤ length (now out) ⌝ }
-    requires { ⌜ Fine (ran .state) ⌝ }
-    ensures { λ r. ⌜ Reports ran (now (out .entry)) (now (out .exit)) r ⌝ }
+    requires { ⌜ Fine state ⌝ }
+    ensures { λ r. ⌜ Reports state end paid (now (out .entry)) (now (out .exit)) r ⌝ }
 {
-    let end = ran.end;
     let a = fields::put_number_field(out, 0, END, 1, rewriting::number(end) as u32);
-    let b = fields::put_number_field(out, a, UNITS, 4, ran.paid);
-    let live = ran.state.live;
-    let c = put_rules(out, b, &ran.state.pairs.bytes, live);
-    let entries = ran.state.log.count;
-    let d = put_log(out, c, &ran.state.log.bytes, entries);
-    let pairs = ran.state.pairs.count;
-    put_oldest(out, d, end, &ran.state.pairs.bytes, live, pairs)
+    let b = fields::put_number_field(out, a, UNITS, 4, paid);
+    let live = state.live;
+    let c = put_rules(out, b, &state.pairs.bytes, live);
+    let entries = state.log.count;
+    let d = put_log(out, c, &state.log.bytes, entries);
+    let pairs = state.pairs.count;
+    put_oldest(out, d, end, &state.pairs.bytes, live, pairs)
 }

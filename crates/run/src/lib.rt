@@ -3,7 +3,8 @@ ghost use mathlib.Core.Path.{_≡_};
 ghost use Prim.Native.Nat.{_≤_};
 ghost use Rattle.limits.specs.Limits.{most-equations};
 ghost use Rattle.slots.specs.Slots.{Layout};
-ghost use Rattle.run.specs.Runs.{ended-run, Runs};
+ghost use Rattle.state.specs.Run.{Fine};
+ghost use Rattle.run.specs.Runs.{ended-run, RunsFrom, Runs};
 use rewriting::End;
 use rewriting::Verdict;
 use slots::Pairs;
@@ -30,13 +31,13 @@ fn ended(t: Turned, end: End, budget: u32) -> Ran
     }
 }
 
-// Turns from the input equations until one ends the run.
-pub fn run(inputs: Pairs, table: &[u8], budget: u32) -> Ran
-    requires { ⌜ Layout (inputs .bytes) (inputs .count) × (inputs .count ≤ most-equations) ⌝ }
-    ensures { λ r. ⌜ Runs (now (table .entry)) inputs budget r ⌝ }
+// Turns from a state until one ends the run; its units are the budget.
+pub fn run_from(first: State, inputs: Pairs, table: &[u8]) -> Ran
+    requires { ⌜ Fine first × Layout (inputs .bytes) (inputs .count) × (inputs .count ≤ most-equations) ⌝ }
+    ensures { λ r. ⌜ RunsFrom (now (table .entry)) inputs first r ⌝ }
 {
     let number = inputs.count;
-    let first = State::initial(inputs, budget);
+    let budget = first.units;
     let mut t = turn::turn(first, &inputs.bytes, number, table);
     loop {
         let verdict = t.verdict;
@@ -45,4 +46,13 @@ pub fn run(inputs: Pairs, table: &[u8], budget: u32) -> Ran
         }
         t = turn::turn(t.state, &inputs.bytes, number, table);
     }
+}
+
+// Turns from the input equations.
+pub fn run(inputs: Pairs, table: &[u8], budget: u32) -> Ran
+    requires { ⌜ Layout (inputs .bytes) (inputs .count) × (inputs .count ≤ most-equations) ⌝ }
+    ensures { λ r. ⌜ Runs (now (table .entry)) inputs budget r ⌝ }
+{
+    let first = State::initial(inputs, budget);
+    run_from(first, inputs, table)
 }

@@ -9,7 +9,7 @@ use lib.ListN.{length, getD, drop, drop-of-length-le}
 use lib.Seq.{drop-cons}
 use Rattle.rewriting.specs.Overlap.{Rule, all-places}
 use Rattle.rewriting.specs.Rewrite.{complete, stop, Paying, end-with}
-use Rattle.problem.specs.Problem.{Equation}
+use Rattle.terms.specs.Term.{Pair}
 use Rattle.completion.specs.Turn.{scanned-input, Candidate, candidates, scan-inputs, scan}
 use Rattle.completion.specs.Calls.{origin-bytes}
 use Rattle.completion.proofs.Limits.{length-candidates}
@@ -24,7 +24,7 @@ use Rattle.scanning.proofs.Going.{Unrolls, Over, lent-mark}
 use Rattle.scanning.proofs.Placing.{stored-here}
 use Rattle.scanning.proofs.Places.{scan-visits}
 
-origin-at : (n : ℕ) (es : List Equation) (k : ℕ) → k < length es → getD (candidates scanned-input n es) k no-candidate .origin ≡ scanned-input (n + k)
+origin-at : (n : ℕ) (es : List Pair) (k : ℕ) → k < length es → getD (candidates scanned-input n es) k no-candidate .origin ≡ scanned-input (n + k)
 unfolding candidates
 origin-at n [] k l = absurd (omega arith)
 origin-at n (e ∷ es) zero l = ap scanned-input (omega arith)

@@ -15,6 +15,7 @@ use Rattle.rewriting.specs.Overlap.{Overlap, overlap}
 use Rattle.rewriting.proofs.Limits.{OverlapMade, MaybeOverlap, overlap-made}
 use Rattle.problem.specs.Problem.{Symbol, arity-of}
 use Rattle.problem.specs.Over.{Over, OverAll}
+use Rattle.problem.proofs.Reading.{below-has}
 use Rattle.completion.proofs.Over.{OverPair, over-renamed, over-overlap}
 
 -- the symbols of a table
@@ -49,7 +50,7 @@ module _ (tab : List ℕ) where
     wf-over : (n : ℕ) (t : Term) → Wf n tab t → Over symbols t
     wf-over n (var x) w = tt
     wf-over n (node f ts) w = (
-      (let l : length symbols ≡ 16 = length-symbols tab 0 16 in let h : f < 16 = w .0 in omega arith),
+      below-has symbols f (let l : length symbols ≡ 16 = length-symbols tab 0 16 in let h : f < 16 = w .0 in omega arith),
       w .1 ∙ sym (arity-here f (w .0)),
       wf-overs n ts (w .2),
     )

@@ -3,7 +3,7 @@ use mathlib.Core.Path.{_≡_}
 use mathlib.Core.List.{List}
 use Prim.Native.Nat.{ℕ, _+_, _-_, _*_, _<_}
 use lib.Dec.{ltb}
-use lib.ListN.{length, getD, drop, take}
+use lib.ListN.{length, drop, take}
 use Rattle.terms.specs.Base.{count-from, if_then_else_}
 use Rattle.terms.specs.Term.{size}
 use Rattle.rewriting.specs.Overlap.{Rule, places, places-with}

@@ -4,8 +4,7 @@ use mathlib.Core.List.{List, [], _∷_, map}
 use Prim.Native.Nat.{ℕ, _<_, _≤_}
 use lib.ListN.{length, getD, drop, take}
 use Rattle.terms.specs.Base.{number-bytes}
-use Rattle.terms.specs.Term.{var}
-use Rattle.problem.specs.Problem.{Equation}
+use Rattle.terms.specs.Term.{var, Pair}
 use Rattle.rewriting.specs.Overlap.{Rule, sides-of, overlap, Place, all-places}
 use Rattle.rewriting.specs.Rewrite.{End, complete, neither-above, spent, too-large, rules-full, log-full, Paid, done, stop, _>>=_}
 use Rattle.completion.specs.Turn.{scanned-input, Candidate, candidates, scan-overlap, if-different-overlap, scan}
@@ -72,7 +71,7 @@ of-rules b rs = visits rs (all-places (take b rs) (drop b rs))
 -- the rules and the input equations stand in slots
 pub record World : Type 0 where
   pub rules : List Rule
-  pub equations : List Equation
+  pub equations : List Pair
 
 abbrev pub world-inputs : World → List Candidate
 world-inputs x = candidates scanned-input 1 (x .equations)

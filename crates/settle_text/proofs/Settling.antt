@@ -12,8 +12,7 @@ use Rattle.reading.proofs.Reading.{no-ok, ok-injective}
 use Rattle.completion.specs.Turn.{run}
 use Rattle.completion.specs.Calls.{result-fields, result-bytes, complete-call, Writes}
 use Rattle.completion.specs.Settle.{settle}
-use Rattle.completion.proofs.Accepts.{accepts}
-use Rattle.completion.proofs.Result.{fields-fit}
+use Rattle.completion.proofs.Capacity.{problem-fields-fit}
 use Rattle.settle_text.specs.Text.{Lines, Refusal}
 
 module _ (problem : List ℕ) (buffer : ℕ) (big : 16_384 ≤ buffer) where
@@ -27,7 +26,7 @@ module _ (problem : List ℕ) (buffer : ℕ) (big : 16_384 ≤ buffer) where
           let q′ : ok (result-bytes (run P)) ≡ ok result = rw p at q in
           rw (p, settle)
           (h (result-fields (run P))
-          (every-map (λ f k. let l : length (f .contents) ≤ 242 = k .length-fits in omega arith) (fields-fit P (accepts problem P p)))
+          (every-map (λ f k. let l : length (f .contents) ≤ 242 = k .length-fits in omega arith) (problem-fields-fit problem P p))
           (sym (ok-injective q′)))
       go (refused n at) p q = absurd (no-ok (rw p at q))
 

@@ -10,7 +10,7 @@ use Rattle.limits.specs.Limits.{most-equations, most-rules, most-variables}
 use Rattle.terms.specs.Term.{Pair}
 use Rattle.terms.proofs.Shape.{zero≢one}
 use Rattle.rewriting.specs.Overlap.{Rule as LiveRule}
-use Rattle.problem.specs.Problem.{Problem}
+use Rattle.problem.specs.Problem.{Theory}
 use Rattle.slots.specs.Slots.{slot-width, slot, Layout, PairAt, MarkedAt, Holds, Removed, Inserted}
 use Rattle.slots.specs.declared.Pairs.{Pairs}
 use Rattle.slots.proofs.Listing.{pair-moved}
@@ -45,7 +45,7 @@ initial-done inputs budget zeros y few = record {
   };
   units = refl;
   empty = refl;
-  represents = λ tab P h. record { pairs = h; live = refl; made = refl; log = record { bytes = refl; counted = refl }; back = refl };
+  represents = λ tab T h. record { pairs = h; live = refl; made = refl; log = record { bytes = refl; counted = refl }; back = refl };
 }
 
 -- the rows of a state that is stood for
@@ -144,10 +144,10 @@ module _ (tab pair : List ℕ) (st : State) (o : NewPair) where
     abbrev as-it-was : Oriented
     as-it-was = record { state = st; way = o .way }
 
-    no-rule : (P : Problem) (s : RunState) (p : Pair) (w : Way) → (w ≡ Rule → ⊥) → OrientedIs tab (o .rule) P p w → OrientsIs tab P s p st w
-    no-rule P s p Rule n a = absurd (n refl)
-    no-rule P s p Neither n a = a
-    no-rule P s p TooLarge n a = a
+    no-rule : (T : Theory) (s : RunState) (p : Pair) (w : Way) → (w ≡ Rule → ⊥) → OrientedIs tab (o .rule) T p w → OrientsIs tab T s p st w
+    no-rule T s p Rule n a = absurd (n refl)
+    no-rule T s p Neither n a = a
+    no-rule T s p TooLarge n a = a
 
     pub orient-none : Orients tab pair st as-it-was
     orient-none = record {
@@ -156,7 +156,7 @@ module _ (tab pair : List ℕ) (st : State) (o : NewPair) where
       made = λ g. absurd (none g);
       same = record { log = refl; back = refl; units = refl };
       low = h .low;
-      answer = λ P k s p r q. no-rule P s p (o .way) none (h .answer P k p q);
+      answer = λ T k s p r q. no-rule T s p (o .way) none (h .answer T k p q);
     }
 
   module _ (fine : Fine st) (h : RuleOf tab pair (st .made + 1) o) (is-rule : o .way ≡ Rule) (few : st .pairs .count ≤ most-rules)
@@ -203,12 +203,12 @@ module _ (tab pair : List ℕ) (st : State) (o : NewPair) where
             back = r .back;
           }
 
-    made-rule : (P : Problem) (s : RunState) → Represents tab st s → (p : Pair) (w : Way) → w ≡ Rule → OrientedIs tab (o .rule) P p w →
-        OrientsIs tab P s p with-new w
-    made-rule P s r p Rule e a =
+    made-rule : (T : Theory) (s : RunState) → Represents tab st s → (p : Pair) (w : Way) → w ≡ Rule → OrientedIs tab (o .rule) T p w →
+        OrientsIs tab T s p with-new w
+    made-rule T s r p Rule e a =
         (a .0, record { sides = a .1 .sides; oriented = a .1 .oriented; represents = with-new-rule s r (a .1 .sides) (a .1 .stands) })
-    made-rule P s r p Neither e a = absurd (zero≢one (cc))
-    made-rule P s r p TooLarge e a = absurd (zero≢one (cc))
+    made-rule T s r p Neither e a = absurd (zero≢one (cc))
+    made-rule T s r p TooLarge e a = absurd (zero≢one (cc))
 
     pub orient-done : Orients tab pair st (record { state = with-new; way = o .way })
     orient-done =
@@ -228,7 +228,7 @@ module _ (tab pair : List ℕ) (st : State) (o : NewPair) where
           made = λ g. refl;
           same = record { log = refl; back = refl; units = refl };
           low = h .low;
-          answer = λ P k s p r q. made-rule P s r p (o .way) is-rule (h .answer P k p q);
+          answer = λ T k s p r q. made-rule T s r p (o .way) is-rule (h .answer T k p q);
         }
 
 -- `collapse`

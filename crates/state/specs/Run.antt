@@ -6,8 +6,9 @@ use lib.ListN.{length, take}
 use Rattle.limits.specs.Limits.{most-rules, most-pairs, most-entries, origin-width}
 use Rattle.terms.specs.Base.{number-bytes}
 use Rattle.rewriting.specs.Overlap.{Rule}
+use Rattle.rewriting.specs.Ends.{ending}
 use Rattle.slots.specs.Slots.{Layout}
-use Rattle.completion.specs.Turn.{removed-rule, Candidate, Entry, State as RunState}
+use Rattle.completion.specs.Turn.{removed-rule, Candidate, Entry, State as RunState, Finished}
 use Rattle.completion.specs.Calls.{origin-bytes}
 use Rattle.inputs.specs.Inputs.{Held}
 use Rattle.rewriting.specs.declared.End.{End as Ending}
@@ -56,6 +57,12 @@ pub record Represents (tab : List ℕ) (st : State) (s : RunState) : Type 0 wher
   pub made : st .made ≡ s .made
   pub log : Logged (st .log) (s .log)
   pub back : st .back ≡ s .put-back
+
+-- What a run leaves, f: the state stands for its last state, and its end and the units paid are these.
+pub record Leaves (tab : List ℕ) (f : Finished) (st : State) (end : Ending) (paid : ℕ) : Type 0 where
+  pub state : Represents tab st (f .state)
+  pub end-is : end ≡ ending (f .end)
+  pub paid-is : paid ≡ f .units
 
 -- the state with other units
 abbrev pub with-units : State → ℕ → State

@@ -11,7 +11,7 @@ use Rattle.terms.specs.Term.{Pair, pair-variables}
 use Rattle.fields.specs.Puts.{patched}
 use Rattle.order.specs.Walk.{rank}
 use Rattle.rewriting.specs.Overlap.{Rule as LiveRule}
-use Rattle.problem.specs.Problem.{rank-of, Problem}
+use Rattle.problem.specs.Problem.{rank-of, Theory}
 use Rattle.slots.specs.Slots.{slot, mark-of, PairAt}
 use Rattle.slots.specs.declared.Pairs.{Pairs}
 use Rattle.completion.specs.Turn.{Origin, Candidate, State as RunState, Taken, initial, orient, waits-again, kept, removed}
@@ -29,7 +29,7 @@ pub record Initial (inputs : Pairs) (budget : ℕ) (r : State) : Type 0 where
   pub fine : Fine r
   pub units : r .units ≡ budget
   pub empty : r .log .count ≡ 0
-  pub represents : (tab : List ℕ) (P : Problem) → Held tab inputs (inputs-of P) → Represents tab r (initial P)
+  pub represents : (tab : List ℕ) (T : Theory) → Held tab inputs (inputs-of (T .equations)) → Represents tab r (initial T)
 
 -- what a step leaves alone
 pub record SameLog (st r : State) : Type 0 where
@@ -62,15 +62,15 @@ with-rule s p = record {
   put-back = s .put-back;
 }
 
-pub record NewRule (tab : List ℕ) (P : Problem) (s : RunState) (e : Pair) (r : State) : Type 0 where
+pub record NewRule (tab : List ℕ) (T : Theory) (s : RunState) (e : Pair) (r : State) : Type 0 where
   pub sides : Pair
-  pub oriented : orient P e ≡ some sides
+  pub oriented : orient T e ≡ some sides
   pub represents : Represents tab r (with-rule s sides)
 
-abbrev pub OrientsIs : List ℕ → Problem → RunState → Pair → State → Way → Type 0
-OrientsIs tab P s e r Rule = Few e × NewRule tab P s e r
-OrientsIs tab P s e r Neither = Few e × (orient P e ≡ none)
-OrientsIs tab P s e r TooLarge = most-variables < length (pair-variables e)
+abbrev pub OrientsIs : List ℕ → Theory → RunState → Pair → State → Way → Type 0
+OrientsIs tab T s e r Rule = Few e × NewRule tab T s e r
+OrientsIs tab T s e r Neither = Few e × (orient T e ≡ none)
+OrientsIs tab T s e r TooLarge = most-variables < length (pair-variables e)
 
 pub record Orients (tab pair : List ℕ) (st : State) (o : Oriented) : Type 0 where
   pub fine : o .way ≡ Rule → FineBut 1 (o .state)
@@ -78,8 +78,8 @@ pub record Orients (tab pair : List ℕ) (st : State) (o : Oriented) : Type 0 wh
   pub made : o .way ≡ Rule → o .state .made ≡ st .made + 1
   pub same : SameLog st (o .state)
   pub low : o .way ≡ Neither → LowPair pair
-  pub answer : (P : Problem) → rank-of (P .symbols) ≡ rank tab → (s : RunState) (e : Pair) → Represents tab st s →
-      PairAt most-apart tab pair 0 e → OrientsIs tab P s e (o .state) (o .way)
+  pub answer : (T : Theory) → rank-of (T .symbols) ≡ rank tab → (s : RunState) (e : Pair) → Represents tab st s →
+      PairAt most-apart tab pair 0 e → OrientsIs tab T s e (o .state) (o .way)
 
 -- `put_back`: the pair that was taken of s waits again
 pub record PutsBack (pair : List ℕ) (st : State) (units : ℕ) (r : State) : Type 0 where

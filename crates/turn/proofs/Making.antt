@@ -8,7 +8,7 @@ use native.Mathlib.Omega.{arith}
 use lib.ListN.{length, length-append}
 use Rattle.limits.specs.Limits.{most-rules, most-variables}
 use Rattle.terms.specs.Term.{pair-variables}
-use Rattle.problem.specs.Problem.{Problem}
+use Rattle.problem.specs.Problem.{Theory}
 use Rattle.rewriting.specs.Overlap.{Rule}
 use Rattle.rewriting.specs.Rewrite.{Paid, done, stop}
 use Rattle.rewriting.specs.Ends.{ending}
@@ -34,23 +34,23 @@ abbrev pub MadeIs : List ℕ → Turned → Paid RunState → Type 0
 MadeIs tab o (done s′ left) = (o .verdict ≡ GoesOn) × (o .state .units ≡ left) × Represents tab (o .state) s′
 MadeIs tab o (stop f left) = (o .verdict ≡ Ends (ending f)) × (o .state .units ≡ left)
 
-module _ (tab : List ℕ) (P : Problem) (s : RunState) (k : TakenPair) (units : ℕ) where
+module _ (tab : List ℕ) (T : Theory) (s : RunState) (k : TakenPair) (units : ℕ) where
   abbrev made : Paid RunState
-  made = make-rule P s k units
+  made = make-rule T s k units
 
   -- more than 16 variables
   pub make-large : (st : State) → most-variables < length (pair-variables (k .pair .sides)) → MadeIs tab (ended-as st TooLarge units) made
   unfolding ending
-  make-large st many = subst (MadeIs tab (ended-as st TooLarge units)) (sym (make-many-variables P s k units many)) (refl, refl)
+  make-large st many = subst (MadeIs tab (ended-as st TooLarge units)) (sym (make-many-variables T s k units many)) (refl, refl)
 
   module _ (few : Few (k .pair .sides)) where
     -- neither side above the other
-    pub make-neither : {o : Turned} → orient P (k .pair .sides) ≡ none → o .verdict ≡ GoesOn → o .state .units ≡ units →
+    pub make-neither : {o : Turned} → orient T (k .pair .sides) ≡ none → o .verdict ≡ GoesOn → o .state .units ≡ units →
         Represents tab (o .state) (waits-again s k) → MadeIs tab o made
-    make-neither {o} h v u R = subst (MadeIs tab o) (sym (make-waits-again P s k units few h)) (v, u, R)
+    make-neither {o} h v u R = subst (MadeIs tab o) (sym (make-waits-again T s k units few h)) (v, u, R)
 
     -- the new rule behind the older ones that are kept
-    module _ (waits : s .waiting ≡ k .waiting) {placed next : State} (N : NewRule tab P s (k .pair .sides) placed) (C : Collapses tab placed next) where
+    module _ (waits : s .waiting ≡ k .waiting) {placed next : State} (N : NewRule tab T s (k .pair .sides) placed) (C : Collapses tab placed next) where
       abbrev new : Rule
       new = new-rule s (N .sides)
 
@@ -70,7 +70,7 @@ module _ (tab : List ℕ) (P : Problem) (s : RunState) (k : TakenPair) (units : 
       unfolding ending
       make-full st full =
           subst (MadeIs tab (ended-as st RulesFull units))
-          (sym (make-many-rules P s k units few (N .sides) (N .oriented) (omega (arith, live-is)))) (refl, refl)
+          (sym (make-many-rules T s k units few (N .sides) (N .oriented) (omega (arith, live-is)))) (refl, refl)
 
       module _ (live : next .live ≤ most-rules) {b : List ℕ} {c : Composed} (A : All tab (next .pairs .bytes) b (next .live) units c) where
         composed : AllIs tab b (older ++ (new ∷ [])) c (normalise-rights [] older new units)
@@ -86,7 +86,7 @@ module _ (tab : List ℕ) (P : Problem) (s : RunState) (k : TakenPair) (units : 
             go (done rs left) q a = absurd (goes≢ends (a .0) w)
             go (stop e left) q a =
                 subst (MadeIs tab (ended-as st end (c .units)))
-                (sym (make-rights-stop P s k units few (N .sides) (N .oriented) (omega (arith, live-is)) e left q))
+                (sym (make-rights-stop T s k units few (N .sides) (N .oriented) (omega (arith, live-is)) e left q))
                 (ap Ends (same-end w (a .0)), a .1)
 
         -- all right sides were done
@@ -104,5 +104,5 @@ module _ (tab : List ℕ) (P : Problem) (s : RunState) (k : TakenPair) (units : 
                 subst (λ x. Represents tab (o .state) (with-entry (with-rules with-new rs) (k .pair .origin) x)) (stands .made) l in
                 let z : Represents tab (o .state) (next-state s k (N .sides) rs) =
                 subst (λ x. Represents tab (o .state) (next-state s (record { pair = k .pair; waiting = x }) (N .sides) rs)) waits m in
-                subst (MadeIs tab o) (sym (make-done P s k units few (N .sides) (N .oriented) (omega (arith, live-is)) rs left q))
+                subst (MadeIs tab o) (sym (make-done T s k units few (N .sides) (N .oriented) (omega (arith, live-is)) rs left q))
                 (v, L .units-are ∙ a .1, z)

@@ -16,7 +16,7 @@ use Rattle.rewriting.specs.declared.End.the-variants.{TooLarge as EndsLarge, Ru
 use Rattle.rewriting.specs.declared.Verdict.the-variants.{GoesOn, Ends}
 use Rattle.rewriting.proofs.Verdicts.{goes≢ends, same-end}
 use Rattle.order.specs.Walk.{rank}
-use Rattle.problem.specs.Problem.{rank-of, Problem}
+use Rattle.problem.specs.Problem.{rank-of, Theory}
 use Rattle.completion.specs.Turn.{Origin, State as RunState, Taken as TakenPair, orient, waits-again, if-oriented, make-rule}
 use Rattle.completion.specs.Calls.{origin-bytes}
 use Rattle.slots.specs.Slots.{slot, mark-of, Layout, PairAt}
@@ -51,33 +51,33 @@ same-count e = ap (λ (x : Log). x .count) e
 -- step 3: what `settle` requires
 pub settle-needs : {st tk : State} {pair : List ℕ} → Takes st tk → st .log .count < most-entries → Layout pair 1 →
     Fine tk × (tk .log .count < most-entries) × Layout pair 1
-settle-needs T few y = (T .fine, omega (arith, same-count (T .same .log)), y)
+settle-needs K few y = (K .fine, omega (arith, same-count (K .same .log)), y)
 
 pub settles : {st tk lg : State} {t : Taken} {o : Turned} → Takes st tk → Logs tk (mark-of (slot (t .pair) 0)) 0 (t .units) lg → o ≡ going-as lg →
     Settles st t o
-settles {st} {tk} {lg} {t} T L e =
+settles {st} {tk} {lg} {t} K L e =
     subst (Settles st t) (sym e)
     (record {
-      safe = λ l. go-safe refl (L .fine) (L .entries ∙ ap (λ n. n + 1) (same-count (T .same .log))) (omega (arith, L .units-are));
+      safe = λ l. go-safe refl (L .fine) (L .entries ∙ ap (λ n. n + 1) (same-count (K .same .log))) (omega (arith, L .units-are));
       goes = refl;
       units = L .units-are;
-      represents = λ tab s o R m. L .represents tab (without-oldest s) o (T .represents tab s R) m;
+      represents = λ tab s o R m. L .represents tab (without-oldest s) o (K .represents tab s R) m;
     })
 
 -- steps 4 to 7 of the pair that was taken
 pub record Makes (tab pair : List ℕ) (first : State) (units : ℕ) (o : Turned) : Type 0 where
   pub safe : units ≤ first .units → TurnSafe first o
-  pub answer : (P : Problem) → rank-of (P .symbols) ≡ rank tab → (s : RunState) (k : TakenPair) → Represents tab first s →
+  pub answer : (T : Theory) → rank-of (T .symbols) ≡ rank tab → (s : RunState) (k : TakenPair) → Represents tab first s →
       k .waiting ≡ behind-first (s .waiting) → PairAt most-apart tab pair 0 (k .pair .sides) → mark-of (slot pair 0) ≡ origin-bytes (k .pair .origin) →
-      TurnedIs tab s o (make-rule P s k units)
+      TurnedIs tab s o (make-rule T s k units)
 
 -- what their calls require
 pub orient-room : {st tk : State} → Fine st → Takes st tk → tk .pairs .count ≤ most-rules
-orient-room {st} {tk} F T = go (T .room)
+orient-room {st} {tk} F K = go (K .room)
   where
     go : tk .pairs .count < st .pairs .count ⊎ (tk .pairs .count ≡ tk .live) → tk .pairs .count ≤ most-rules
     go (inl h) = let a = F .together in omega arith
-    go (inr h) = let a = T .fine .live-few in omega arith
+    go (inr h) = let a = K .fine .live-few in omega arith
 
 pub compose-room : {tab : List ℕ} {st next : State} → Collapses tab st next → Layout (next .pairs .bytes) (next .live)
 compose-room C = layout-less (C .fine .within) (C .fine .layout)
@@ -88,10 +88,10 @@ pub all-done : {tab pairs pairs′ : List ℕ} {live units : ℕ} {c : Composed}
 all-done few w = ⊎-elim (λ f. absurd (goes≢ends w (ap (λ (x : Composed). x .verdict) (f .1)))) (λ f. f) few
 
 -- `make-rule` looks at what waits in the pair that was taken only
-make-without : (P : Problem) (s : RunState) (k : TakenPair) (u : ℕ) → make-rule P (without-oldest s) k u ≡ make-rule P s k u
+make-without : (T : Theory) (s : RunState) (k : TakenPair) (u : ℕ) → make-rule T (without-oldest s) k u ≡ make-rule T s k u
 unfolding make-rule _>>=_
-make-without P s k u =
-    ap (λ m. and-then (end-if (ltb most-variables (length (pair-variables (k .pair .sides)))) too-large u) (λ _. m)) (go (orient P (k .pair .sides)))
+make-without T s k u =
+    ap (λ m. and-then (end-if (ltb most-variables (length (pair-variables (k .pair .sides)))) too-large u) (λ _. m)) (go (orient T (k .pair .sides)))
   where
     go : (o : Option Pair) → if-oriented (without-oldest s) k o ≡ if-oriented s k o
     go none = unfold if-oriented waits-again in refl
@@ -109,59 +109,59 @@ module _ (tab : List ℕ) (s : RunState) where
   go-turned o v (stop f left) a = absurd (goes≢ends v (a .0))
 
 -- what is answered, way by way
-module _ {tab pair : List ℕ} {first rest : State} {o : Oriented} (F : Fine first) (T : Takes first rest) (O : Orients tab pair rest o) where
+module _ {tab pair : List ℕ} {first rest : State} {o : Oriented} (F : Fine first) (K : Takes first rest) (O : Orients tab pair rest o) where
   -- what `orient` says of the pair that was taken
-  told : (P : Problem) → rank-of (P .symbols) ≡ rank tab → (s : RunState) (k : TakenPair) → Represents tab first s →
-      PairAt most-apart tab pair 0 (k .pair .sides) → OrientsIs tab P (without-oldest s) (k .pair .sides) (o .state) (o .way)
-  told P ranks s k R shown = O .answer P ranks (without-oldest s) (k .pair .sides) (T .represents tab s R) shown
+  told : (T : Theory) → rank-of (T .symbols) ≡ rank tab → (s : RunState) (k : TakenPair) → Represents tab first s →
+      PairAt most-apart tab pair 0 (k .pair .sides) → OrientsIs tab T (without-oldest s) (k .pair .sides) (o .state) (o .way)
+  told T ranks s k R shown = O .answer T ranks (without-oldest s) (k .pair .sides) (K .represents tab s R) shown
 
   -- the way is known, and steps 4 to 7 of the state without the pair come to something
   module _ (units : ℕ) (r : Turned) {w : Way} (v : o .way ≡ w) where
     abbrev Comes : Type 0
-    Comes = (P : Problem) (s : RunState) (k : TakenPair) → Represents tab rest s → s .waiting ≡ k .waiting → PairAt most-apart tab pair 0 (k .pair .sides) →
-        mark-of (slot pair 0) ≡ origin-bytes (k .pair .origin) → OrientsIs tab P s (k .pair .sides) (o .state) w → MadeIs tab r (make-rule P s k units)
+    Comes = (T : Theory) (s : RunState) (k : TakenPair) → Represents tab rest s → s .waiting ≡ k .waiting → PairAt most-apart tab pair 0 (k .pair .sides) →
+        mark-of (slot pair 0) ≡ origin-bytes (k .pair .origin) → OrientsIs tab T s (k .pair .sides) (o .state) w → MadeIs tab r (make-rule T s k units)
 
-    comes : Comes → (P : Problem) → rank-of (P .symbols) ≡ rank tab → (s : RunState) (k : TakenPair) → Represents tab first s →
+    comes : Comes → (T : Theory) → rank-of (T .symbols) ≡ rank tab → (s : RunState) (k : TakenPair) → Represents tab first s →
         k .waiting ≡ behind-first (s .waiting) → PairAt most-apart tab pair 0 (k .pair .sides) → mark-of (slot pair 0) ≡ origin-bytes (k .pair .origin) →
-        MadeIs tab r (make-rule P s k units)
-    comes h P ranks s k R waits shown mark =
-        subst (MadeIs tab r) (make-without P s k units)
-        (h P (without-oldest s) k (T .represents tab s R) (sym waits) shown mark
-        (subst (OrientsIs tab P (without-oldest s) (k .pair .sides) (o .state)) v (told P ranks s k R shown)))
+        MadeIs tab r (make-rule T s k units)
+    comes h T ranks s k R waits shown mark =
+        subst (MadeIs tab r) (make-without T s k units)
+        (h T (without-oldest s) k (K .represents tab s R) (sym waits) shown mark
+        (subst (OrientsIs tab T (without-oldest s) (k .pair .sides) (o .state)) v (told T ranks s k R shown)))
 
     makes-stop : {end : Ending} {n : ℕ} → r ≡ ended-as first end n → n ≤ units → Comes → Makes tab pair first units r
     makes-stop {end} {n} e l h =
         record {
           safe = λ m. subst (TurnSafe first) (sym e) (stop-safe F (omega arith));
-          answer = λ P ranks s k R waits shown mark.
-              subst (λ x. TurnedIs tab s x (make-rule P s k units)) (sym e)
-              (stop-turned tab s first end n R (make-rule P s k units)
-              (subst (λ x. MadeIs tab x (make-rule P s k units)) e (comes h P ranks s k R waits shown mark)));
+          answer = λ T ranks s k R waits shown mark.
+              subst (λ x. TurnedIs tab s x (make-rule T s k units)) (sym e)
+              (stop-turned tab s first end n R (make-rule T s k units)
+              (subst (λ x. MadeIs tab x (make-rule T s k units)) e (comes h T ranks s k R waits shown mark)));
         }
 
     makes-on : r .verdict ≡ GoesOn → Fine (r .state) → r .state .log .count ≡ rest .log .count + 1 → r .state .units ≤ units → Comes →
         Makes tab pair first units r
     makes-on g fine grows l h =
         record {
-          safe = λ m. go-safe g fine (grows ∙ ap (λ n. n + 1) (same-count (T .same .log))) (omega arith);
-          answer = λ P ranks s k R waits shown mark. go-turned tab s r g (make-rule P s k units) (comes h P ranks s k R waits shown mark);
+          safe = λ m. go-safe g fine (grows ∙ ap (λ n. n + 1) (same-count (K .same .log))) (omega arith);
+          answer = λ T ranks s k R waits shown mark. go-turned tab s r g (make-rule T s k units) (comes h T ranks s k R waits shown mark);
         }
 
   pub makes-large : {units : ℕ} {r : Turned} → o .way ≡ TooLarge → r ≡ ended-as first EndsLarge units → Makes tab pair first units r
   makes-large {units} {r} v e =
-      makes-stop units r v e (omega arith) (λ P s k R waits shown mark many.
-      subst (λ x. MadeIs tab x (make-rule P s k units)) (sym e) (make-large tab P s k units first many))
+      makes-stop units r v e (omega arith) (λ T s k R waits shown mark many.
+      subst (λ x. MadeIs tab x (make-rule T s k units)) (sym e) (make-large tab T s k units first many))
 
   pub put-back-needs : o .way ≡ Neither → first .log .count < most-entries → Layout pair 1 →
       (Fine rest × (rest .pairs .count ≤ most-rules) × (rest .log .count < most-entries)) × (Layout pair 1 × LowPair pair)
-  put-back-needs v room y = ((T .fine, orient-room F T, omega (arith, same-count (T .same .log))), (y, O .low v))
+  put-back-needs v room y = ((K .fine, orient-room F K, omega (arith, same-count (K .same .log))), (y, O .low v))
 
   pub makes-neither : {units : ℕ} {r : Turned} {back : State} → o .way ≡ Neither → PutsBack pair rest units back → r ≡ going-as back →
       Makes tab pair first units r
   makes-neither {units} {r} {back} v B e =
       subst (Makes tab pair first units) (sym e)
-      (makes-on units (going-as back) v refl (B .fine) (B .entries) (omega (arith, B .units-are)) (λ P s k R waits shown mark h.
-      make-neither tab P s k units (h .0) (h .1) refl (B .units-are) (B .represents tab s k R waits shown (h .0) mark)))
+      (makes-on units (going-as back) v refl (B .fine) (B .entries) (omega (arith, B .units-are)) (λ T s k R waits shown mark h.
+      make-neither tab T s k units (h .0) (h .1) refl (B .units-are) (B .represents tab s k R waits shown (h .0) mark)))
 
   pub collapse-room : o .way ≡ Rule → FineBut 1 (o .state) × (0 < o .state .live)
   collapse-room v = (O .fine v, omega (arith, O .live v))
@@ -172,7 +172,7 @@ module _ {tab pair : List ℕ} {first rest : State} {o : Oriented} (F : Fine fir
 
     pub make-logs : {b : List ℕ} {units : ℕ} {c : Composed} → All tab (next .pairs .bytes) b (next .live) units c → first .log .count < most-entries →
         FineBut 1 (with-slots next b) × (next .log .count < most-entries)
-    make-logs A room = (slots-fine (C .fine) (A .only), omega (arith, log-same, same-count (T .same .log)))
+    make-logs A room = (slots-fine (C .fine) (A .only), omega (arith, log-same, same-count (K .same .log)))
 
     module _ (v : o .way ≡ Rule) {units : ℕ} {r : Turned} {b : List ℕ} {c : Composed} (few : ComposesFew tab (next .live) (next .pairs .bytes) b units c) where
       -- a 33rd live rule, or a right side stopped
@@ -184,11 +184,11 @@ module _ {tab pair : List ℕ} {first rest : State} {o : Oriented} (F : Fine fir
               let u : c .units ≡ units = ap (λ (x : Composed). x .units) (f .1) in
               let x : end ≡ RulesFull = same-end w (ap (λ (x : Composed). x .verdict) (f .1)) in
               let q : r ≡ ended-as first RulesFull units = e ∙ ap₂ (λ a b. ended-as first a b) x u in
-              makes-stop units r v q (omega arith) (λ P s k R waits shown mark h.
-              subst (λ x. MadeIs tab x (make-rule P s k units)) (sym q) (make-full tab P s k units (h .0) waits (h .1) C first (f .0)))
+              makes-stop units r v q (omega arith) (λ T s k R waits shown mark h.
+              subst (λ x. MadeIs tab x (make-rule T s k units)) (sym q) (make-full tab T s k units (h .0) waits (h .1) C first (f .0)))
           go (inr f) =
-              makes-stop units r v e (f .1 .left-over) (λ P s k R waits shown mark h.
-              subst (λ x. MadeIs tab x (make-rule P s k units)) (sym e) (make-rights-end tab P s k units (h .0) waits (h .1) C (f .0) (f .1) first w))
+              makes-stop units r v e (f .1 .left-over) (λ T s k R waits shown mark h.
+              subst (λ x. MadeIs tab x (make-rule T s k units)) (sym e) (make-rights-end tab T s k units (h .0) waits (h .1) C (f .0) (f .1) first w))
 
       pub makes-goes : {made : ℕ} {lg : State} → c .verdict ≡ GoesOn → made ≡ next .made → Logs (with-slots next b) (mark-of (slot pair 0)) made (c .units) lg →
           r ≡ going-as lg → Makes tab pair first units r
@@ -198,5 +198,5 @@ module _ {tab pair : List ℕ} {first rest : State} {o : Oriented} (F : Fine fir
           let A = all-done few w in
           let less = A .1 .left-over in
           subst (Makes tab pair first units) (sym e)
-          (makes-on units (going-as lg) v refl (L .fine) (omega (arith, L .entries, log-same)) (omega (arith, L .units-are)) (λ P s k R waits shown mark h.
-          make-goes tab P s k units (h .0) waits (h .1) C (A .0) (A .1) w refl L mark))
+          (makes-on units (going-as lg) v refl (L .fine) (omega (arith, L .entries, log-same)) (omega (arith, L .units-are)) (λ T s k R waits shown mark h.
+          make-goes tab T s k units (h .0) waits (h .1) C (A .0) (A .1) w refl L mark))

@@ -10,7 +10,7 @@ use lib.ListN.{length}
 use Rattle.limits.specs.Limits.{most-apart, most-pairs, most-entries}
 use Rattle.terms.specs.Term.{same}
 use Rattle.terms.proofs.Shape.{zero≢one}
-use Rattle.problem.specs.Problem.{Problem}
+use Rattle.problem.specs.Problem.{Theory}
 use Rattle.rewriting.specs.Rewrite.{End, complete, neither-above, spent, too-large, rules-full, log-full, Paid, done, stop}
 use Rattle.rewriting.specs.Ends.{ending}
 use Rattle.rewriting.specs.declared.End.{End as Ending}
@@ -46,27 +46,27 @@ look-stop rules-full t waits n h = absurd h
 look-stop log-full t waits n h = absurd h
 
 -- what the definition takes, by what is due
-data Step (tab : List ℕ) (P : Problem) (s : RunState) (u : ℕ) (t : Taken) (n : ℕ) (d : Due) : Type 0 where
-  stops : (e : End) → taking P s u ≡ stop e (t .units) → d ≡ Stop (ending e) → Step tab P s u t n d
-  full : (k : TakenPair) → taking P s u ≡ done k (t .units) → most-entries ≤ n → d ≡ Stop LogFull → Step tab P s u t n d
-  settles : (k : TakenPair) → taking P s u ≡ done k (t .units) → n < most-entries → k .waiting ≡ behind-first (s .waiting) →
+data Step (tab : List ℕ) (T : Theory) (s : RunState) (u : ℕ) (t : Taken) (n : ℕ) (d : Due) : Type 0 where
+  stops : (e : End) → taking T s u ≡ stop e (t .units) → d ≡ Stop (ending e) → Step tab T s u t n d
+  full : (k : TakenPair) → taking T s u ≡ done k (t .units) → most-entries ≤ n → d ≡ Stop LogFull → Step tab T s u t n d
+  settles : (k : TakenPair) → taking T s u ≡ done k (t .units) → n < most-entries → k .waiting ≡ behind-first (s .waiting) →
       mark-of (slot (t .pair) 0) ≡ origin-bytes (k .pair .origin) → same (k .pair .sides .left) (k .pair .sides .right) ≡ true → d ≡ Settle →
-      Step tab P s u t n d
-  makes : (k : TakenPair) → taking P s u ≡ done k (t .units) → n < most-entries → k .waiting ≡ behind-first (s .waiting) →
+      Step tab T s u t n d
+  makes : (k : TakenPair) → taking T s u ≡ done k (t .units) → n < most-entries → k .waiting ≡ behind-first (s .waiting) →
       mark-of (slot (t .pair) 0) ≡ origin-bytes (k .pair .origin) → same (k .pair .sides .left) (k .pair .sides .right) ≡ false →
-      PairAt most-apart tab (t .pair) 0 (k .pair .sides) → d ≡ Make → Step tab P s u t n d
+      PairAt most-apart tab (t .pair) 0 (k .pair .sides) → d ≡ Make → Step tab T s u t n d
 
-module _ (tab : List ℕ) (P : Problem) (s : RunState) (u : ℕ) (t : Taken) (waits : Bool) (n : ℕ) where
+module _ (tab : List ℕ) (T : Theory) (s : RunState) (u : ℕ) (t : Taken) (waits : Bool) (n : ℕ) where
   abbrev Steps : Type 0
-  Steps = Step tab P s u t n (due-after (t .found) waits n)
+  Steps = Step tab T s u t n (due-after (t .found) waits n)
 
-  step-of : (p : Paid TakenPair) → taking P s u ≡ p → LookIs tab t waits s p → Steps
+  step-of : (p : Paid TakenPair) → taking T s u ≡ p → LookIs tab t waits s p → Steps
   unfolding due-after
   step-of (stop e left) q a =
       stops e (q ∙ ap (stop e) (sym (a .0))) (look-stop e t waits n (a .1))
   step-of (done k left) q a = go (same (k .pair .sides .left) (k .pair .sides .right)) refl (a .3)
     where
-      r : taking P s u ≡ done k (t .units)
+      r : taking T s u ≡ done k (t .units)
       r = q ∙ ap (done k) (sym (a .0))
 
       equal : same (k .pair .sides .left) (k .pair .sides .right) ≡ true → (d : Due) → Room n Settle d → due-after (t .found) waits n ≡ d → Steps
@@ -102,8 +102,8 @@ turn-spent {tab} {inputs} {count} {st} F z e =
     subst (Turns tab inputs count st) (sym e)
     (record {
       safe = stop-safe F (omega arith);
-      answer = λ P G s R.
-          subst (λ p. TurnedIs tab s (ended-as st Spent 0) p) (sym (ap (turn P s) z ∙ turn-unpaid P s)) (refl, refl, units-represent 0 R);
+      answer = λ T G s R.
+          subst (λ p. TurnedIs tab s (ended-as st Spent 0) p) (sym (ap (turn T s) z ∙ turn-unpaid T s)) (refl, refl, units-represent 0 R);
     })
 
 -- the state that `settled` leaves
@@ -170,19 +170,19 @@ module _ {tab inputs : List ℕ} {count : ℕ} {st begun : State} {w : Waiting} 
       due ∙ ap (λ (x : Waiting). due-after (t .found) (ltb 0 (x .count)) (begun .log .count)) waits-are
       ∙ ap (λ b. due-after (t .found) (some-behind b) (b .log .count)) began
 
-  steps : (P : Problem) → Given tab inputs count P → (s : RunState) → Represents tab st s → Step tab P s u t (length (s .log)) d
-  steps P G s R =
-      let a : Step tab P s u t (st .log .count) (due-after (t .found) waits (st .log .count)) =
-      step-of tab P s u t waits (st .log .count) _ refl (L .answer P G s (pairs-of R)) in
-      subst (λ n. Step tab P s u t n d) (R .log .counted) (subst (Step tab P s u t (st .log .count)) (sym is) a)
+  steps : (T : Theory) → Given tab inputs count T → (s : RunState) → Represents tab st s → Step tab T s u t (length (s .log)) d
+  steps T G s R =
+      let a : Step tab T s u t (st .log .count) (due-after (t .found) waits (st .log .count)) =
+      step-of tab T s u t waits (st .log .count) _ refl (L .answer T G s (pairs-of R)) in
+      subst (λ n. Step tab T s u t n d) (R .log .counted) (subst (Step tab T s u t (st .log .count)) (sym is) a)
 
   turned : (o : Turned) → TurnSafe (with-units st u) o →
-      ((P : Problem) → Given tab inputs count P → (s : RunState) → Represents tab st s → TurnedIs tab s o (turn P s (suc u))) →
+      ((T : Theory) → Given tab inputs count T → (s : RunState) → Represents tab st s → TurnedIs tab s o (turn T s (suc u))) →
       Turns tab inputs count st o
   turned o safe answer =
       record {
         safe = begun-safe (omega arith) safe;
-        answer = λ P G s R. subst (λ n. TurnedIs tab s o (turn P s n)) (sym (some-units (st .units) some)) (answer P G s R);
+        answer = λ T G s R. subst (λ n. TurnedIs tab s o (turn T s n)) (sym (some-units (st .units) some)) (answer T G s R);
       }
 
   abbrev IsEnd : Ending → RunState → Paid RunState → Type 0
@@ -191,41 +191,41 @@ module _ {tab inputs : List ℕ} {count : ℕ} {st begun : State} {w : Waiting} 
   pub turn-ends : {end : Ending} {o : Turned} → d ≡ Stop end → o ≡ ended-as begun end (t .units) → Turns tab inputs count st o
   turn-ends {end} {o} p e′ =
       subst (Turns tab inputs count st) (sym (e′ ∙ ap (λ b. ended-as b end (t .units)) began))
-      (turned (ended-as (with-units st u) end (t .units)) (stop-safe (units-fine u F) (L .left-over)) (λ P G s R. go P s R (steps P G s R)))
+      (turned (ended-as (with-units st u) end (t .units)) (stop-safe (units-fine u F) (L .left-over)) (λ T G s R. go T s R (steps T G s R)))
     where
-      go : (P : Problem) (s : RunState) → Represents tab st s → Step tab P s u t (length (s .log)) d → IsEnd end s (turn P s (suc u))
-      go P s R (stops e q z) =
+      go : (T : Theory) (s : RunState) → Represents tab st s → Step tab T s u t (length (s .log)) d → IsEnd end s (turn T s (suc u))
+      go T s R (stops e q z) =
           let w : end ≡ ending e = cc in
-          subst (IsEnd end s) (sym (turn-stops P s u e (t .units) q)) (ap Ends w, refl, units-represent (t .units) R)
-      go P s R (full k q h z) =
+          subst (IsEnd end s) (sym (turn-stops T s u e (t .units) q)) (ap Ends w, refl, units-represent (t .units) R)
+      go T s R (full k q h z) =
           let w : end ≡ LogFull = cc in
-          subst (IsEnd end s) (sym (turn-log-full P s u k (t .units) q h)) (ap Ends w ∙ ends-full, refl, units-represent (t .units) R)
-      go P s R (settles k q h w m e z) = absurd (zero≢one (cc))
-      go P s R (makes k q h w m e y z) = absurd (zero≢one (cc))
+          subst (IsEnd end s) (sym (turn-log-full T s u k (t .units) q h)) (ap Ends w ∙ ends-full, refl, units-represent (t .units) R)
+      go T s R (settles k q h w m e z) = absurd (zero≢one (cc))
+      go T s R (makes k q h w m e y z) = absurd (zero≢one (cc))
 
   pub turn-settled : {o : Turned} → d ≡ Settle → Settles begun t o → Turns tab inputs count st o
   turn-settled {o} p S′ =
       let S : Settles (with-units st u) t o = subst (λ b. Settles b t o) began S′ in
-      turned o (S .safe (L .left-over)) (λ P G s R. go S P s R (steps P G s R))
+      turned o (S .safe (L .left-over)) (λ T G s R. go S T s R (steps T G s R))
     where
-      go : Settles (with-units st u) t o → (P : Problem) (s : RunState) → Represents tab st s → Step tab P s u t (length (s .log)) d →
-          TurnedIs tab s o (turn P s (suc u))
-      go S P s R (stops e q z) = absurd (zero≢one (cc))
-      go S P s R (full k q h z) = absurd (zero≢one (cc))
-      go S P s R (settles k q h w m e z) =
-          subst (TurnedIs tab s o) (sym (turn-settles P s u k (t .units) q h e))
+      go : Settles (with-units st u) t o → (T : Theory) (s : RunState) → Represents tab st s → Step tab T s u t (length (s .log)) d →
+          TurnedIs tab s o (turn T s (suc u))
+      go S T s R (stops e q z) = absurd (zero≢one (cc))
+      go S T s R (full k q h z) = absurd (zero≢one (cc))
+      go S T s R (settles k q h w m e z) =
+          subst (TurnedIs tab s o) (sym (turn-settles T s u k (t .units) q h e))
           (S .goes, S .units, settled-as tab (o .state) s k w (S .represents tab s (k .pair .origin) (units-represent u R) m))
-      go S P s R (makes k q h w m e y z) = absurd (zero≢one (cc))
+      go S T s R (makes k q h w m e y z) = absurd (zero≢one (cc))
 
   pub turn-made : {o : Turned} → d ≡ Make → Makes tab (t .pair) begun (t .units) o → Turns tab inputs count st o
   turn-made {o} p M′ =
       let M : Makes tab (t .pair) (with-units st u) (t .units) o = subst (λ b. Makes tab (t .pair) b (t .units) o) began M′ in
-      turned o (M .safe (L .left-over)) (λ P G s R. go M P G s R (steps P G s R))
+      turned o (M .safe (L .left-over)) (λ T G s R. go M T G s R (steps T G s R))
     where
-      go : Makes tab (t .pair) (with-units st u) (t .units) o → (P : Problem) → Given tab inputs count P → (s : RunState) → Represents tab st s →
-          Step tab P s u t (length (s .log)) d → TurnedIs tab s o (turn P s (suc u))
-      go M P G s R (stops e q z) = absurd (zero≢one (cc))
-      go M P G s R (full k q h z) = absurd (zero≢one (cc))
-      go M P G s R (settles k q h w m e z) = absurd (zero≢one (cc))
-      go M P G s R (makes k q h w m e y z) =
-          subst (TurnedIs tab s o) (sym (turn-makes P s u k (t .units) q h e)) (M .answer P (G .ranks) s k (units-represent u R) w y m)
+      go : Makes tab (t .pair) (with-units st u) (t .units) o → (T : Theory) → Given tab inputs count T → (s : RunState) → Represents tab st s →
+          Step tab T s u t (length (s .log)) d → TurnedIs tab s o (turn T s (suc u))
+      go M T G s R (stops e q z) = absurd (zero≢one (cc))
+      go M T G s R (full k q h z) = absurd (zero≢one (cc))
+      go M T G s R (settles k q h w m e z) = absurd (zero≢one (cc))
+      go M T G s R (makes k q h w m e y z) =
+          subst (TurnedIs tab s o) (sym (turn-makes T s u k (t .units) q h e)) (M .answer T (G .ranks) s k (units-represent u R) w y m)

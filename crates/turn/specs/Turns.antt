@@ -14,7 +14,7 @@ use Rattle.rewriting.specs.Rewrite.{End, complete, neither-above, spent, too-la
 use Rattle.rewriting.specs.Ends.{ending}
 use Rattle.rewriting.specs.declared.End.the-variants.{Complete, NeitherAbove, Spent, TooLarge, RulesFull, LogFull}
 use Rattle.rewriting.specs.declared.Verdict.the-variants.{GoesOn, Ends}
-use Rattle.problem.specs.Problem.{rank-of, Problem}
+use Rattle.problem.specs.Problem.{rank-of, Theory}
 use Rattle.slots.specs.Slots.{slot, mark-of, Layout, PairAt, Stored, Holds}
 use Rattle.completion.specs.Turn.{Candidate, State as RunState, Taken as TakenPair, take-pair, end-if-all-put-back, turn}
 use Rattle.completion.specs.Calls.{origin-bytes}
@@ -33,10 +33,10 @@ use Rattle.turn.specs.declared.Due.{Due}
 use Rattle.turn.specs.declared.Due.the-variants.{Stop, Settle, Make}
 
 -- the input equations stand renamed in their slots, and the table gives the ranks
-pub record Given (tab inputs : List ℕ) (count : ℕ) (P : Problem) : Type 0 where
-  pub ranks : rank-of (P .symbols) ≡ rank tab
-  pub stored : Stored tab inputs 0 (map (λ c. c .sides) (inputs-of P))
-  pub counted : count ≡ length (P .equations)
+pub record Given (tab inputs : List ℕ) (count : ℕ) (T : Theory) : Type 0 where
+  pub ranks : rank-of (T .symbols) ≡ rank tab
+  pub stored : Stored tab inputs 0 (map (λ c. c .sides) (inputs-of (T .equations)))
+  pub counted : count ≡ length (T .equations)
 
 -- `going`
 abbrev pub going-as : State → Turned
@@ -86,8 +86,8 @@ LookIs tab t waits s (stop e left) = (t .units ≡ left) × LookStops e t waits
 pub record Looks (tab pairs : List ℕ) (w : Waiting) (inputs : List ℕ) (count units : ℕ) (t : Taken) : Type 0 where
   pub layout : Layout (t .pair) 1
   pub left-over : t .units ≤ units
-  pub answer : (P : Problem) → Given tab inputs count P → (s : RunState) → PairsOf tab pairs w s →
-      LookIs tab t (ltb 0 (w .count)) s ((end-if-all-put-back (s .waiting) (s .put-back) >>= λ _. take-pair P (s .rules) (s .waiting)) units)
+  pub answer : (T : Theory) → Given tab inputs count T → (s : RunState) → PairsOf tab pairs w s →
+      LookIs tab t (ltb 0 (w .count)) s ((end-if-all-put-back (s .waiting) (s .put-back) >>= λ _. take-pair T (s .rules) (s .waiting)) units)
 
 -- `compose_few`: "Over 32 live: 23."
 abbrev pub ComposesFew : List ℕ → ℕ → List ℕ → List ℕ → ℕ → Composed → Type 0
@@ -109,4 +109,4 @@ TurnedIs tab s o (stop f left) = (o .verdict ≡ Ends (ending f)) × (o .state .
 -- `turn`: exactly as the definition says
 pub record Turns (tab inputs : List ℕ) (count : ℕ) (st : State) (o : Turned) : Type 0 where
   pub safe : TurnSafe st o
-  pub answer : (P : Problem) → Given tab inputs count P → (s : RunState) → Represents tab st s → TurnedIs tab s o (turn P s (st .units))
+  pub answer : (T : Theory) → Given tab inputs count T → (s : RunState) → Represents tab st s → TurnedIs tab s o (turn T s (st .units))

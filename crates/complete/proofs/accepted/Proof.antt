@@ -12,12 +12,13 @@ read-of-run at = search depth 0
 
 returns : tie.Need-returns
 returns c =
+    let at-report : tie.After-report = search depth 0 in
     let at-run : tie.After-run = search depth 0 in
     let at-read = read-of-run at-run in
-    accepted-run _ _ _ _ _ _ _ _ _ _ (at-read .read .ensures) (at-run .run .ensures) (c .before .before .report .ensures)
+    accepted-run _ _ _ _ _ _ _ _ _ _ (at-read .read .ensures) (at-run .run .ensures) (at-report .report .ensures)
 
 pub accepted-spec : {M : Type 1} → statement M
 accepted-spec =
     tie.close (tie.spec
-    (λ c κs. search needs) (λ c. search needs) (λ c. search needs) (λ c. search needs) (λ c. search needs)
+    (λ c. search needs) (λ c. search needs) (λ c. search needs) (λ c κs. search needs) (λ c. search needs)
     (λ c κs. search needs) (λ c κs. search needs) (λ c. search needs) returns)

@@ -13,16 +13,16 @@ use Rattle.inputs.proofs.read.Statement.{statement}
 use Rattle.inputs.proofs.read.Tie as tie
 
 abbrev Inv-loop : tie.InvT-loop
-Inv-loop problem table-end equations count slots₀ i₀ k₀ slots i k =
-    (k ≤ count) × (length slots ≡ most-pairs * slot-width) × SoFar problem table-end equations count slots k i
+Inv-loop source table at count slots₀ i₀ k₀ slots i k =
+    (k ≤ count) × (length slots ≡ most-pairs * slot-width) × SoFar table source at count slots k i
 
 abbrev μ-loop : tie.MeasureT-loop
-μ-loop problem table-end equations count slots₀ i₀ k₀ slots i k = count - k
+μ-loop source table at count slots₀ i₀ k₀ slots i k = count - k
 
 loop-holds : tie.Need-loop-holds Inv-loop μ-loop
 loop-holds c =
     let entry : tie.Start Inv-loop μ-loop = search depth 0 in
-    (search needs, length-replicate {A = ℕ} (most-pairs * slot-width) 0, read-start _ _ _ _ (most-pairs * slot-width) (let a = entry .pre .3 in omega arith))
+    (search needs, length-replicate {A = ℕ} (most-pairs * slot-width) 0, read-start _ _ _ _ (most-pairs * slot-width) (let a = entry .pre .1 in omega arith))
 
 put-equation-requires : tie.Need-put-equation-requires Inv-loop μ-loop
 put-equation-requires c κs =
@@ -31,9 +31,9 @@ put-equation-requires c κs =
     let entry : tie.Start Inv-loop μ-loop = search depth 0 in (
       (
         layout-room (at-loop .loop .inv .2 .layout) (in-loop .loop-test .taken),
-        (let a = in-loop .loop-test .taken in let b = entry .pre .3 in omega arith),
+        (let a = in-loop .loop-test .taken in let b = entry .pre .1 in omega arith),
       ),
-      entry .pre .2,
+      entry .pre .0,
     )
 
 loop-again : tie.Need-loop-again Inv-loop μ-loop
@@ -52,5 +52,4 @@ returns c =
 pub read-spec : {M : Type 1} → statement M
 read-spec =
     tie.close (tie.spec
-    Inv-loop μ-loop loop-holds (λ c. search needs) (λ c. search needs) (λ c. search needs) (λ c. search needs) put-equation-requires (λ c. search needs)
-    (λ c. search needs) loop-again returns)
+    Inv-loop μ-loop loop-holds (λ c. search needs) put-equation-requires (λ c. search needs) (λ c. search needs) loop-again returns)

@@ -8,10 +8,10 @@ use Rattle.inputs.proofs.side_end.Statement.{statement}
 use Rattle.inputs.proofs.side_end.Tie as tie
 
 abbrev Inv-loop : tie.InvT-loop
-Inv-loop problem table at e i₀ i = SideWalk problem at e i
+Inv-loop source table at e i₀ i = SideWalk source at e i
 
 abbrev μ-loop : tie.MeasureT-loop
-μ-loop problem table at e i₀ i = e - i
+μ-loop source table at e i₀ i = e - i
 
 loop-holds : tie.Need-loop-holds Inv-loop μ-loop
 loop-holds c = side-start _ _ _ (c .term-end .ensures .1 .1 .0)

@@ -35,11 +35,11 @@ put-rules-requires c κs =
     (search needs, layout-less (fine .within) (fine .layout))
 
 -- the last state is fine
-ran-fine : (at : tie.After-put-log) → Fine (entry-of-second (second-of-rules (rules-of-log at)) .args .t1 .state)
-ran-fine at = entry-of-second (second-of-rules (rules-of-log at)) .pre .1
+state-fine : (at : tie.After-put-log) → Fine (entry-of-second (second-of-rules (rules-of-log at)) .args .t1)
+state-fine at = entry-of-second (second-of-rules (rules-of-log at)) .pre .1
 
 put-oldest-requires : tie.Need-put-oldest-requires
-put-oldest-requires c κs = (search needs, ran-fine (search depth 0) .layout)
+put-oldest-requires c κs = (search needs, state-fine (search depth 0) .layout)
 
 returns : tie.Need-returns
 returns c =
@@ -53,7 +53,7 @@ returns c =
     let fine = entry .pre .1 in
     record {
       writes = λ tab f is.
-          reported tab f (entry .args .t1) is _ _ _ _ (at-number .number .ensures)
+          reported tab f _ _ _ is _ _ _ _ (at-number .number .ensures)
           (wrote-all _ _ _ _ _ _ _ _ _ _ _ _ _ _ _ _ _ _ (entry .pre .0) (fine .live-few) (fine .log-few) (at-first .put-number-field .ensures)
           (at-second .put-number-field2 .ensures) (at-rules .put-rules .ensures) (at-log .put-log .ensures) (at-oldest .put-oldest .ensures));
     }
