@@ -1,6 +1,6 @@
 -- What is read fits: a problem that is accepted has at most 16 symbols and 16 equations, whose sides have at most 120 nodes and variables below 16;
 -- also where compare, unify, subterm and decide read it. Assumes nothing.
--- Read first: problem/proofs/Reading, proofs/Limits.
+-- Read first: problem/proofs/Reading, proofs/Held.
 use mathlib.Core.Path.{_≡_, ap, subst, _∙_}
 use mathlib.Core.Bool.{Bool, true, false, _||_}
 use mathlib.Core.List.{List, [], _∷_, _++_}
@@ -19,7 +19,7 @@ use Rattle.completion.specs.Calls.{Single, parse-single}
 use Rattle.problem.specs.Over.{Over}
 use Rattle.completion.proofs.Over.{OverPair}
 use Rattle.problem.proofs.Reading.{ReadsTo, reads, from-bind, no-ok, ok-injective, passed}
-use Rattle.completion.proofs.Limits.{HeldTo, HeldPair, Accepted}
+use Rattle.completion.proofs.Held.{HeldTo, HeldPair, Accepted}
 
 last-of : (a b : Bool) → (a || b) ≡ false → b ≡ false
 last-of true b h = absurd (let z : _≡_ {A = ℕ} 0 1 = cc in omega arith)

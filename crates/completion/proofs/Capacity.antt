@@ -22,7 +22,8 @@ use Rattle.problem.specs.Problem.{ok, Theory, Problem, theory, parse}
 use Rattle.completion.specs.Turn.{Candidate, Entry, State, Taken, take-pair, kept, removed, Finished, run}
 use Rattle.completion.specs.Calls.{result-fields, result-bytes, enough, complete-call}
 use Rattle.problem.proofs.Reading.{from-bind, passed}
-use Rattle.completion.proofs.Limits.{CandidateFits, RuleFits, EntryFits, Limits, Accepted}
+use Rattle.completion.proofs.Held.{RuleFits, Accepted}
+use Rattle.completion.proofs.Limits.{CandidateFits, EntryFits, Limits}
 use Rattle.completion.proofs.Kept.{PlaceFits, all-places-fit, kept-removed, TakenFits, reachable-limits}
 use Rattle.completion.proofs.Kept
 use Rattle.completion.proofs.Ends.{Takes, Because}

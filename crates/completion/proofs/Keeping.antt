@@ -1,5 +1,5 @@
 -- What turns leave, from any state of a run of an accepted theory, keeps document 01's limits, is renamed, and its rules go down. Assumes nothing.
--- Read first: specs/Keeps, proofs/Limits (`pair-keeps`), proofs/Kept, proofs/OverRun, proofs/Renamed, proofs/Invariant (rules go down).
+-- Read first: specs/Keeps, proofs/Held (`pair-keeps`), proofs/Kept, proofs/OverRun, proofs/Renamed, proofs/Invariant (rules go down).
 use mathlib.Core.List.{List, [], _∷_}
 use Prim.Native.Nat.{ℕ, _<_, _≤_}
 use native.Mathlib.Omega.{arith}
@@ -9,7 +9,8 @@ use Rattle.problem.specs.Problem.{Symbol, Theory}
 use Rattle.rewriting.specs.Overlap.{Rule}
 use Rattle.completion.specs.Turn.{Candidate, State, Finished}
 use Rattle.completion.specs.Keeps.{RulesKeep, OldestKeeps, Keeps}
-use Rattle.completion.proofs.Limits.{CandidateFits, RuleFits, Ascending, numbers, Limits, Accepted, pair-keeps}
+use Rattle.completion.proofs.Held.{RuleFits, Accepted, pair-keeps}
+use Rattle.completion.proofs.Limits.{CandidateFits, Ascending, numbers, Limits}
 use Rattle.completion.proofs.Stopped.{Stopped, units-within, run-neither}
 use Rattle.completion.proofs.Closed.{Closed, Has, reachable-has}
 use Rattle.completion.proofs.Invariant.{GoodRules, reachable-good}

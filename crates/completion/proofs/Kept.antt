@@ -20,8 +20,10 @@ use Rattle.rewriting.proofs.Holds.{Reached, reached-keeps}
 use Rattle.problem.specs.Problem.{Theory}
 use Rattle.completion.specs.Turn.{Origin, overlapping, scanned-input, Candidate, made-put-back, State, Taken, rewrites, kept, removed}
 use Rattle.completion.specs.Turn.{waits-again, settled}
-use Rattle.completion.proofs.Limits.{HeldTo, HeldPair, OriginFits, CandidateFits, RuleFits, EntryFits, Ascending, numbers, Limits, Accepted}
-use Rattle.completion.proofs.Limits.{later-origin, later-candidate, later-entry, pair-wide, renamed-held, few-variables, candidates-fit}
+use Rattle.completion.proofs.Held.{HeldTo, HeldPair, RuleFits, Accepted}
+use Rattle.completion.proofs.Limits.{OriginFits, CandidateFits, EntryFits, Ascending, numbers, Limits}
+use Rattle.completion.proofs.Held.{pair-wide, renamed-held, few-variables}
+use Rattle.completion.proofs.Limits.{later-origin, later-candidate, later-entry, candidates-fit}
 use Rattle.completion.proofs.Limits.{initial-limits}
 use Rattle.completion.proofs.Ends.{inputs, Small, Source, of-waiting, of-overlap, of-input, Takes, Rights, none-yet, one-more, with-right}
 use Rattle.completion.proofs.Ends.{older-rules, Next, settles, makes, puts-back}

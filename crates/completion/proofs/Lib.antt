@@ -19,6 +19,7 @@ pub mod Patch
 pub mod Replacements
 pub mod Deliver
 pub mod Delivered
+pub mod Held
 pub mod Limits
 pub mod Kept
 pub mod Accepts

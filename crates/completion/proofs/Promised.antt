@@ -20,7 +20,8 @@ use Rattle.problem.proofs.Reading.{from-bind, ok-injective}
 use Rattle.completion.specs.Turn.{Candidate, Entry, Finished, run}
 use Rattle.completion.specs.Calls.{rule-field, entry-field, oldest-field, forms-field, result-fields, result-bytes, complete-call}
 use Rattle.completion.specs.Promise.{fields-of, one-byte, end-in, rules-in, Promise, Delivers, EngineWrote}
-use Rattle.completion.proofs.Limits.{RuleFits, Accepted, Limits}
+use Rattle.completion.proofs.Held.{RuleFits, Accepted}
+use Rattle.completion.proofs.Limits.{Limits}
 use Rattle.completion.proofs.OverRules.{OverRule}
 use Rattle.completion.proofs.OverRun.{reachable-over}
 use Rattle.completion.proofs.Stopped.{Stopped, run-stops}

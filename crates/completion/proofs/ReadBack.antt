@@ -1,4 +1,4 @@
--- Fields are read back from their bytes, and a rule from its field. Assumes nothing.
+-- Fields are read back from their bytes, and a rule from its field, whoever wrote them: nothing here knows of a run. Assumes nothing.
 -- Read first: specs/Promise, problem/proofs/Reading.
 use mathlib.Core.Path.{_≡_, refl, sym, ap, _∙_}
 use mathlib.Core.Bool.{false}

@@ -15,7 +15,8 @@ use Rattle.rewriting.specs.Overlap.{Rule}
 use Rattle.rewriting.specs.Rewrite.{End, complete, neither-above, spent, too-large, rules-full, log-full, end-number}
 use Rattle.completion.specs.Turn.{Candidate, Entry, Finished}
 use Rattle.completion.specs.Calls.{pair-bytes, rule-field, entry-field, oldest-field, forms-field, result-fields, result-bytes}
-use Rattle.completion.proofs.Limits.{HeldPair, CandidateFits, RuleFits, Limits}
+use Rattle.completion.proofs.Held.{HeldPair, RuleFits}
+use Rattle.completion.proofs.Limits.{CandidateFits, Limits}
 use Rattle.completion.proofs.Widths.{FieldFits, flat, flat-bytes, flat-cons, pair-bytes-length, pair-bytes-fit, rule-field-fits, entry-length}
 use Rattle.completion.proofs.Widths.{entry-field-fits}
 

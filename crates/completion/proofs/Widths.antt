@@ -13,7 +13,7 @@ use Rattle.terms.proofs.Every.{every-head, every-tail, every-append}
 use Rattle.rewriting.specs.Overlap.{Rule}
 use Rattle.completion.specs.Turn.{Origin, waiting-input, removed-rule, scanned-input, overlapping, Entry}
 use Rattle.completion.specs.Calls.{pair-bytes, rule-field, origin-bytes, entry-field}
-use Rattle.completion.proofs.Limits.{HeldPair, RuleFits}
+use Rattle.completion.proofs.Held.{HeldPair, RuleFits}
 
 -- a field of at most so many bytes of contents, all of them bytes
 pub record FieldFits (most : ℕ) (f : Field) : Type 0 where

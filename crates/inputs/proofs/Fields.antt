@@ -16,7 +16,8 @@ use Rattle.problem.proofs.Sides.{Both}
 use Rattle.problem.proofs.Laid.{Laid, parsed-laid}
 use Rattle.completion.specs.Turn.{waiting-input, candidates}
 use Rattle.completion.specs.Calls.{origin-bytes}
-use Rattle.completion.proofs.Limits.{HeldPair, length-candidates}
+use Rattle.completion.proofs.Held.{HeldPair}
+use Rattle.completion.proofs.Limits.{length-candidates}
 use Rattle.completion.proofs.Accepts.{accepts}
 use Rattle.slots.specs.Slots.{slot-width, Layout, AllFrom, MarkedAt, Holds}
 use Rattle.slots.proofs.Listing.{all-none, all-one, all-join, all-moved, marked-moved}

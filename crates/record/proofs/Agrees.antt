@@ -23,7 +23,7 @@ use Rattle.problem.proofs.Reading.{from-bind, ok-injective, passed}
 use Rattle.rewriting.specs.Overlap.{Rule}
 use Rattle.completion.specs.Keeps.{PairKeeps}
 use Rattle.completion.specs.Promise.{fields-from, fields-of, one-byte, end-in, rule-of, rules-in}
-use Rattle.completion.proofs.Limits.{pair-keeps}
+use Rattle.completion.proofs.Held.{pair-keeps}
 use Rattle.completion.proofs.Accepts.{PairFits, pair-fits}
 use Rattle.completion.proofs.ReadBack.{two-terms, no-rules}
 use Rattle.record.specs.Fields.{renamed-pair, read-rule, read-forms}

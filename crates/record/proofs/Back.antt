@@ -19,7 +19,7 @@ use Rattle.problem.specs.Over.{Over}
 use Rattle.problem.proofs.Reading.{read-back}
 use Rattle.completion.specs.Calls.{pair-bytes}
 use Rattle.completion.specs.Keeps.{PairKeeps}
-use Rattle.completion.proofs.Limits.{HeldTo, HeldPair, keeps-held}
+use Rattle.completion.proofs.Held.{HeldTo, HeldPair, keeps-held}
 use Rattle.record.specs.Fields.{or-refuse, one-field, fields-there, renamed-pair}
 use Rattle.record.proofs.OneField.{demand-true}
 use Rattle.record.proofs.Parts.{renamed-dec}
