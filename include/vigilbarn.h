@@ -7,7 +7,7 @@
  *
  * An answer is one number. But for vb_subterm and vb_lower it has a kind in the bits from 48 up, the number of a refusal or an end (docs/FORMAT.md) in
  * bits 32 to 47, and a value in bits 0 to 31. No part is ever cut off: numbers are at most 22, a refusal's place at most 8,192 (of vb_decide 16,384),
- * counts at most 13,726 (proved: crates/capi/proofs/Unpacked, Refusals and RecordRefusals).
+ * counts at most 13,726 (proved: crates/capi/proofs/Unpacked, over the Refusals of reading, problem, completion, record and decide).
  */
 #ifndef VIGILBARN_H
 #define VIGILBARN_H
@@ -55,7 +55,7 @@ uint64_t vb_unify(const uint8_t *problem, size_t problem_bytes, uint8_t *result,
 uint64_t vb_decide(const uint8_t *problem, size_t problem_bytes, const uint8_t *record, size_t record_bytes);
 
 /* The part of the problem's bytes that is the subterm at a position of the left side of its one equation.
- * 0: refused. Else bits 32 to 63 are the place of the part's first byte, and bits 0 to 31 how many bytes it has, which is above 0. */
+ * 0: refused, and only that. Else bits 32 to 63 are the place of the part's first byte, and bits 0 to 31 how many bytes it has, which is above 0. */
 uint64_t vb_subterm(const uint8_t *problem, size_t problem_bytes, size_t position);
 
 /* The lower of two terms in the path order, over the symbols of a field of tag 01 (docs/FORMAT.md): the second if the first is above it, else the first.

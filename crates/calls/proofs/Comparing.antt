@@ -1,20 +1,18 @@
 -- What `named` and `compare` tell: a lemma for each return. Assumes nothing.
 -- Read first: specs/Answers (compared-told), only_equation/specs/Places (SidesAt), order/specs/Walk (IsCompared).
 use mathlib.Core.Path.{_≡_, ap, sym, _∙_}
-use mathlib.Core.Bool.{Bool, true, false}
 use mathlib.Core.List.{List}
 use Prim.Native.Nat.{ℕ, _≤_}
 use native.Mathlib.Omega.{arith}
 use lib.ListN.{length, length-drop}
-use Rattle.terms.specs.Base.{if_then_else_}
-use Rattle.terms.specs.Term.{Term, same}
 use Rattle.terms.proofs.Starts.{from, from-drop}
-use Rattle.order.specs.Order.{above, comparison}
+use Rattle.order.specs.Order.{comparison}
 use Rattle.order.specs.Walk.{rank, IsCompared}
 use Rattle.problem.specs.Problem.{ok, refused, Symbol, rank-of}
 use Rattle.reading.proofs.Reading.{bind-ok, bind-refused}
 use Rattle.completion.specs.Calls.{Single, parse-single, compare-call}
 use Rattle.completion.proofs.Ranks.{ranks-are}
+use Rattle.completion.proofs.Refusals.{comparison-range}
 use Rattle.only_equation.specs.Places.{table, left-side, right-side, SidesAt}
 use Rattle.calls.specs.Answers.{compared-told}
 use Rattle.calls.specs.declared.Compared.{Compared}
@@ -36,16 +34,6 @@ named-identical n h = ap ok (sym h)
 pub named-neither : (n : ℕ) → n ≡ 4 → compared-told Neither ≡ ok n
 unfolding compared-told
 named-neither n h = ap ok (sym h)
-
-pub comparison-range : (r : ℕ → ℕ) (s t : Term) → (1 ≤ comparison r s t) × (comparison r s t ≤ 4)
-unfolding comparison if_then_else_
-comparison-range r s t = go (above r s t) (above r t s) (same s t)
-  where
-    go : (a b d : Bool) → (1 ≤ (if a then 1 else if b then 2 else if d then 3 else 4)) × ((if a then 1 else if b then 2 else if d then 3 else 4) ≤ 4)
-    go true b d = (omega arith, omega arith)
-    go false true d = (omega arith, omega arith)
-    go false false true = (omega arith, omega arith)
-    go false false false = (omega arith, omega arith)
 
 pub part-small : (l : List ℕ) (a : ℕ) → length l ≤ 8192 → length (from l a) ≤ 65536
 part-small l a h = omega (arith, ap length (from-drop l a), length-drop a l)

@@ -1,5 +1,3 @@
-pub mod Refusals
-pub mod RecordRefusals
 pub mod Unpacked
 pub mod Delivering
 mod Deciding

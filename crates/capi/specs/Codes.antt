@@ -5,6 +5,7 @@ use mathlib.Core.List.{List}
 use mathlib.Core.Logic.{_↔_}
 use Prim.Native.Nat.{ℕ, _+_, _*_, _/_, _%_}
 use lib.ListN.{take}
+use Rattle.limits.specs.Limits.{two-byte-values}
 use Rattle.problem.specs.Problem.{Reading, ok, refused}
 use Rattle.completion.specs.Calls.{Part}
 use Rattle.completion.specs.Promise.{Delivers}
@@ -14,9 +15,16 @@ use Rattle.lower.specs.declared.Which.{Which}
 use Rattle.lower.specs.declared.Which.the-variants.{First, Second, Neither}
 use Rattle.calls.specs.Answers.{Returned, bytes-written, none-common, number-only, number-and-place}
 
+-- A value has 32 bits, and a number the 16 above it: a value is below 2 ^ 32, which is what a number counts, and a kind counts 2 ^ 48. [15.1]
+abbrev pub value-end : ℕ
+value-end = 4_294_967_296
+
+abbrev pub kind-unit : ℕ
+kind-unit = 281_474_976_710_656
+
 -- [15.1]
 unfoldable pub code : ℕ → ℕ → ℕ → ℕ
-code kind number value = kind * 281_474_976_710_656 + number * 4_294_967_296 + value % 4_294_967_296
+code kind number value = kind * kind-unit + number * value-end + value % value-end
 
 -- compare and complete: kind 1 with 1 to 4, or with the count of result bytes; or kind 0 with the refusal's number and place
 -- [15.2]
@@ -45,23 +53,23 @@ lower-code First = 1
 lower-code Second = 2
 lower-code Neither = 0
 
--- subterm: the part's first byte times 2 ^ 32, and how many bytes it has [15.4]
+-- subterm: the part's first byte times 2 ^ 32, and how many bytes it has; 0 for a refusal [15.4]
 unfoldable pub part-code : Part → ℕ
-part-code p = p .start % 4_294_967_296 * 4_294_967_296 + p .bytes % 4_294_967_296
+part-code p = p .start % value-end * value-end + p .bytes % value-end
 
 -- An answer's kind, number and value, and a part's first byte, as include/vigilbarn.h unpacks them: a shift to the right is a quotient by a power
 -- of 2, the low bits are the remainder. The count of a part's bytes is the answer's value.
 unfoldable pub kind-in : ℕ → ℕ
-kind-in r = r / 281_474_976_710_656
+kind-in r = r / kind-unit
 
 unfoldable pub number-in : ℕ → ℕ
-number-in r = r / 4_294_967_296 % 65_536
+number-in r = r / value-end % two-byte-values
 
 unfoldable pub value-in : ℕ → ℕ
-value-in r = r % 4_294_967_296
+value-in r = r % value-end
 
 unfoldable pub start-in : ℕ → ℕ
-start-in r = r / 4_294_967_296
+start-in r = r / value-end
 
 -- Demand 3 for C, of the problem's bytes, the result's at exit and the answer: where its kind is 1, as many of the result's bytes as its value says
 -- deliver. [15.5]

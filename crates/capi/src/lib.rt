@@ -5,16 +5,21 @@ ghost use lib.Dec.{eqb};
 ghost use lib.ListN.{length};
 ghost use Rattle.completion.specs.Calls.{complete-call, compare-call, unify-call, subterm-part, after-complete, after-unify};
 ghost use Rattle.complete.specs.Answer.{counted};
-ghost use Rattle.calls.specs.Answers.{unify-returns};
+ghost use Rattle.calls.specs.Answers.{unify-returns, subterm-refused};
 ghost use Rattle.decide.specs.Decide.{decide-call};
 ghost use Rattle.lower.specs.Lower.{which, lower-refused};
 ghost use Rattle.capi.specs.Codes.{code, answer-code, unify-code, decide-code, lower-code, part-code, CodeDelivers, CodeDecides};
+
+// The values of 32 bits, 2^32, which is what a number counts; and what a kind counts, 2^48.
+const VALUES: u64 = 4294967296;
+
+const KIND: u64 = 281474976710656;
 
 fn code(kind: u64, number: u8, value: usize) -> u64
     requires { ⌜ kind ≤ 3 ⌝ }
     ensures { λ r. ⌜ r ≡ code kind number value ⌝ }
 {
-    kind * 281474976710656 + terms::wide(number) as u64 * 4294967296 + value as u64 % 4294967296
+    kind * KIND + terms::wide(number) as u64 * VALUES + value as u64 % VALUES
 }
 
 #[no_mangle]
@@ -46,11 +51,12 @@ pub extern "C" fn vb_unify(problem: &[u8], result: &mut [u8]) -> u64
 #[no_mangle]
 pub extern "C" fn vb_subterm(problem: &[u8], position: usize) -> u64
     ensures { λ r. ⌜ r ≡ part-code (subterm-part (now (problem .entry)) position) ⌝ }
+    ensures refused { λ r. ⌜ eqb r 0 ≡ subterm-refused (now (problem .entry)) position ⌝ }
 {
     let b = calls::subterm_bounds(problem, position);
     let start = b.start;
     let bytes = b.end - start;
-    start as u64 % 4294967296 * 4294967296 + bytes as u64 % 4294967296
+    start as u64 % VALUES * VALUES + bytes as u64 % VALUES
 }
 
 // The second promise says of what the answer is right: of a record that complete wrote.

@@ -27,6 +27,7 @@ pub mod Widths
 pub mod Result
 pub mod Keeping
 pub mod Capacity
+pub mod Refusals
 pub mod Steady
 pub mod Raised
 pub mod Ledger

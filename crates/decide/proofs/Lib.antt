@@ -1,6 +1,7 @@
 pub mod Asked
 pub mod Right
 pub mod Answering
+pub mod Refusals
 mod Comparing
 mod Downward
 mod Questions

@@ -4,3 +4,4 @@ pub mod Pairs
 pub mod Parses
 pub mod Sides
 pub mod Laid
+pub mod Refusals

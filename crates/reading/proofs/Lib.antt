@@ -5,3 +5,4 @@ pub mod Tables
 pub mod Scanned
 pub mod Standing
 pub mod Ordered
+pub mod Refusals

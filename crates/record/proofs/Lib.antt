@@ -6,5 +6,6 @@ pub mod Computes
 pub mod OneField
 pub mod Walking
 pub mod Slotted
+pub mod Refusals
 mod Holding
 mod Whole

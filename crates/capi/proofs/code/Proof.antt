@@ -2,7 +2,7 @@
 -- Read first: specs/Codes (code).
 use mathlib.Core.Path.{ap}
 use Prim.Native.Nat.{ℕ, _+_, _*_, _%_}
-use Rattle.capi.specs.Codes.{code}
+use Rattle.capi.specs.Codes.{value-end, kind-unit, code}
 use borrow.Author.Needs.{needs}
 use Rattle.capi.proofs.code.Statement.{statement}
 use Rattle.capi.proofs.code.Tie as tie
@@ -11,7 +11,7 @@ returns : tie.Need-returns
 unfolding code
 returns c =
     let entry : tie.Start = search depth 0 in
-    ap (λ (n : ℕ). entry .args .kind * 281_474_976_710_656 + n * 4_294_967_296 + entry .args .value % 4_294_967_296) (c .wide .ensures .0)
+    ap (λ (n : ℕ). entry .args .kind * kind-unit + n * value-end + entry .args .value % value-end) (c .wide .ensures .0)
 
 pub code-spec : {M : Type 1} → statement M
 code-spec =
