@@ -2,7 +2,7 @@
 -- steps before have come to something. Assumes nothing.
 -- Read first: specs/Turn.
 use mathlib.Core.Path.{_≡_, refl, sym, ap, _∙_}
-use mathlib.Core.Bool.{true, false}
+use mathlib.Core.Bool.{Bool, true, false}
 use mathlib.Core.Logic.{_⊎_, inl, inr}
 use mathlib.Core.List.{List, [], _∷_, _++_}
 use mathlib.Core.Option.{Option, none, some}
@@ -56,7 +56,9 @@ taking-on T s units h = ap (λ p. and-then p (λ _. take-pair T (s .rules) (s .w
     go : (cs : List Candidate) → (length cs ≡ 0) ⊎ (s .put-back < length cs) → end-if-all-put-back cs (s .put-back) units ≡ done tt units
     go [] h = unfold end-if-all-put-back return in refl
     go (c ∷ cs) (inl h) = absurd (omega arith)
-    go (c ∷ cs) (inr h) = unfold end-if-all-put-back end-if return in rw (lt-leb (suc (length cs)) (s .put-back) h) refl
+    go (c ∷ cs) (inr h) =
+        unfold end-if-all-put-back in
+        ap (λ (b : Bool). end-if b neither-above units) (lt-leb _ (s .put-back) (omega arith)) ∙ unfold end-if return in refl
 
 -- "End 20 is given .. when some equation waits and every one waiting has been put back": as many as wait. "This is tested at the start of the next
 -- turn, after its unit is paid."
@@ -70,7 +72,9 @@ taking-ends T s units h = ap (λ p. and-then p (λ _. take-pair T (s .rules) (s 
   where
     go : (cs : List Candidate) → 0 < length cs → length cs ≤ s .put-back → end-if-all-put-back cs (s .put-back) units ≡ stop neither-above units
     go [] h k = absurd (omega arith)
-    go (c ∷ cs) h k = unfold end-if-all-put-back end-if end-with in rw (le-leb (suc (length cs)) (s .put-back) k) refl
+    go (c ∷ cs) h k =
+        unfold end-if-all-put-back in
+        ap (λ (b : Bool). end-if b neither-above units) (le-leb _ (s .put-back) (omega arith)) ∙ unfold end-if end-with in refl
 
 -- the rest of a turn
 abbrev pub behind-taking : Theory → State → Taken → Paying State

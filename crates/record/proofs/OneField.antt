@@ -10,8 +10,8 @@ use native.Mathlib.Omega.{arith}
 use lib.ListN.{length, take, drop, getD, length-take, drop-of-length-le}
 use lib.Seq.{drop-cons, getD-take, getD-drop}
 use lib.Dec.{leb}
-use borrow.Author.Tests.{le-leb, lt-leb, eq-eqb, ne-eqb}
-use Rattle.terms.specs.Base.{number-from, member}
+use borrow.Author.Tests.{leb-true, leb-false, le-leb, lt-leb, eq-eqb, ne-eqb}
+use Rattle.terms.specs.Base.{number-from, member, Every, of-none, of-cons}
 use Rattle.terms.proofs.Lists.{take-drop}
 use Rattle.reading.proofs.Reading.{bind-ok, bind-refused}
 use Rattle.problem.specs.Problem.{Reading, ok, refused, _>>=_, refuse-if, ReadField, ReadPart, due}
@@ -99,36 +99,42 @@ module _ {A B : Type 0} (n tag : ℕ) (read : ReadField → Reading A) (g : ℕ 
   unfolding one-field field-at
   one-placed l = of-due (due tag at (drop at l)) (λ f e. ap (λ (f : ReadField). f .first) (due-at tag l at f e .is))
 
--- the listed ends
+-- the listed ends: 0 and 20 to 24
 pub listed-none : (n : ℕ) → n ≡ 0 → true ≡ listed-end n
 unfolding listed-end member
 listed-none n e = rw e refl
 
-unlisted : (n : ℕ) → (n ≡ 0 → ⊥) → ((k : ℕ) → k < 5 → n ≡ 20 + k → ⊥) → false ≡ listed-end n
+listed-stop : (k : ℕ) → k < 5 → true ≡ listed-end (20 + k)
 unfolding listed-end member
-unlisted n z f = rw (
-  ne-eqb n 0 z,
-  ne-eqb n 20 (f 0 (omega arith)),
-  ne-eqb n 21 (f 1 (omega arith)),
-  ne-eqb n 22 (f 2 (omega arith)),
-  ne-eqb n 23 (f 3 (omega arith)),
-  ne-eqb n 24 (f 4 (omega arith)),
-) refl
+listed-stop zero h = refl
+listed-stop (suc zero) h = refl
+listed-stop (suc (suc zero)) h = refl
+listed-stop (suc (suc (suc zero))) h = refl
+listed-stop (suc (suc (suc (suc zero)))) h = refl
+listed-stop (suc (suc (suc (suc (suc k))))) h = absurd (omega arith)
+
+-- nothing else is
+not-member : (n : ℕ) {l : List ℕ} → Every (λ (m : ℕ). n ≡ m → ⊥) l → false ≡ member n l
+unfolding member
+not-member n of-none = refl
+not-member n (of-cons {x = m} h hs) = rw (ne-eqb n m h) (not-member n hs)
+
+unlisted : (n : ℕ) → (n ≡ 0 → ⊥) → (20 ≤ n → n ≤ 24 → ⊥) → false ≡ listed-end n
+unfolding listed-end
+unlisted n z f =
+    not-member n
+    (of-cons z (of-cons (λ e. f (omega arith) (omega arith)) (of-cons (λ e. f (omega arith) (omega arith)) (of-cons (λ e. f (omega arith) (omega arith))
+    (of-cons (λ e. f (omega arith) (omega arith)) (of-cons (λ e. f (omega arith) (omega arith)) of-none))))))
 
 pub listed-low : (n : ℕ) → (n ≡ 0 → ⊥) → n < 20 → false ≡ listed-end n
-listed-low n z h = unlisted n z (λ k _ e. omega arith)
+listed-low n z h = unlisted n z (λ low _. omega arith)
 
 pub listed-high : (n : ℕ) → 20 ≤ n → leb n 24 ≡ listed-end n
-unfolding listed-end member
-listed-high n h = go (n - 20) (omega arith)
+listed-high n h = go (n - 20) (omega arith) (leb n 24) refl
   where
-    go : (k : ℕ) → n ≡ 20 + k → leb n 24 ≡ listed-end n
-    go zero e = rw e refl
-    go (suc zero) e = rw e refl
-    go (suc (suc zero)) e = rw e refl
-    go (suc (suc (suc zero))) e = rw e refl
-    go (suc (suc (suc (suc zero)))) e = rw e refl
-    go (suc (suc (suc (suc (suc k))))) e = lt-leb n 24 (omega arith) ∙ unlisted n (λ z. omega arith) (λ j i q. omega arith)
+    go : (k : ℕ) → n ≡ 20 + k → (b : Bool) → leb n 24 ≡ b → leb n 24 ≡ listed-end n
+    go k e true q = q ∙ listed-stop k (omega (arith, leb-true n 24 q)) ∙ ap listed-end (sym e)
+    go k e false q = q ∙ unlisted n (λ z. omega arith) (λ _ high. omega (arith, leb-false n 24 q))
 
 -- the end, in the field to e
 module _ (l : List ℕ) (e : ℕ) (low : 3 ≤ e) (within : e ≤ length l) where

@@ -38,8 +38,9 @@ slot-whole at = search needs
 add-pair-requires : tie.Need-add-pair-requires
 add-pair-requires c κs =
     let at-renamed : tie.After-renamed = search depth 0 in
-    let m = one-more (entry-of-renamed at-renamed) in
-    (omega arith, omega arith, slot-whole at-renamed)
+    let entry = entry-of-renamed at-renamed in
+    let m = one-more entry in
+    (omega (arith, entry .pre .0 .0 .within), omega arith, slot-whole at-renamed)
 
 enter-requires : tie.Need-enter-requires
 enter-requires c κs =
