@@ -1,3 +1,4 @@
 pub mod Comparing
 pub mod Unifying
 pub mod Parts
+mod Sides
