@@ -56,12 +56,10 @@ fn put_equation(source: &[u8], table: &[u8], at: usize, slots: &mut [u8], k: usi
 {
     let mark = origins::numbered(origins::WAITING_INPUT, (k + 1) as u16);
     slots::put_mark(slots, k, &mark);
-    match problem::due(source, at, EQUATION) {
-        problem::Read::Refused {
-            number: _,
-            place: _,
-        } => at,
-        problem::Read::Value(e) => {
+    match reading::due(source, at, EQUATION) {
+        reading::DueField::Cut => at,
+        reading::DueField::Other => at,
+        reading::DueField::At(e) => {
             put_sides(source, table, at + FIELD_HEAD, slots, k);
             e
         }

@@ -11,6 +11,7 @@ use Rattle.problem.specs.Problem.{parse}
 use Rattle.problem.specs.Parser.{field-at, symbols-of, SymbolsAt, FieldAt, parse-rest, RestAt, IsParsed, parsed-of}
 use Rattle.problem.specs.declared.Input.{Input}
 use Rattle.problem.specs.declared.Input.the-variants.{Fine, Refused as Bad}
+use Rattle.reading.specs.Answers.{DueTo}
 use Rattle.reading.proofs.Reading.{bind-ok, bind-refused}
 use Rattle.problem.proofs.Pairs.{one-more}
 
@@ -73,7 +74,7 @@ module _ (tab l : List ℕ) (at : ℕ) where
   unfolding parse-rest
   rest-not-due n p h = bind-refused _ h
 
-  module _ (e : ℕ) (d : (due 0x02 at (drop at l) ≡ ok (field-at 0x02 l at e)) × (at + 3 ≤ e) × (e ≤ length l)) where
+  module _ (e : ℕ) (d : DueTo 0x02 l at e) where
     pub rest-budget-refused : (n p : ℕ) → budget-field (field-at 0x02 l at e) ≡ refused n p → parse-rest (symbols-of tab) at (drop at l) ≡ refused n p
     unfolding parse-rest
     rest-budget-refused n p h = bind-ok _ (d .0) ∙ bind-refused _ h

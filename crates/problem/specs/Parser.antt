@@ -13,11 +13,12 @@ use Rattle.problem.specs.declared.Rest.{Rest}
 use Rattle.problem.specs.declared.Rest.the-variants.{Fine as Fine-rest, Refused as Bad-rest}
 use Rattle.problem.specs.declared.Read.{Read}
 use Rattle.problem.specs.declared.Read.the-variants.{Value, Refused}
+use Rattle.reading.specs.Answers.{DueTo}
 unfoldable pub use Rattle.reading.specs.Answers.{field-at, symbols-of}
 pub use Rattle.reading.specs.Answers.{Table}
 
 abbrev pub IsDue : ℕ → List ℕ → ℕ → Read → Type 0
-IsDue tag l at (Value e) = (due tag at (drop at l) ≡ ok (field-at tag l at e)) × (at + 3 ≤ e) × (e ≤ length l)
+IsDue tag l at (Value e) = DueTo tag l at e
 IsDue tag l at (Refused n p) = due tag at (drop at l) ≡ refused n p
 
 pub record SymbolsAt (l : List ℕ) (e : ℕ) : Type 0 where

@@ -52,30 +52,16 @@ pub enum Read {
 pub fn due(problem: &[u8], at: usize, tag: u8) -> Read
     ensures { λ r. ⌜ IsDue tag (now (problem .entry)) at r ⌝ }
 {
-    if at >= problem.len() {
-        return Read::Refused {
-            number: WRONG_TAG,
-            place: at,
-        };
-    }
-    match reading::field_at(problem, at) {
-        reading::Field::Cut => Read::Refused {
+    match reading::due(problem, at, tag) {
+        reading::DueField::At(end) => Read::Value(end),
+        reading::DueField::Cut => Read::Refused {
             number: CUT_FIELD,
             place: at,
         },
-        reading::Field::At {
-            tag: found,
-            start: _,
-            end,
-        } => {
-            if found != tag {
-                return Read::Refused {
-                    number: WRONG_TAG,
-                    place: at,
-                };
-            }
-            Read::Value(end)
-        }
+        reading::DueField::Other => Read::Refused {
+            number: WRONG_TAG,
+            place: at,
+        },
     }
 }
 
