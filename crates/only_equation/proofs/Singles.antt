@@ -11,7 +11,7 @@ use Rattle.reading.specs.Answers.{WholeAt}
 use Rattle.reading.proofs.Reading.{no-ok, ok-injective, bind-ok, bind-refused}
 use Rattle.problem.specs.Problem.{ok, refused, _>>=_, ReadField, read-field, due, Equation, Problem, parse, only-equation}
 use Rattle.problem.specs.Parser.{field-at, ParsedAt}
-use Rattle.problem.proofs.Fields.{due-read}
+use Rattle.reading.proofs.Fields.{due-read}
 use Rattle.problem.proofs.Laid.{Laid, parsed-laid}
 use Rattle.completion.specs.Calls.{Single, parse-single}
 use Rattle.only_equation.specs.Places.{table, SidesAt, Found, IsSides}
