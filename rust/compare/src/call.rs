@@ -5,8 +5,8 @@
 //! (count), 2 no common instance, 3 too large (number 22). Compare: kind 1
 //! the answer 1 to 4. Decide: kind 1 the answer 1 (same) or 2 (different), 3
 //! ended (number 21 or 22). Two calls have no kinds: subterm answers start *
-//! 2^32 + length, length 0 if refused; lower 0 (refused), 1 (the first) or 2
-//! (the second).
+//! 2^32 + length, 0 if refused; lower 0 (refused), 1 (the first) or 2 (the
+//! second).
 
 use kb_cases::pairs::Pair;
 use kb_cases::questions::Question;
@@ -14,6 +14,7 @@ use kb_engine::calls::TOO_LARGE;
 use kb_engine::MIN_RESULT;
 use kb_engine::{CompareAnswer, CompleteAnswer, DecideAnswer, Refusal, UnifyAnswer, Which};
 use std::borrow::Cow;
+use std::fmt;
 
 /// Bytes that a call is lent.
 pub type Bytes<'a> = Cow<'a, [u8]>;
@@ -47,12 +48,21 @@ impl Call<'_> {
     /// The bytes that it reads.
     pub fn lent(&self) -> [&[u8]; 3] {
         match self {
-            Call::Complete(problem) | Call::Unify(problem) | Call::Compare(problem) => {
-                [problem, &[], &[]]
-            }
-            Call::Subterm(problem, _) => [problem, &[], &[]],
+            Call::Complete(problem)
+            | Call::Unify(problem)
+            | Call::Compare(problem)
+            | Call::Subterm(problem, _) => [problem, &[], &[]],
             Call::Decide(problem, record) => [problem, record, &[]],
             Call::Lower(symbols, first, second) => [symbols, first, second],
+        }
+    }
+}
+
+impl fmt::Display for Call<'_> {
+    fn fmt(&self, f: &mut fmt::Formatter) -> fmt::Result {
+        match self {
+            Call::Subterm(_, position) => write!(f, "subterm at {position}"),
+            _ => f.write_str(self.name()),
         }
     }
 }
@@ -77,8 +87,8 @@ impl From<Pair> for Call<'_> {
 
 /// The calls with encoded answers.
 pub trait Engine {
-    /// Runs a call, which writes to the front of the buffers: the first for a
-    /// result.
+    /// Runs a call with the two buffers that it may be lent; a result goes to
+    /// the front of the first.
     fn run(&self, call: &Call, buffers: [&mut [u8]; 2]) -> u64;
 
     fn complete(&self, problem: &[u8], result: &mut [u8]) -> u64 {
@@ -167,7 +177,7 @@ pub fn decided(answer: DecideAnswer) -> u64 {
     }
 }
 
-/// A part of the problem that subterm hands back; an empty one has no place.
+/// A part of the problem that subterm hands back; 0 if it is empty.
 pub fn handed_back(start: usize, length: usize) -> u64 {
     if length == 0 {
         return 0;

@@ -17,16 +17,18 @@ pub struct Difference {
     pub place: Option<(usize, isize)>,
 }
 
-/// What a lent buffer holds before a call.
+/// A buffer before a call: so many bytes of a pattern that a number chooses.
 #[derive(Clone, Copy, Debug)]
-pub enum Start<'a> {
-    /// So many bytes of a pattern that the number chooses.
-    Pattern(usize, u64),
-    Bytes(&'a [u8]),
+pub struct Start {
+    pub length: usize,
+    pub pattern: u64,
 }
 
 /// No buffer.
-pub const NONE: Start = Start::Pattern(0, 0);
+pub const NONE: Start = Start {
+    length: 0,
+    pattern: 0,
+};
 
 /// Two engines, and buffers that are used again for every call.
 pub struct Checker<'e> {
@@ -43,6 +45,10 @@ impl<'e> Checker<'e> {
         }
     }
 
+    pub fn engines(&self) -> [&'e dyn Engine; 2] {
+        self.engines
+    }
+
     /// All calls of an input; its number varies how they are lent.
     pub fn run(&mut self, input: &Input, number: u64) -> Result<Notes, Difference> {
         input.check(self, number)
@@ -51,33 +57,32 @@ impl<'e> Checker<'e> {
     /// Both engines on a call with these buffers.
     pub fn call(&mut self, call: &Call, starts: [Start; 2]) -> Result<u64, Difference> {
         let before = call.lent().map(<[u8]>::to_vec);
-        let mut answers = [0; 2];
-        for (i, engine) in self.engines.into_iter().enumerate() {
-            let [first, second] = &mut self.buffers;
-            let [first, second] = [(first, starts[0]), (second, starts[1])].map(|(both, start)| {
-                let buffer = &mut both[i];
-                fill(buffer, start);
-                let end = buffer.len() - GUARD;
-                &mut buffer[GUARD..end]
-            });
-            answers[i] = engine.run(call, [first, second]);
-        }
-        let as_before = black_box(call).lent() == [&before[0][..], &before[1], &before[2]];
+        let left = self.answer(0, call, starts);
+        let right = self.answer(1, call, starts);
+        let as_before = black_box(call).lent() == before.each_ref().map(Vec::as_slice);
         let place = self.difference();
-        if answers[0] == answers[1] && place.is_none() && as_before {
-            return Ok(answers[0]);
+        if left == right && place.is_none() && as_before {
+            return Ok(left);
         }
-        let changed = if as_before {
-            ""
-        } else {
-            ", lent bytes changed"
+        let changed = match as_before {
+            true => "",
+            false => ", lent bytes changed",
         };
+        let length = starts[0].length;
         Err(Difference {
-            call: format!("{}{changed}", call.name()),
-            left: answers[0],
-            right: answers[1],
+            call: format!("{call}, result buffer of {length}{changed}"),
+            left,
+            right,
             place,
         })
+    }
+
+    /// One engine's answer, with new buffers.
+    fn answer(&mut self, engine: usize, call: &Call, starts: [Start; 2]) -> u64 {
+        let [first, second] = &mut self.buffers;
+        let first = filled(&mut first[engine], starts[0]);
+        let second = filled(&mut second[engine], starts[1]);
+        self.engines[engine].run(call, [first, second])
     }
 
     /// A buffer as the first engine left it.
@@ -94,6 +99,7 @@ impl<'e> Checker<'e> {
         }
     }
 
+    /// The first buffer that differs, guards included, and where.
     fn difference(&self) -> Option<(usize, isize)> {
         let differs = |(number, [a, b]): (usize, &[Vec<u8>; 2])| {
             if a == b {
@@ -106,14 +112,11 @@ impl<'e> Checker<'e> {
     }
 }
 
-/// Fills a buffer and its guards.
-fn fill(buffer: &mut Vec<u8>, start: Start) {
-    let (length, pattern, bytes) = match start {
-        Start::Pattern(length, pattern) => (length, pattern, &[][..]),
-        Start::Bytes(bytes) => (bytes.len(), 0, bytes),
-    };
-    let first = (pattern.wrapping_mul(0x9e37_79b9_7f4a_7c15) >> 56) as u8;
+/// The buffer between its guards, all of them filled.
+fn filled(buffer: &mut Vec<u8>, start: Start) -> &mut [u8] {
+    let first = (start.pattern.wrapping_mul(0x9e37_79b9_7f4a_7c15) >> 56) as u8;
+    let byte = |i: usize| first.wrapping_add((i as u8).wrapping_mul(29));
     buffer.clear();
-    buffer.extend((0..length + 2 * GUARD).map(|i| first.wrapping_add((i as u8).wrapping_mul(29))));
-    buffer[GUARD..GUARD + bytes.len()].copy_from_slice(bytes);
+    buffer.extend((0..start.length + 2 * GUARD).map(byte));
+    &mut buffer[GUARD..GUARD + start.length]
 }

@@ -3,6 +3,7 @@
 
 pub mod call;
 pub mod check;
+pub mod comparison;
 pub mod fixed;
 pub mod inputs;
 pub mod lent;
@@ -18,3 +19,9 @@ pub use call::RustEngine as ProvedEngine;
 /// The proved library, or the Rust engine once more for a self-check.
 #[cfg(not(feature = "selfcheck"))]
 pub use proved::ProvedEngine;
+
+/// What stands behind `ProvedEngine`.
+pub const LEFT_ENGINE: &str = match cfg!(feature = "selfcheck") {
+    true => "The Rust engine once more",
+    false => "The proved library",
+};

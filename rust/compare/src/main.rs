@@ -6,110 +6,47 @@
 //! otherwise). With KB_TRACE set, each input is printed before it is run, and
 //! KB_KIND is a part of the names of the kinds that are run.
 
-use kb_compare::call::decode;
-use kb_compare::check::{Checker, Difference};
-use kb_compare::inputs::{Case, Kind, Plan, KINDS};
-use kb_compare::summary::Summary;
-use kb_compare::{Engine, ProvedEngine, RustEngine};
+use kb_compare::check::Checker;
+use kb_compare::comparison::compare;
+use kb_compare::inputs::{Plan, KINDS};
+use kb_compare::{ProvedEngine, RustEngine, LEFT_ENGINE};
 use std::env;
 use std::process::ExitCode;
 use std::time::Instant;
 
 const DEFAULT_COUNT: u64 = 100_000;
-const MOST_DIFFERENCES: usize = 10;
-/// Most bytes of an input that are traced.
-const MOST_TRACED: usize = 20_000;
 
-fn argument(place: usize, default: u64) -> u64 {
-    let text = env::args().nth(place);
+fn number(text: Option<String>, default: u64) -> u64 {
     text.map_or(default, |text| text.parse().expect("a whole number"))
 }
 
-fn count_from_environment() -> u64 {
-    let text = env::var("KB_COUNT").ok();
-    text.map_or(DEFAULT_COUNT, |text| text.parse().expect("a whole number"))
+fn plan() -> Plan {
+    let argument = |place| env::args().nth(place);
+    let count = number(env::var("KB_COUNT").ok(), DEFAULT_COUNT);
+    Plan {
+        count: number(argument(1), count),
+        seed: number(argument(2), 1),
+        first: number(argument(3), 0),
+    }
 }
 
 fn main() -> ExitCode {
-    let plan = Plan {
-        count: argument(1, count_from_environment()),
-        seed: argument(2, 1),
-        first: argument(3, 0),
-    };
+    let (plan, trace) = (plan(), env::var_os("KB_TRACE").is_some());
     let wanted = env::var("KB_KIND").unwrap_or_default();
-    let mut comparison = Comparison {
-        checker: Checker::new(&ProvedEngine, &RustEngine),
-        trace: env::var_os("KB_TRACE").is_some(),
-        bad: 0,
-    };
+    let mut checker = Checker::new(&ProvedEngine, &RustEngine);
+    let (mut kinds, mut faults) = (0, 0);
+    println!("{LEFT_ENGINE} and the Rust engine");
     for kind in KINDS.iter().filter(|kind| kind.name.contains(&wanted)) {
-        comparison.kind(kind, plan);
-    }
-    match comparison.bad {
-        0 => ExitCode::SUCCESS,
-        _ => ExitCode::FAILURE,
-    }
-}
-
-struct Comparison {
-    checker: Checker<'static>,
-    trace: bool,
-    /// Differences and wrong answers.
-    bad: usize,
-}
-
-impl Comparison {
-    fn kind(&mut self, kind: &Kind, plan: Plan) {
         let start = Instant::now();
-        let mut summary = Summary::new(kind.name);
-        let cases = kind.families.iter().flat_map(|family| family(plan));
-        for case in cases {
-            self.case(&case, &mut summary);
-            if summary.differences + summary.wrong >= MOST_DIFFERENCES {
-                break;
-            }
-        }
+        let summary = compare(&mut checker, kind, plan, trace);
         summary.print();
         let seconds = start.elapsed().as_secs_f64();
         println!("seed {}, from {}, {seconds:.1} s", plan.seed, plan.first);
-        self.bad += summary.differences + summary.wrong;
+        kinds += 1;
+        faults += summary.faults();
     }
-
-    /// No difference; and where the answers are known, each engine gives them.
-    fn case(&mut self, case: &Case, summary: &mut Summary) {
-        let (family, number) = (case.family, case.number);
-        if self.trace {
-            let shown: String = case.input.shown().chars().take(MOST_TRACED).collect();
-            eprintln!("{family} {number} {shown}");
-        }
-        summary.begin(family, case.due.is_some());
-        match self.checker.run(&case.input, number) {
-            Ok(notes) => summary.note(notes),
-            Err(difference) => {
-                summary.differences += 1;
-                tell(&difference);
-                println!("  {family}, number {number}: {}", case.input.shown());
-            }
-        }
-        let Some((name, faults)) = &case.due else {
-            return;
-        };
-        let engines: [(&str, &dyn Engine); 2] = [("proved", &ProvedEngine), ("rust", &RustEngine)];
-        for (engine_name, engine) in engines {
-            for (call, answer) in faults(engine) {
-                summary.wrong += 1;
-                println!("WRONG in {call} of {name}");
-                println!("  {engine_name} {:?}", decode(answer));
-            }
-        }
-    }
-}
-
-fn tell(difference: &Difference) {
-    println!("DIFFERENT in {}", difference.call);
-    let (left, right) = (decode(difference.left), decode(difference.right));
-    println!("  proved {left:?}, rust {right:?}");
-    if let Some((buffer, place)) = difference.place {
-        println!("  buffer {buffer} differs from byte {place}");
+    match (kinds, faults) {
+        (1.., 0) => ExitCode::SUCCESS,
+        _ => ExitCode::FAILURE,
     }
 }

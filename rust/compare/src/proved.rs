@@ -1,6 +1,6 @@
 //! The C functions of the proved library, wrapped.
 
-use crate::call::{handed_back, Call, Engine};
+use crate::call::{Call, Engine};
 
 extern "C" {
     fn vb_complete(problem: *const u8, n: usize, result: *mut u8, m: usize) -> u64;
@@ -31,11 +31,7 @@ impl Engine for ProvedEngine {
                 Call::Complete(_) => vb_complete(a.0, a.1, written.0, written.1),
                 Call::Unify(_) => vb_unify(a.0, a.1, written.0, written.1),
                 Call::Compare(_) => vb_compare(a.0, a.1),
-                Call::Subterm(_, position) => {
-                    // Where an empty part stands is free.
-                    let part = vb_subterm(a.0, a.1, *position);
-                    handed_back((part >> 32) as usize, part as u32 as usize)
-                }
+                Call::Subterm(_, position) => vb_subterm(a.0, a.1, *position),
                 Call::Decide(..) => vb_decide(a.0, a.1, b.0, b.1),
                 Call::Lower(..) => vb_lower(a.0, a.1, b.0, b.1, c.0, c.1),
             }

@@ -44,11 +44,17 @@ impl Summary {
         }
     }
 
+    /// Differences and wrong answers.
+    pub fn faults(&self) -> usize {
+        self.differences + self.wrong
+    }
+
     /// How often an answer was noted.
     pub fn count(&self, answer: &str) -> u64 {
         self.answers.get(answer).copied().unwrap_or(0)
     }
 
+    /// The counts, last those of the whole kind.
     pub fn print(&self) {
         for (family, count) in &self.families {
             println!("{count:9}  {family}");

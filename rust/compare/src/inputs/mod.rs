@@ -1,7 +1,8 @@
 //! What is compared: kinds of input, and the table of their families.
 //!
-//! A kind is a file: which calls are made on an input, what the summary notes
-//! of their answers, how an input is shown, and its families.
+//! A kind is a file: the calls that are made on an input, what the summary
+//! notes of their answers, how an input is shown, and its families. A further
+//! kind is a further file, a case of `Input` and a line of `KINDS`.
 
 mod pair;
 mod problem;
@@ -25,11 +26,12 @@ pub enum Input {
     Pair(Pair),
 }
 
-/// What the summary counts of an input.
-pub type Notes = Vec<String>;
+/// All kinds.
+pub const KINDS: [Kind; 3] = [problem::KIND, question::KIND, pair::KIND];
 
 impl Input {
-    pub(crate) fn check(&self, checker: &mut Checker, number: u64) -> Result<Notes, Difference> {
+    /// Makes all calls; the number varies how they are lent their bytes.
+    pub fn check(&self, checker: &mut Checker, number: u64) -> Result<Notes, Difference> {
         match self {
             Input::Problem(problem) => problem::check(checker, problem, number),
             Input::Question(question) => question::check(checker, question),
@@ -41,40 +43,18 @@ impl Input {
     pub fn shown(&self) -> String {
         match self {
             Input::Problem(problem) => hex(problem),
-            Input::Question(question) => {
-                let (problem, record) = (hex(&question.problem), hex(&question.record));
-                format!("{problem}\n  record {record}")
-            }
-            Input::Pair(pair) => [&pair.symbols, &pair.first, &pair.second]
-                .map(|slice| hex(slice))
-                .join(" "),
+            Input::Question(question) => question::shown(question),
+            Input::Pair(pair) => pair::shown(pair),
         }
     }
 }
 
-/// Most bytes of a slice that are shown.
-const MOST_SHOWN: usize = 20_000;
-
-fn hex(bytes: &[u8]) -> String {
-    let shown = &bytes[..bytes.len().min(MOST_SHOWN)];
-    let text: String = shown.iter().map(|b| format!("{b:02x}")).collect();
-    match shown.len() == bytes.len() {
-        true => format!("{text}."),
-        false => format!("{text} .. ({} bytes)", bytes.len()),
-    }
-}
-
-/// The calls of an engine whose answers are not those due, with the answers.
-pub type Faults = Box<dyn Fn(&dyn Engine) -> Vec<(String, u64)>>;
-
-/// An input of a family.
-pub struct Case {
-    pub family: &'static str,
-    /// Varies how the input is lent.
-    pub number: u64,
-    pub input: Input,
-    /// Where the answers are known: the case's name, and what is wrong.
-    pub due: Option<(String, Faults)>,
+/// Families of one kind of input: known answers first, then all damage, then
+/// generated ones.
+pub struct Kind {
+    /// What is counted.
+    pub name: &'static str,
+    pub families: &'static [fn(Plan) -> Cases],
 }
 
 /// Which inputs are generated.
@@ -85,25 +65,38 @@ pub struct Plan {
     pub count: u64,
 }
 
-impl Plan {
-    /// The cases of the indices, by family and input.
-    fn generated(
-        self,
-        family: fn(u64) -> &'static str,
-        input: impl Fn(u64, u64) -> Input + 'static,
-    ) -> Cases {
-        let case = move |number| Case {
-            family: family(number),
-            number,
-            input: input(self.seed, number),
-            due: None,
-        };
-        Box::new((self.first..self.first + self.count).map(case))
-    }
+/// The cases of some families, in order.
+pub type Cases = Box<dyn Iterator<Item = Case>>;
+
+/// An input of a family.
+pub struct Case {
+    pub family: &'static str,
+    /// Varies how the input is lent.
+    pub number: u64,
+    pub input: Input,
+    /// Where the answers are known.
+    pub due: Option<Due>,
 }
 
-/// The cases of a family, in order.
-pub type Cases = Box<dyn Iterator<Item = Case>>;
+/// A case with known answers: its name, and what an engine answers wrong.
+pub struct Due {
+    pub name: String,
+    pub faults: Faults,
+}
+
+/// An engine to the calls whose answers are not those due, with the answers.
+pub type Faults = Box<dyn Fn(&dyn Engine) -> Vec<(String, u64)>>;
+
+/// What the summary counts of an input.
+pub type Notes = Vec<String>;
+
+/// The one call of an input, if its answer is not the one due.
+fn fault(call: &str, answer: u64, due: u64) -> Vec<(String, u64)> {
+    match answer == due {
+        true => Vec::new(),
+        false => vec![(call.to_string(), answer)],
+    }
+}
 
 /// All inputs of a list, without answers due.
 fn listed(family: &'static str, inputs: impl Iterator<Item = Input> + 'static) -> Cases {
@@ -116,54 +109,30 @@ fn listed(family: &'static str, inputs: impl Iterator<Item = Input> + 'static) -
     Box::new((0..).zip(inputs).map(case))
 }
 
-/// One answer that must be given.
-fn due(
-    name: String,
-    call: &'static str,
-    right: u64,
-    answer: fn(&dyn Engine, &Input) -> u64,
-    input: &Input,
-) -> (String, Faults) {
-    let input = input.clone();
-    let faults = move |engine: &dyn Engine| {
-        let given = answer(engine, &input);
-        match given == right {
-            true => Vec::new(),
-            false => vec![(call.to_string(), given)],
-        }
+/// The inputs of the plan's seed and indices, without answers due.
+fn generated(
+    plan: Plan,
+    family: fn(u64) -> &'static str,
+    input: impl Fn(u64, u64) -> Input + 'static,
+) -> Cases {
+    let case = move |number| Case {
+        family: family(number),
+        number,
+        input: input(plan.seed, number),
+        due: None,
     };
-    (name, Box::new(faults))
+    Box::new((plan.first..plan.first + plan.count).map(case))
 }
 
-/// Families of one kind of input: known answers first, then all damage, then
-/// generated ones.
-pub struct Kind {
-    pub name: &'static str,
-    pub families: &'static [fn(Plan) -> Cases],
-}
+/// Most bytes of a slice that are shown.
+const MOST_SHOWN: usize = 20_000;
 
-/// All kinds.
-pub const KINDS: [Kind; 3] = [
-    Kind {
-        name: "problems",
-        families: &[
-            problem::fixed,
-            problem::chains,
-            problem::damaged,
-            problem::generated,
-        ],
-    },
-    Kind {
-        name: "questions",
-        families: &[
-            question::fixed,
-            question::chains,
-            question::damaged,
-            question::generated,
-        ],
-    },
-    Kind {
-        name: "pairs of terms",
-        families: &[pair::fixed, pair::chains, pair::damaged, pair::generated],
-    },
-];
+/// The bytes and a full stop; a long slice is cut.
+fn hex(bytes: &[u8]) -> String {
+    let shown = &bytes[..bytes.len().min(MOST_SHOWN)];
+    let text: String = shown.iter().map(|b| format!("{b:02x}")).collect();
+    match shown.len() == bytes.len() {
+        true => format!("{text}."),
+        false => format!("{text} .. ({} bytes)", bytes.len()),
+    }
+}

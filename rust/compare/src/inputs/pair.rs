@@ -1,21 +1,24 @@
 //! Pairs of terms: lower.
 
-use super::{due, listed, Case, Cases, Input, Notes, Plan};
+use super::{fault, hex, Case, Cases, Due, Input, Kind, Notes, Plan};
 use crate::call::{chosen, Call, Engine};
 use crate::check::{Checker, Difference, NONE};
 use crate::lent::{Lent, LAYOUTS};
 use kb_cases::chains as of_chains;
-use kb_cases::generate;
+use kb_cases::generate::pairs as generator;
 use kb_cases::pairs::{self, Pair};
 use std::hint::black_box;
+
+pub const KIND: Kind = Kind {
+    name: "pairs of terms",
+    families: &[fixed, chains, damaged, generated],
+};
 
 /// The slices are lent as the number says.
 pub fn check(checker: &mut Checker, pair: &Pair, number: u64) -> Result<Notes, Difference> {
     let lent = Lent::new(pair, number);
     let before = lent.clone();
-    let [symbols, first, second] = lent.slices();
-    let call = Call::Lower(symbols.into(), first.into(), second.into());
-    let answer = checker.call(&call, [NONE; 2])?;
+    let answer = checker.call(&lower(&lent), [NONE; 2])?;
     if black_box(&lent) != &before {
         return Err(Difference {
             call: "lower, bytes around the lent ones changed".to_string(),
@@ -27,6 +30,11 @@ pub fn check(checker: &mut Checker, pair: &Pair, number: u64) -> Result<Notes, D
     Ok(vec![note(answer)])
 }
 
+fn lower(lent: &Lent) -> Call<'_> {
+    let [symbols, first, second] = lent.slices();
+    Call::Lower(symbols.into(), first.into(), second.into())
+}
+
 fn note(answer: u64) -> String {
     match answer {
         0 => "lower: refused".to_string(),
@@ -36,46 +44,49 @@ fn note(answer: u64) -> String {
     }
 }
 
-fn lower(engine: &dyn Engine, input: &Input) -> u64 {
-    match input {
-        Input::Pair(pair) => engine.lower(&pair.symbols, &pair.first, &pair.second),
-        _ => unreachable!("a pair"),
-    }
+/// The symbol field and the two terms.
+pub fn shown(pair: &Pair) -> String {
+    let slices = [&pair.symbols, &pair.first, &pair.second];
+    slices.map(|slice| hex(slice)).join(" ")
 }
 
-/// Each pair lent in every way.
+/// A pair with a known answer, lent in every way.
+fn layouts(family: &'static str, case: pairs::Case) -> impl Iterator<Item = Case> {
+    (0..LAYOUTS).map(move |number| {
+        let (lent, due) = (Lent::new(&case.pair, number), chosen(case.answer));
+        let given = move |engine: &dyn Engine| engine.run(&lower(&lent), Default::default());
+        Case {
+            family,
+            number,
+            input: Input::Pair(case.pair.clone()),
+            due: Some(Due {
+                name: case.name.clone(),
+                faults: Box::new(move |engine| fault("lower", given(engine), due)),
+            }),
+        }
+    })
+}
+
 fn known(family: &'static str, cases: Vec<pairs::Case>) -> Cases {
-    let layouts = move |case: pairs::Case| {
-        (0..LAYOUTS).map(move |number| {
-            let input = Input::Pair(case.pair.clone());
-            let answer = chosen(case.answer);
-            let due = (number == 0).then(|| due(case.name.clone(), "lower", answer, lower, &input));
-            Case {
-                family,
-                number,
-                input,
-                due,
-            }
-        })
-    };
-    Box::new(cases.into_iter().flat_map(layouts))
+    let cases = cases.into_iter();
+    Box::new(cases.flat_map(move |case| layouts(family, case)))
 }
 
-pub fn fixed(_: Plan) -> Cases {
+fn fixed(_: Plan) -> Cases {
     known("fixed pairs", pairs::cases())
 }
 
-pub fn chains(_: Plan) -> Cases {
+fn chains(_: Plan) -> Cases {
     known("pairs of long chains", of_chains::pairs())
 }
 
-pub fn damaged(_: Plan) -> Cases {
-    let inputs = generate::pairs::exhaustive::all().map(Input::Pair);
-    listed("all damage of pairs", inputs)
+fn damaged(_: Plan) -> Cases {
+    let inputs = generator::exhaustive::all().map(Input::Pair);
+    super::listed("all damage of pairs", inputs)
 }
 
-pub fn generated(plan: Plan) -> Cases {
-    plan.generated(generate::pairs::family, |seed, index| {
-        Input::Pair(generate::pairs::pair(seed, index))
+fn generated(plan: Plan) -> Cases {
+    super::generated(plan, generator::family, |seed, index| {
+        Input::Pair(generator::pair(seed, index))
     })
 }

@@ -2,7 +2,7 @@
 //! result.
 
 use super::question;
-use super::{listed, Case, Cases, Input, Notes, Plan};
+use super::{Case, Cases, Due, Input, Kind, Notes, Plan};
 use crate::call::{decode, Call};
 use crate::check::{Checker, Difference, Start, NONE};
 use crate::fixed::faults;
@@ -13,10 +13,18 @@ use kb_engine::fields::put_back_entries;
 use kb_engine::run::END_COMPLETE;
 use kb_engine::{MAX_NODES, MIN_RESULT};
 
+pub const KIND: Kind = Kind {
+    name: "problems",
+    families: &[fixed, chains, damaged, generated],
+};
+
 /// Decide is asked of the result that both have written, or of an empty
 /// record. The number varies buffer and positions.
 pub fn check(checker: &mut Checker, problem: &[u8], number: u64) -> Result<Notes, Difference> {
-    let result = Start::Pattern(result_length(number), number);
+    let result = Start {
+        length: result_length(number),
+        pattern: number,
+    };
     let complete = checker.call(&Call::Complete(problem.into()), [result, NONE])?;
     let record = checker.written(complete).to_vec();
     let unify = checker.call(&Call::Unify(problem.into()), [result, NONE])?;
@@ -106,11 +114,14 @@ impl PutBack {
     }
 }
 
+/// Of so many numbers all but a few choose the least buffer.
+const LENGTHS: u64 = 101;
+
 /// Mostly the least length, at times shorter or longer.
 fn result_length(number: u64) -> usize {
-    match number % 101 {
+    match number % LENGTHS {
         50 => 0,
-        51 => 1 + number as usize / 101 % (MIN_RESULT - 2),
+        51 => 1 + (number / LENGTHS) as usize % (MIN_RESULT - 2),
         52 => MIN_RESULT - 1,
         53 => MIN_RESULT + 1,
         54 => MIN_RESULT + 1000,
@@ -118,46 +129,49 @@ fn result_length(number: u64) -> usize {
     }
 }
 
+/// Of so many numbers one chooses every position.
+const POSITIONS: u64 = 23;
+
 /// All positions of a term and the next at times, else a few.
 fn positions(number: u64) -> Vec<usize> {
-    match number % 23 {
+    match number % POSITIONS {
         0 => (0..=MAX_NODES + 1).collect(),
         1 => vec![usize::MAX, 1 << 32, 1 << 31, 8192, 0],
-        _ => vec![0, 1, (number / 23 % 121) as usize],
+        _ => vec![0, 1, (number / POSITIONS % 121) as usize],
     }
 }
 
-/// Numbers with all positions and the least buffer.
-const WHOLE: u64 = 23 * 101;
+/// The multiples choose the least buffer and every position.
+const WHOLE: u64 = LENGTHS * POSITIONS;
 
 fn known(family: &'static str, cases: Vec<of_papers::Case>) -> Cases {
     let case = move |(number, case): (u64, of_papers::Case)| Case {
         family,
         number: number * WHOLE,
         input: Input::Problem(case.problem.clone()),
-        due: Some((
-            case.name.clone(),
-            Box::new(move |engine| faults(engine, &case)),
-        )),
+        due: Some(Due {
+            name: case.name.clone(),
+            faults: Box::new(move |engine| faults(engine, &case)),
+        }),
     };
     Box::new((0..).zip(cases).map(case))
 }
 
-pub fn fixed(_: Plan) -> Cases {
+fn fixed(_: Plan) -> Cases {
     known("fixed", of_papers::cases())
 }
 
-pub fn chains(_: Plan) -> Cases {
+fn chains(_: Plan) -> Cases {
     known("long chains", of_chains::cases())
 }
 
-pub fn damaged(_: Plan) -> Cases {
+fn damaged(_: Plan) -> Cases {
     let problems = (0..damage::exhaustive_count()).map(damage::exhaustive);
-    listed("all damage", problems.map(Input::Problem))
+    super::listed("all damage", problems.map(Input::Problem))
 }
 
-pub fn generated(plan: Plan) -> Cases {
-    plan.generated(generate::family, |seed, index| {
+fn generated(plan: Plan) -> Cases {
+    super::generated(plan, generate::family, |seed, index| {
         Input::Problem(generate::problem(seed, index))
     })
 }

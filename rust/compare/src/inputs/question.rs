@@ -1,12 +1,17 @@
 //! Questions of records: decide.
 
-use super::{due, listed, Case, Cases, Input, Notes, Plan};
+use super::{fault, hex, Case, Cases, Due, Input, Kind, Notes, Plan};
 use crate::call::{decided, decode, result_of, Call, Engine, RustEngine};
 use crate::check::{Checker, Difference, NONE};
 use crate::ProvedEngine;
 use kb_cases::chains as of_chains;
 use kb_cases::generate::records::{self, exhaustive};
 use kb_cases::questions::{self, Question};
+
+pub const KIND: Kind = Kind {
+    name: "questions",
+    families: &[fixed, chains, damaged, generated],
+};
 
 pub fn check(checker: &mut Checker, question: &Question) -> Result<Notes, Difference> {
     let answer = checker.call(&Call::from(question), [NONE; 2])?;
@@ -23,43 +28,44 @@ pub fn note(answer: u64) -> String {
     }
 }
 
-fn decide(engine: &dyn Engine, input: &Input) -> u64 {
-    match input {
-        Input::Question(question) => engine.decide(&question.problem, &question.record),
-        _ => unreachable!("a question"),
-    }
+pub fn shown(question: &Question) -> String {
+    let (problem, record) = (hex(&question.problem), hex(&question.record));
+    format!("{problem}\n  record {record}")
 }
 
 fn known(family: &'static str, cases: Vec<questions::Case>) -> Cases {
     let case = move |(number, case): (u64, questions::Case)| {
-        let input = Input::Question(case.question);
-        let due = due(case.name, "decide", decided(case.answer), decide, &input);
+        let (question, due) = (case.question.clone(), decided(case.answer));
+        let given = move |engine: &dyn Engine| engine.decide(&question.problem, &question.record);
         Case {
             family,
             number,
-            input,
-            due: Some(due),
+            input: Input::Question(case.question),
+            due: Some(Due {
+                name: case.name,
+                faults: Box::new(move |engine| fault("decide", given(engine), due)),
+            }),
         }
     };
     Box::new((0..).zip(cases).map(case))
 }
 
-pub fn fixed(_: Plan) -> Cases {
+fn fixed(_: Plan) -> Cases {
     known("fixed questions", questions::cases())
 }
 
-pub fn chains(_: Plan) -> Cases {
+fn chains(_: Plan) -> Cases {
     known("rules of long chains", of_chains::questions())
 }
 
-pub fn damaged(_: Plan) -> Cases {
+fn damaged(_: Plan) -> Cases {
     let inputs = exhaustive::all().map(Input::Question);
-    listed("all damage of records", inputs)
+    super::listed("all damage of records", inputs)
 }
 
 /// The records are results of both engines, in turn.
-pub fn generated(plan: Plan) -> Cases {
-    plan.generated(records::family, |seed, index| {
+fn generated(plan: Plan) -> Cases {
+    super::generated(plan, records::family, |seed, index| {
         let writer: &dyn Engine = match index / records::SHARES % 2 {
             0 => &ProvedEngine,
             _ => &RustEngine,
