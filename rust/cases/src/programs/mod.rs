@@ -1,5 +1,5 @@
 //! The cases of the programs calls_run and complete_run, and what each of
-//! them must print.
+//! them must print; settle, run on those of complete_run.
 //!
 //! A case is a byte that says what is asked, the length of its name, the
 //! length of its problem in two bytes, the name and the problem.
@@ -8,6 +8,7 @@ pub mod calls;
 pub mod complete;
 mod put_back;
 mod refusals;
+pub mod settle;
 
 use crate::notation::Theory;
 use crate::theories::{one_rank, GROUP};
@@ -16,6 +17,7 @@ use kb_engine::problem::Refusal;
 use std::io::{self, Write};
 
 /// What is asked of a problem, under a name.
+#[derive(Clone, Debug, PartialEq, Eq)]
 pub struct Case {
     pub asked: u8,
     pub name: String,
@@ -23,6 +25,7 @@ pub struct Case {
 }
 
 /// A list of cases.
+#[derive(Clone, Debug, PartialEq, Eq)]
 pub struct Cases(Vec<Case>);
 
 impl Cases {
@@ -81,6 +84,24 @@ impl Cases {
             out.extend(&case.problem);
         }
         out
+    }
+
+    /// The cases of a program's input; none if it is cut.
+    pub fn read(mut input: &[u8]) -> Option<Cases> {
+        let mut list = Vec::new();
+        while !input.is_empty() {
+            let (&[asked, name, high, low], rest) = input.split_first_chunk()?;
+            let (name, rest) = rest.split_at_checked(name.into())?;
+            let length = u16::from_be_bytes([high, low]);
+            let (problem, rest) = rest.split_at_checked(length.into())?;
+            list.push(Case {
+                asked,
+                name: String::from_utf8_lossy(name).into_owned(),
+                problem: problem.to_vec(),
+            });
+            input = rest;
+        }
+        Some(Cases(list))
     }
 
     /// The text that the program must print, by what one case prints.
