@@ -75,7 +75,7 @@ fn wrong_brackets() {
     let deep = format!("{}x", "(".repeat(100_000));
     equation(
         &deep,
-        "1001: expected at most 1000 terms in each other, found '('",
+        "501: expected at most 500 terms in each other, found '('",
     );
 }
 

@@ -153,5 +153,5 @@ fn unequal_and_large_figures_are_faults() {
     assert_eq!(count(Kind::Deep, [300, 301, LIMIT]), 0);
     assert_eq!(count(Kind::Deep, [300, 301, LIMIT + 1]), 1);
     assert_eq!(count(Kind::Walk, [LIMIT, LIMIT, LIMIT + 1]), 2);
-    assert!(LIMIT < STACK);
+    const { assert!(LIMIT < STACK) };
 }

@@ -13,7 +13,7 @@ use kb_engine::term::VARIABLE_BASE;
 /// Variables that have a byte.
 const MOST_VARIABLES: usize = 16;
 /// Most terms that stand in each other, redundant brackets counted.
-const MOST_DEEP: usize = 1000;
+const MOST_DEEP: usize = 500;
 
 /// Reads terms over the symbols, and over the same variables.
 pub struct Parser<'t> {

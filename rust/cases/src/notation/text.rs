@@ -29,6 +29,8 @@ impl fmt::Display for SyntaxError {
     }
 }
 
+impl std::error::Error for SyntaxError {}
+
 /// A part of a line, and where it begins.
 #[derive(Clone, Copy, Debug)]
 pub struct Span<'t> {

@@ -202,9 +202,10 @@ fn texts(n: usize, chains: Chains) -> [String; 2] {
 }
 
 /// Equal chains are walked over in step. The path order goes down both chains
-/// at once where the symbols are the same, and down one of them where they have one rank. Where that of the
-/// first is higher it goes down the second and then, at the leaf, down the
-/// first: the deepest, in one direction or the other.
+/// at once where the symbols are the same, and down one of them where they have
+/// one rank. Where that of the first is higher it goes down the second and
+/// then, at the leaf, down the first: the deepest, in one direction or the
+/// other.
 fn comparisons() -> Vec<Case> {
     fn compare(n: usize, chains: Chains, order: Order) -> (Call<'static>, u64) {
         let [left, right] = texts(n, chains);
