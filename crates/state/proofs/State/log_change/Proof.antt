@@ -1,4 +1,4 @@
--- `State::settle`: eight bytes behind the log's are one entry more, by `log-done`. Assumes nothing.
+-- `State::log_change`: eight bytes behind the log's are one entry more, by `log-done`. Assumes nothing.
 -- Read first: specs/Steps (Logs), proofs/Logging.
 use mathlib.Core.Path.{_≡_}
 use Prim.Native.Nat.{_*_}
@@ -6,10 +6,10 @@ use native.Mathlib.Omega.{arith}
 use lib.ListN.{length}
 use Rattle.limits.specs.Limits.{most-entries}
 use Rattle.state.specs.Run.{logged-width}
-use Rattle.state.proofs.Logging.{log-done, fine-but-one}
+use Rattle.state.proofs.Logging.{log-done}
 use borrow.Author.Needs.{needs}
-use Rattle.state.proofs.State.settle.Statement.{statement}
-use Rattle.state.proofs.State.settle.Tie as tie
+use Rattle.state.proofs.State.log_change.Statement.{statement}
+use Rattle.state.proofs.State.log_change.Tie as tie
 
 -- the log's room
 long : (at : tie.Start) → length (at .args .t1 .log .bytes) ≡ logged-width * most-entries
@@ -19,16 +19,15 @@ enter-requires : tie.Need-enter-requires
 enter-requires c κs =
     let entry : tie.Start = search depth 0 in
     let l = long entry in
-    let n = entry .pre .1 in
-    (n, omega arith, entry .pre .2)
+    let n = entry .pre .0 in
+    (n, omega arith, entry .pre .1)
 
 returns : tie.Need-returns
 returns c =
     let at-enter : tie.After-enter = search depth 0 in
     let entry : tie.Start = search depth 0 in
     let l = long entry in
-    let few = entry .pre .0 .live-few in
-    log-done _ _ _ _ (fine-but-one (entry .pre .0)) (omega arith) (entry .pre .1) (omega arith) _ _ (at-enter .enter .ensures)
+    log-done _ _ _ (entry .pre .0) (omega arith) _ _ (at-enter .enter .ensures)
 
-pub settle-spec : {M : Type 1} → statement M
-settle-spec = tie.close (tie.spec enter-requires returns)
+pub log-change-spec : {M : Type 1} → statement M
+log-change-spec = tie.close (tie.spec enter-requires returns)
