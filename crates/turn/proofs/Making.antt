@@ -1,6 +1,6 @@
 -- Steps 4 to 7 of a turn: by the outcome of each step, what the definition's `make-rule` comes to. Assumes nothing.
 -- Read first: specs/Turns (TurnedIs), state/specs/Steps (Orients, PutsBack, Collapses, Logs), completion/proofs/Turning (make-done, ..), proofs/Steady.
-use mathlib.Core.Path.{_≡_, refl, sym, ap, _∙_, subst}
+use mathlib.Core.Path.{_≡_, refl, sym, ap, subst}
 use mathlib.Core.List.{List, [], _∷_, _++_}
 use mathlib.Core.Option.{none}
 use Prim.Native.Nat.{ℕ, suc, _<_, _≤_}

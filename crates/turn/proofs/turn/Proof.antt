@@ -1,11 +1,10 @@
 -- `turn`: no unit left, or by what is due; a lemma for each return. Behind `compose_few` the state has other bytes in its slots. Assumes nothing.
 -- Read first: proofs/Whole, proofs/Parts.
-use mathlib.Core.Path.{_≡_, refl, ap, _∙_}
+use mathlib.Core.Path.{_≡_, refl}
 use mathlib.Core.List.{[], _∷_}
-use native.Mathlib.Omega.{arith}
 use denote.Enum.Declared.{tagOf}
 use types.Run.{OneOf, miss}
-use Prim.Native.Nat.{_*_, _<_}
+use Prim.Native.Nat.{_<_}
 use lib.ListN.{length}
 use Rattle.limits.specs.Limits.{most-entries}
 use Rattle.slots.specs.Slots.{slot-width}
@@ -14,9 +13,8 @@ use Rattle.turn.specs.declared.Due.the-variants.{Stop, Settle, Make}
 use Rattle.orient.specs.declared.Way.{Way}
 use Rattle.orient.specs.declared.Way.the-variants.{Rule, Neither, TooLarge}
 use Rattle.orient.proofs.Way.{the-type as way-type}
-use Rattle.state.specs.declared.Log.{Log}
 use Rattle.state.specs.declared.Turned.{Turned}
-use Rattle.state.specs.Run.{logged-width, Fine}
+use Rattle.state.specs.Run.{Fine}
 use Rattle.turn.specs.Turns.{Turns}
 use Rattle.turn.proofs.Due.{the-type}
 use Rattle.turn.proofs.Entries.{settle-room, make-room}

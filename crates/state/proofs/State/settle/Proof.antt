@@ -1,0 +1,11 @@
+-- `State::settle`: a change is logged, with 0 for a rule. Assumes nothing.
+-- Read first: specs/Steps (Logs), proofs/State/log_change.
+use borrow.Author.Needs.{needs}
+use Rattle.state.proofs.State.settle.Statement.{statement}
+use Rattle.state.proofs.State.settle.Tie as tie
+
+returns : tie.Need-returns
+returns c = c .log-change .ensures
+
+pub settle-spec : {M : Type 1} → statement M
+settle-spec = tie.close (tie.spec (λ c κs. search needs) returns)
