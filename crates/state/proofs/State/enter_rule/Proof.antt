@@ -5,7 +5,9 @@ use Rattle.state.proofs.State.enter_rule.Statement.{statement}
 use Rattle.state.proofs.State.enter_rule.Tie as tie
 
 returns : tie.Need-returns
-returns c = c .log-change .ensures
+returns c =
+    let at-log-change : tie.After-log-change = search depth 0 in
+    at-log-change .log-change .ensures
 
 pub enter-rule-spec : {M : Type 1} → statement M
 enter-rule-spec = tie.close (tie.spec (λ c. search needs) (λ c κs. search needs) returns)
