@@ -1,4 +1,4 @@
--- One entry more: the eight bytes behind the log's are those of the entry. `enter`, `log_change`. Assumes nothing.
+-- One entry more: the eight bytes behind the log's are those of the entry. `enter`, `settle`, `enter_rule`. Assumes nothing.
 -- Read first: specs/Run (Logged), specs/Steps (Logs), fields/proofs/Patching.
 use mathlib.Core.Path.{_≡_, refl, sym, ap, ap₂, _∙_}
 use mathlib.Core.List.{List, [], _∷_, _++_}
@@ -58,7 +58,7 @@ module _ (log : Log) (pair : List ℕ) (n : ℕ) (room : log .count < most-entri
         counted = more ∙ ap (λ z. z + 1) (r .counted) ∙ sym (length-append es (new ∷ []));
       }
 
--- none was put back since: `log_change`
+-- none was put back since: `settle`, `enter_rule`
 module _ (st : State) (pair : List ℕ) (n : ℕ) (room : st .log .count < most-entries) (long : logged-width * most-entries ≤ length (st .log .bytes))
     (bytes : List ℕ) (count : ℕ) (e : Enters (st .log .count) n pair (st .log .bytes) bytes count) where
   abbrev with-log : State

@@ -19,7 +19,7 @@ with-slots st b = record {
   units = st .units;
 }
 
--- where these bytes are laid out as well; of live rules and of entries other bounds may be known by now
+-- with bytes that are laid out as well, and with the bounds that are known by now
 pub still-fine : {over behind over′ behind′ : ℕ} {st : State} {b : List ℕ} {u : ℕ} → FineBut over behind st → Layout b (st .pairs .count) →
     st .live ≤ most-rules + over′ → st .made ≤ st .log .count + behind′ → FineBut over′ behind′ (with-units (with-slots st b) u)
 still-fine F layout live made =

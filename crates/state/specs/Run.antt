@@ -37,8 +37,8 @@ as-removed r = record { origin = removed-rule (r .number); sides = r .sides }
 abbrev pub held : List Rule → List Candidate → List Candidate
 held rules waiting = map as-removed rules ++ waiting
 
--- What no bytes break: the counts, the lengths and the room. From a new rule on one more may be live than may stay, so many over; until its entry the
--- log is one behind.
+-- What no bytes break: the counts, the lengths and the room. From step 5 to step 7 one live rule may be over the limit, and until a rule's entry the log
+-- is one behind.
 pub record FineBut (over behind : ℕ) (st : State) : Type 0 where
   pub layout : Layout (st .pairs .bytes) (st .pairs .count)
   pub within : st .live ≤ st .pairs .count

@@ -112,7 +112,7 @@ pub record Enters (n made : ℕ) (pair log log′ : List ℕ) (r : ℕ) : Type 0
   pub bytes : log′ ≡ patched (logged-width * n) (mark-of (slot pair 0) ++ number-bytes 2 made) log
   pub more : r ≡ n + 1
 
--- `settle`, `enter_rule`, `log_change`: one entry more, of a pair that was settled or made a rule, and none put back since
+-- `settle`, `enter_rule`: one entry more, of a pair that was settled or made a rule, and none put back since
 abbrev pub with-entry : RunState → Origin → ℕ → RunState
 with-entry s o n = record {
   rules = s .rules;

@@ -156,29 +156,25 @@ impl State {
         self
     }
 
-    // Step 3 of a pair with equal forms: an entry says so.
-    pub fn settle(self, pair: &[u8]) -> State
+    // Step 3 of a pair with equal forms: an entry says so, and none was put back since.
+    pub fn settle(mut self, pair: &[u8]) -> State
         requires { ⌜ (self .log .count < most-entries) × Layout (now pair) 1 ⌝ }
         ensures { λ r. ⌜ Logs self (mark-of (slot (now (pair .entry)) 0)) 0 r ⌝ }
     {
-        self.log_change(pair, SETTLED)
+        let n = self.log.count;
+        let entries = enter(n, SETTLED, pair, &mut self.log.bytes);
+        self.log.count = entries;
+        self.back = 0;
+        self
     }
 
-    // The pair became the newest rule: an entry has its number.
-    pub fn enter_rule(self, pair: &[u8]) -> State
+    // The pair became the newest rule: an entry has its number, and none was put back since. One function for this and `settle` copies the state once more.
+    pub fn enter_rule(mut self, pair: &[u8]) -> State
         requires { ⌜ FineBut 1 1 self × (self .log .count < most-entries) × Layout (now pair) 1 ⌝ }
         ensures { λ r. ⌜ Logs self (mark-of (slot (now (pair .entry)) 0)) (self .made) r ⌝ }
     {
-        self.log_change(pair, self.made as u16)
-    }
-
-    // The pair was settled or made a rule: an entry has this number, and none was put back since.
-    fn log_change(mut self, pair: &[u8], made: u16) -> State
-        requires { ⌜ (self .log .count < most-entries) × Layout (now pair) 1 ⌝ }
-        ensures { λ r. ⌜ Logs self (mark-of (slot (now (pair .entry)) 0)) made r ⌝ }
-    {
         let n = self.log.count;
-        let entries = enter(n, made, pair, &mut self.log.bytes);
+        let entries = enter(n, self.made as u16, pair, &mut self.log.bytes);
         self.log.count = entries;
         self.back = 0;
         self

@@ -100,9 +100,9 @@ fn compose_few(live: usize, pairs: &mut [u8; ROOM], table: &[u8], units: u32) ->
     compose::compose(pairs, live, table, units)
 }
 
-// A turn, with the input equations. Its unit is paid first; a stop hands back the state as the turn began it. So the entry of a rule may be put before
-// step 7: behind it, where slots were lent, a method would copy the state once more, as does a function, or a result within an expression: each method
-// is called here, where the state is, and its result has its own name.
+// A turn, with the input equations. Its unit is paid first; a stop hands back the state as the turn began it. So a rule's entry may come before step 7,
+// which is lent the slots: a method behind that copies the state twice more. A function, or a result within an expression, copies it as well: each
+// method is called here, where the state is, and what is handed on has its own name.
 pub fn turn(st: State, inputs: &[u8], count: usize, table: &[u8]) -> Turned
     requires { ⌜ Fine st × Layout (now inputs) count × (count ≤ most-equations) ⌝ }
     ensures { λ r. ⌜ Turns (now (table .entry)) (now (inputs .entry)) count st r ⌝ }
