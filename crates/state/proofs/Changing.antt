@@ -232,7 +232,7 @@ module _ (tab pair : List ℕ) (st : State) (o : NewPair) where
         }
 
 -- `collapse`
-module _ (tab : List ℕ) (st : State) (fine : FineBut 1 st) (new b : List ℕ) (stay : ℕ) (some : 0 < st .live)
+module _ (tab : List ℕ) (st : State) (fine : FineBut 1 1 st) (new b : List ℕ) (stay : ℕ) (some : 0 < st .live)
     (copied : slot new 0 ≡ slot (st .pairs .bytes) (st .live - 1)) (g : Sifted tab new (st .pairs .bytes) (st .live) (st .pairs .count) b stay) where
   abbrev after-collapse : State
   after-collapse = record {

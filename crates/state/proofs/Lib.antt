@@ -1,5 +1,6 @@
+pub mod Steady
 pub mod Rows
 mod Siftings
 mod Changing
-pub mod Logging
+mod Logging
 mod PuttingBack

@@ -1,11 +1,11 @@
--- One entry more: the eight bytes behind the log's are those of the entry. `settle`. Assumes nothing.
+-- One entry more: the eight bytes behind the log's are those of the entry. `enter`, `settle`, `enter_rule`. Assumes nothing.
 -- Read first: specs/Run (Logged), specs/Steps (Logs), fields/proofs/Patching.
 use mathlib.Core.Path.{_≡_, refl, sym, ap, ap₂, _∙_}
 use mathlib.Core.List.{List, [], _∷_, _++_}
 use Prim.Native.Nat.{ℕ, _+_, _*_, _<_, _≤_}
 use native.Mathlib.Omega.{arith}
 use lib.ListN.{length, take, length-append}
-use Rattle.limits.specs.Limits.{most-rules, most-entries}
+use Rattle.limits.specs.Limits.{most-entries}
 use Rattle.terms.specs.Base.{number-bytes}
 use Rattle.terms.proofs.Lists.{flatMap-append, flatMap-one}
 use Rattle.terms.proofs.Limits.{length-number-bytes}
@@ -18,7 +18,7 @@ use Rattle.completion.specs.Calls.{origin-bytes}
 use Rattle.completion.proofs.Widths.{origin-bytes-length}
 use Rattle.state.specs.declared.Log.{Log}
 use Rattle.state.specs.declared.State.{State}
-use Rattle.state.specs.Run.{logged-width, logged, Logged, FineBut, Fine}
+use Rattle.state.specs.Run.{logged-width, logged, Logged, FineBut}
 use Rattle.state.specs.Steps.{Enters, Logs}
 
 -- `enter`
@@ -58,10 +58,9 @@ module _ (log : Log) (pair : List ℕ) (n : ℕ) (room : log .count < most-entri
         counted = more ∙ ap (λ z. z + 1) (r .counted) ∙ sym (length-append es (new ∷ []));
       }
 
--- none was put back since
-module _ (st : State) (pair : List ℕ) (n units : ℕ) (fine : FineBut 1 st) (few : st .live ≤ most-rules) (room : st .log .count < most-entries)
-    (long : logged-width * most-entries ≤ length (st .log .bytes)) (bytes : List ℕ) (count : ℕ)
-    (e : Enters (st .log .count) n pair (st .log .bytes) bytes count) where
+-- none was put back since: `settle`, `enter_rule`
+module _ (st : State) (pair : List ℕ) (n : ℕ) (room : st .log .count < most-entries) (long : logged-width * most-entries ≤ length (st .log .bytes))
+    (bytes : List ℕ) (count : ℕ) (e : Enters (st .log .count) n pair (st .log .bytes) bytes count) where
   abbrev with-log : State
   with-log = record {
     pairs = st .pairs;
@@ -69,24 +68,29 @@ module _ (st : State) (pair : List ℕ) (n units : ℕ) (fine : FineBut 1 st) (f
     made = st .made;
     log = with-one (st .log) pair n room long bytes count e;
     back = 0;
-    units = units;
+    units = st .units;
   }
 
-  pub log-done : Logs st (mark-of (slot pair 0)) n units with-log
+  log-fine : (over : ℕ) → FineBut over 1 st → FineBut over 0 with-log
+  log-fine over F =
+      let m = F .made-few in
+      let more = e .more in
+      record {
+        layout = F .layout;
+        within = F .within;
+        together = F .together;
+        live-few = F .live-few;
+        log-few = omega arith;
+        made-few = omega arith;
+        back-few = omega arith;
+      }
+
+  pub log-done : Logs st (mark-of (slot pair 0)) n with-log
   log-done =
-      let m = fine .made-few in
-      let more = e .more in record {
-        fine = record {
-          layout = fine .layout;
-          within = fine .within;
-          together = fine .together;
-          live-few = omega arith;
-          log-few = omega arith;
-          made-few = omega arith;
-          back-few = omega arith;
-        };
-        entries = more;
-        units-are = refl;
+      record {
+        fine = log-fine;
+        entries = e .more;
+        units = refl;
         represents = λ tab s o r q. record {
           pairs = r .pairs;
           live = r .live;
@@ -95,18 +99,3 @@ module _ (st : State) (pair : List ℕ) (n units : ℕ) (fine : FineBut 1 st) (f
           back = refl;
         };
       }
-
--- `settle`
-pub fine-but-one : {st : State} → Fine st → FineBut 1 st
-fine-but-one F =
-    let a = F .live-few in
-    let b = F .made-few in
-    record {
-      layout = F .layout;
-      within = F .within;
-      together = F .together;
-      live-few = omega arith;
-      log-few = F .log-few;
-      made-few = omega arith;
-      back-few = F .back-few;
-    }

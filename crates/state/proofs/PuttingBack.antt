@@ -38,7 +38,7 @@ module _ (st : State) (pair one b : List ℕ) (fine : Fine st) (few : st .pairs 
         (inserted-holds tab (map marked before) (marked c) [] (subst (λ z. Holds tab (st .pairs .bytes) 0 z) (sym e) (r .pairs .holds)) k
         (ap length e ∙ k) m i)
 
-  module _ (units : ℕ) (room : st .log .count < most-entries) (long : logged-width * most-entries ≤ length (st .log .bytes)) (bytes : List ℕ) (count : ℕ)
+  module _ (room : st .log .count < most-entries) (long : logged-width * most-entries ≤ length (st .log .bytes)) (bytes : List ℕ) (count : ℕ)
       (e : Enters (st .log .count) made-put-back pair (st .log .bytes) bytes count) where
     abbrev with-pair : State
     with-pair = record {
@@ -47,7 +47,7 @@ module _ (st : State) (pair one b : List ℕ) (fine : Fine st) (few : st .pairs 
       made = st .made;
       log = with-one (st .log) pair made-put-back room long bytes count e;
       back = st .back + 1;
-      units = units;
+      units = st .units;
     }
 
     again : (tab : List ℕ) (s : RunState) (t : Taken) → Represents tab st s → s .waiting ≡ t .waiting → PairAt most-apart tab pair 0 (t .pair .sides) →
@@ -73,7 +73,7 @@ module _ (st : State) (pair one b : List ℕ) (fine : Fine st) (few : st .pairs 
           back = let z = r .back in omega arith;
         }
 
-    pub put-back-done : PutsBack pair st units with-pair
+    pub put-back-done : PutsBack pair st with-pair
     put-back-done =
         let w = fine .within in
         let l = fine .live-few in
@@ -90,6 +90,6 @@ module _ (st : State) (pair one b : List ℕ) (fine : Fine st) (few : st .pairs 
             back-few = omega arith;
           };
           entries = more;
-          units-are = refl;
+          units = refl;
           represents = again;
         }

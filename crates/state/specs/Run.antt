@@ -12,7 +12,7 @@ use Rattle.completion.specs.Turn.{removed-rule, Candidate, Entry, State as RunS
 use Rattle.completion.specs.Calls.{origin-bytes}
 use Rattle.inputs.specs.Inputs.{Held}
 use Rattle.rewriting.specs.declared.End.{End as Ending}
-use Rattle.rewriting.specs.declared.Verdict.the-variants.{Ends}
+use Rattle.rewriting.specs.declared.Verdict.the-variants.{GoesOn, Ends}
 use Rattle.state.specs.declared.State.{State}
 use Rattle.state.specs.declared.Turned.{Turned}
 use Rattle.state.specs.declared.Log.{Log}
@@ -37,18 +37,19 @@ as-removed r = record { origin = removed-rule (r .number); sides = r .sides }
 abbrev pub held : List Rule → List Candidate → List Candidate
 held rules waiting = map as-removed rules ++ waiting
 
--- What no bytes break: the counts, the lengths and the room. Between a new rule and its entry one rule more may be live, and the log is one behind.
-pub record FineBut (behind : ℕ) (st : State) : Type 0 where
+-- What no bytes break: the counts, the lengths and the room. From step 5 to step 7 one live rule may be over the limit, and until a rule's entry the log
+-- is one behind.
+pub record FineBut (over behind : ℕ) (st : State) : Type 0 where
   pub layout : Layout (st .pairs .bytes) (st .pairs .count)
   pub within : st .live ≤ st .pairs .count
   pub together : st .pairs .count ≤ most-pairs
-  pub live-few : st .live ≤ most-rules + behind
+  pub live-few : st .live ≤ most-rules + over
   pub log-few : st .log .count ≤ most-entries
   pub made-few : st .made ≤ st .log .count + behind
   pub back-few : st .back ≤ st .log .count
 
 abbrev pub Fine : State → Type 0
-Fine st = FineBut 0 st
+Fine st = FineBut 0 0 st
 
 -- The state stands for the definition's state s, over the table tab.
 pub record Represents (tab : List ℕ) (st : State) (s : RunState) : Type 0 where
@@ -67,6 +68,10 @@ pub record Leaves (tab : List ℕ) (f : Finished) (st : State) (end : Ending) (p
 -- the state with other units
 abbrev pub with-units : State → ℕ → State
 with-units st u = record { pairs = st .pairs; live = st .live; made = st .made; log = st .log; back = st .back; units = u }
+
+-- `goes_on`
+abbrev pub goes-on-as : State → ℕ → Turned
+goes-on-as st units = record { state = with-units st units; verdict = GoesOn }
 
 -- `ended`
 abbrev pub ended-as : State → Ending → ℕ → Turned

@@ -73,7 +73,7 @@ OrientsIs tab T s e r Neither = Few e × (orient T e ≡ none)
 OrientsIs tab T s e r TooLarge = most-variables < length (pair-variables e)
 
 pub record Orients (tab pair : List ℕ) (st : State) (o : Oriented) : Type 0 where
-  pub fine : o .way ≡ Rule → FineBut 1 (o .state)
+  pub fine : o .way ≡ Rule → FineBut 1 1 (o .state)
   pub live : o .way ≡ Rule → o .state .live ≡ st .live + 1
   pub made : o .way ≡ Rule → o .state .made ≡ st .made + 1
   pub same : SameLog st (o .state)
@@ -82,10 +82,10 @@ pub record Orients (tab pair : List ℕ) (st : State) (o : Oriented) : Type 0 wh
       PairAt most-apart tab pair 0 e → OrientsIs tab T s e (o .state) (o .way)
 
 -- `put_back`: the pair that was taken of s waits again
-pub record PutsBack (pair : List ℕ) (st : State) (units : ℕ) (r : State) : Type 0 where
+pub record PutsBack (pair : List ℕ) (st r : State) : Type 0 where
   pub fine : Fine r
   pub entries : r .log .count ≡ st .log .count + 1
-  pub units-are : r .units ≡ units
+  pub units : r .units ≡ st .units
   pub represents : (tab : List ℕ) (s : RunState) (t : Taken) → Represents tab st s → s .waiting ≡ t .waiting → PairAt most-apart tab pair 0 (t .pair .sides) →
       Few (t .pair .sides) → mark-of (slot pair 0) ≡ origin-bytes (t .pair .origin) → Represents tab r (waits-again s t)
 
@@ -100,7 +100,7 @@ collapsed s older new = record {
 }
 
 pub record Collapses (tab : List ℕ) (st r : State) : Type 0 where
-  pub fine : FineBut 1 r
+  pub fine : FineBut 1 1 r
   pub some-live : 0 < r .live
   pub made : r .made ≡ st .made
   pub same : SameLog st r
@@ -112,7 +112,7 @@ pub record Enters (n made : ℕ) (pair log log′ : List ℕ) (r : ℕ) : Type 0
   pub bytes : log′ ≡ patched (logged-width * n) (mark-of (slot pair 0) ++ number-bytes 2 made) log
   pub more : r ≡ n + 1
 
--- one entry more, of a pair that was settled or made a rule, and none put back since: `settle`
+-- `settle`, `enter_rule`: one entry more, of a pair that was settled or made a rule, and none put back since
 abbrev pub with-entry : RunState → Origin → ℕ → RunState
 with-entry s o n = record {
   rules = s .rules;
@@ -122,8 +122,8 @@ with-entry s o n = record {
   put-back = 0;
 }
 
-pub record Logs (st : State) (origin : List ℕ) (made units : ℕ) (r : State) : Type 0 where
-  pub fine : Fine r
+pub record Logs (st : State) (origin : List ℕ) (made : ℕ) (r : State) : Type 0 where
+  pub fine : (over : ℕ) → FineBut over 1 st → FineBut over 0 r
   pub entries : r .log .count ≡ st .log .count + 1
-  pub units-are : r .units ≡ units
+  pub units : r .units ≡ st .units
   pub represents : (tab : List ℕ) (s : RunState) (o : Origin) → Represents tab st s → origin ≡ origin-bytes o → Represents tab r (with-entry s o made)

@@ -5,7 +5,7 @@ ghost use lib.ListN.{length};
 ghost use Rattle.limits.specs.Limits.{most-equations, most-rules, most-entries};
 ghost use Rattle.orient.specs.Orients.{LowPair};
 ghost use Rattle.slots.specs.Slots.{slot-width, slot, mark-of, Layout, Removed, Inserted};
-ghost use Rattle.state.specs.Run.{logged-width, with-units, ended-as, Fine, FineBut};
+ghost use Rattle.state.specs.Run.{logged-width, with-units, ended-as, goes-on-as, Fine, FineBut};
 ghost use Rattle.state.specs.Sifting.{SiftedOne, Sifted};
 ghost use Rattle.state.specs.Steps.{Initial, Takes, Orients, PutsBack, Collapses, Enters, Logs};
 use orient::Way;
@@ -125,11 +125,11 @@ impl State {
         }
     }
 
-    // Step 4 of a pair with neither side above: it waits again, renamed, behind all others; an entry says so, and it is counted. So many units are left.
-    pub fn put_back(mut self, pair: &[u8], units: u32) -> State
+    // Step 4 of a pair with neither side above: it waits again, renamed, behind all others; an entry says so, and it is counted.
+    pub fn put_back(mut self, pair: &[u8]) -> State
         requires { ⌜ Fine self × (self .pairs .count ≤ most-rules) × (self .log .count < most-entries) ⌝ }
         requires { ⌜ Layout (now pair) 1 × LowPair (now pair) ⌝ }
-        ensures { λ r. ⌜ PutsBack (now (pair .entry)) self units r ⌝ }
+        ensures { λ r. ⌜ PutsBack (now (pair .entry)) self r ⌝ }
     {
         let one = orient::renamed(pair);
         let n = self.pairs.count;
@@ -140,13 +140,12 @@ impl State {
         let entries = enter(e, PUT_BACK, pair, &mut self.log.bytes);
         self.log.count = entries;
         self.back = self.back + 1;
-        self.units = units;
         self
     }
 
     // Step 6: the older rules that the newest one rewrites go to the waiting list.
     pub fn collapse(mut self, table: &[u8]) -> State
-        requires { ⌜ FineBut 1 self × (0 < self .live) ⌝ }
+        requires { ⌜ FineBut 1 1 self × (0 < self .live) ⌝ }
         ensures { λ r. ⌜ Collapses (now (table .entry)) self r ⌝ }
     {
         let n = self.pairs.count;
@@ -157,17 +156,39 @@ impl State {
         self
     }
 
-    // Step 3 of a pair with equal forms: an entry says so. So many units are left, and none was put back since.
-    pub fn settle(mut self, pair: &[u8], units: u32) -> State
-        requires { ⌜ Fine self × (self .log .count < most-entries) × Layout (now pair) 1 ⌝ }
-        ensures { λ r. ⌜ Logs self (mark-of (slot (now (pair .entry)) 0)) 0 units r ⌝ }
+    // Step 3 of a pair with equal forms: an entry says so, and none was put back since.
+    pub fn settle(mut self, pair: &[u8]) -> State
+        requires { ⌜ (self .log .count < most-entries) × Layout (now pair) 1 ⌝ }
+        ensures { λ r. ⌜ Logs self (mark-of (slot (now (pair .entry)) 0)) 0 r ⌝ }
     {
         let n = self.log.count;
         let entries = enter(n, SETTLED, pair, &mut self.log.bytes);
         self.log.count = entries;
         self.back = 0;
-        self.units = units;
         self
+    }
+
+    // The pair became the newest rule: an entry has its number, and none was put back since. One function for this and `settle` copies the state once more.
+    pub fn enter_rule(mut self, pair: &[u8]) -> State
+        requires { ⌜ FineBut 1 1 self × (self .log .count < most-entries) × Layout (now pair) 1 ⌝ }
+        ensures { λ r. ⌜ Logs self (mark-of (slot (now (pair .entry)) 0)) (self .made) r ⌝ }
+    {
+        let n = self.log.count;
+        let entries = enter(n, self.made as u16, pair, &mut self.log.bytes);
+        self.log.count = entries;
+        self.back = 0;
+        self
+    }
+
+    // The run goes on from here, with so many units left.
+    pub fn goes_on(mut self, units: u32) -> Turned
+        ensures { λ r. ⌜ r ≡ goes-on-as self units ⌝ }
+    {
+        self.units = units;
+        Turned {
+            state: self,
+            verdict: Verdict::GoesOn,
+        }
     }
 
     // The run ends in this turn, with so many units left.
@@ -227,7 +248,7 @@ fn sift_one(pairs: &mut [u8], i: usize, new: &[u8], count: usize, table: &[u8]) 
 }
 
 // The n-th entry: the origin of the pair in a slot, and the number of the rule made. How many entries there are then.
-pub fn enter(n: usize, made: u16, pair: &[u8], log: &mut [u8; LOG]) -> usize
+fn enter(n: usize, made: u16, pair: &[u8], log: &mut [u8; LOG]) -> usize
     requires { ⌜ (n < most-entries) × (logged-width * (n + 1) ≤ length (now log)) × Layout (now pair) 1 ⌝ }
     ensures { λ r. ⌜ Enters n made (now (pair .entry)) (now (log .entry)) (now (log .exit)) r ⌝ }
 {

@@ -1,6 +1,6 @@
 -- Steps 4 to 7 of a turn: by the outcome of each step, what the definition's `make-rule` comes to. Assumes nothing.
 -- Read first: specs/Turns (TurnedIs), state/specs/Steps (Orients, PutsBack, Collapses, Logs), completion/proofs/Turning (make-done, ..), proofs/Steady.
-use mathlib.Core.Path.{_≡_, refl, sym, ap, _∙_, subst}
+use mathlib.Core.Path.{_≡_, refl, sym, ap, subst}
 use mathlib.Core.List.{List, [], _∷_, _++_}
 use mathlib.Core.Option.{none}
 use Prim.Native.Nat.{ℕ, suc, _<_, _≤_}
@@ -24,10 +24,11 @@ use Rattle.compose.specs.declared.Composed.{Composed}
 use Rattle.compose.specs.Rights.{AllIs, All}
 use Rattle.state.specs.declared.State.{State}
 use Rattle.state.specs.declared.Turned.{Turned}
-use Rattle.state.specs.Run.{Represents, ended-as}
+use Rattle.state.specs.Run.{Represents, goes-on-as, ended-as}
 use Rattle.state.specs.Steps.{with-rule, NewRule, collapsed, Collapses, with-entry, Logs}
 use Rattle.turn.proofs.Holding.{rules-stored}
-use Rattle.turn.proofs.Steady.{with-slots, with-rules, slots-represent}
+use Rattle.state.proofs.Steady.{with-slots}
+use Rattle.turn.proofs.Steady.{with-rules, units-represent, slots-represent}
 
 -- what is made of a pair, without the state at a stop
 abbrev pub MadeIs : List ℕ → Turned → Paid RunState → Type 0
@@ -45,12 +46,13 @@ module _ (tab : List ℕ) (T : Theory) (s : RunState) (k : TakenPair) (units : �
 
   module _ (few : Few (k .pair .sides)) where
     -- neither side above the other
-    pub make-neither : {o : Turned} → orient T (k .pair .sides) ≡ none → o .verdict ≡ GoesOn → o .state .units ≡ units →
-        Represents tab (o .state) (waits-again s k) → MadeIs tab o made
-    make-neither {o} h v u R = subst (MadeIs tab o) (sym (make-waits-again T s k units few h)) (v, u, R)
+    pub make-neither : {back : State} → orient T (k .pair .sides) ≡ none → Represents tab back (waits-again s k) → MadeIs tab (goes-on-as back units) made
+    make-neither {back} h R =
+        subst (MadeIs tab (goes-on-as back units)) (sym (make-waits-again T s k units few h)) (refl, refl, units-represent units R)
 
-    -- the new rule behind the older ones that are kept
-    module _ (waits : s .waiting ≡ k .waiting) {placed next : State} (N : NewRule tab T s (k .pair .sides) placed) (C : Collapses tab placed next) where
+    -- the new rule behind the older ones that are kept, and its entry
+    module _ (waits : s .waiting ≡ k .waiting) {placed next : State} (N : NewRule tab T s (k .pair .sides) placed) (C : Collapses tab placed next)
+        {origin : List ℕ} (from : origin ≡ origin-bytes (k .pair .origin)) {entered : State} (L : Logs next origin (next .made) entered) where
       abbrev new : Rule
       new = new-rule s (N .sides)
 
@@ -60,22 +62,28 @@ module _ (tab : List ℕ) (T : Theory) (s : RunState) (k : TakenPair) (units : �
       abbrev with-new : RunState
       with-new = collapsed (with-rule s (N .sides)) (s .rules) new
 
-      stands : Represents tab next with-new
-      stands = C .represents (with-rule s (N .sides)) (s .rules) new refl (N .represents)
+      abbrev with-its-entry : RunState
+      with-its-entry = with-entry with-new (k .pair .origin) (suc (s .made))
 
-      live-is : next .live ≡ suc (length older)
+      stands : Represents tab entered with-its-entry
+      stands =
+          let h : Represents tab next with-new = C .represents (with-rule s (N .sides)) (s .rules) new refl (N .represents) in
+          subst (λ n. Represents tab entered (with-entry with-new (k .pair .origin) n)) (h .made) (L .represents tab with-new (k .pair .origin) h from)
+
+      live-is : entered .live ≡ suc (length older)
       live-is = omega (arith, stands .live, length-append older (new ∷ []))
 
-      pub make-full : (st : State) → most-rules < next .live → MadeIs tab (ended-as st RulesFull units) made
+      pub make-full : (st : State) → most-rules < entered .live → MadeIs tab (ended-as st RulesFull units) made
       unfolding ending
       make-full st full =
           subst (MadeIs tab (ended-as st RulesFull units))
           (sym (make-many-rules T s k units few (N .sides) (N .oriented) (omega (arith, live-is)))) (refl, refl)
 
-      module _ (live : next .live ≤ most-rules) {b : List ℕ} {c : Composed} (A : All tab (next .pairs .bytes) b (next .live) units c) where
+      module _ (live : entered .live ≤ most-rules) {b : List ℕ} {c : Composed} (A : All tab (entered .pairs .bytes) b (entered .live) units c) where
         composed : AllIs tab b (older ++ (new ∷ [])) c (normalise-rights [] older new units)
         composed =
-            A .answer older new (sym (stands .live)) (rules-stored tab (next .pairs .bytes) (older ++ (new ∷ [])) (with-new .waiting) (stands .pairs .holds))
+            A .answer older new (sym (stands .live))
+            (rules-stored tab (entered .pairs .bytes) (older ++ (new ∷ [])) (with-new .waiting) (stands .pairs .holds))
 
         -- a right side stopped
         pub make-rights-end : (st : State) {end : Ending} → c .verdict ≡ Ends end → MadeIs tab (ended-as st end (c .units)) made
@@ -90,19 +98,17 @@ module _ (tab : List ℕ) (T : Theory) (s : RunState) (k : TakenPair) (units : �
                 (ap Ends (same-end w (a .0)), a .1)
 
         -- all right sides were done
-        pub make-goes : {origin : List ℕ} {o : Turned} → c .verdict ≡ GoesOn → o .verdict ≡ GoesOn →
-            Logs (with-slots next b) origin (next .made) (c .units) (o .state) → origin ≡ origin-bytes (k .pair .origin) → MadeIs tab o made
-        make-goes {origin} {o} w v L from = go (normalise-rights [] older new units) refl composed
+        abbrev last : Turned
+        last = goes-on-as (with-slots entered b) (c .units)
+
+        pub make-goes : c .verdict ≡ GoesOn → MadeIs tab last made
+        make-goes w = go (normalise-rights [] older new units) refl composed
           where
-            go : (p : Paid (List Rule)) → normalise-rights [] older new units ≡ p → AllIs tab b (older ++ (new ∷ [])) c p → MadeIs tab o made
+            go : (p : Paid (List Rule)) → normalise-rights [] older new units ≡ p → AllIs tab b (older ++ (new ∷ [])) c p → MadeIs tab last made
             go (stop e left) q a = absurd (goes≢ends w (a .0))
             go (done rs left) q a =
-                let h : Represents tab (with-slots next b) (with-rules with-new rs) = slots-represent rs stands (A .only) (a .2) (a .3) in
-                let l : Represents tab (o .state) (with-entry (with-rules with-new rs) (k .pair .origin) (next .made)) =
-                L .represents tab _ (k .pair .origin) h from in
-                let m : Represents tab (o .state) (with-entry (with-rules with-new rs) (k .pair .origin) (suc (s .made))) =
-                subst (λ x. Represents tab (o .state) (with-entry (with-rules with-new rs) (k .pair .origin) x)) (stands .made) l in
-                let z : Represents tab (o .state) (next-state s k (N .sides) rs) =
-                subst (λ x. Represents tab (o .state) (next-state s (record { pair = k .pair; waiting = x }) (N .sides) rs)) waits m in
-                subst (MadeIs tab o) (sym (make-done T s k units few (N .sides) (N .oriented) (omega (arith, live-is)) rs left q))
-                (v, L .units-are ∙ a .1, z)
+                let h : Represents tab (last .state) (with-rules with-its-entry rs) =
+                units-represent (c .units) (slots-represent rs stands (A .only) (a .2) (a .3)) in
+                let z : Represents tab (last .state) (next-state s k (N .sides) rs) =
+                subst (λ x. Represents tab (last .state) (next-state s (record { pair = k .pair; waiting = x }) (N .sides) rs)) waits h in
+                subst (MadeIs tab last) (sym (make-done T s k units few (N .sides) (N .oriented) (omega (arith, live-is)) rs left q)) (refl, a .1, z)

@@ -31,10 +31,11 @@ use Rattle.state.specs.declared.State.{State}
 use Rattle.state.specs.declared.Log.{Log}
 use Rattle.state.specs.declared.Oriented.{Oriented}
 use Rattle.state.specs.declared.Turned.{Turned}
-use Rattle.state.specs.Run.{FineBut, Fine, Represents, ended-as}
+use Rattle.state.specs.Run.{FineBut, Fine, Represents, goes-on-as, ended-as}
 use Rattle.state.specs.Steps.{behind-first, without-oldest, with-entry, OrientsIs, Takes, Orients, PutsBack, Collapses, Logs}
-use Rattle.turn.specs.Turns.{going-as, ComposesFew, TurnSafe, TurnedIs}
-use Rattle.turn.proofs.Steady.{units-represent, with-slots, slots-fine, stop-safe, go-safe}
+use Rattle.turn.specs.Turns.{ComposesFew, TurnSafe, TurnedIs}
+use Rattle.state.proofs.Steady.{with-slots, units-fine, fine-but-one}
+use Rattle.turn.proofs.Steady.{units-represent, slots-fine, stop-safe, go-safe}
 use Rattle.turn.proofs.Making.{MadeIs, make-large, make-neither, make-full, make-rights-end, make-goes}
 
 -- steps 2 and 3, from a state that has begun its turn
@@ -50,18 +51,19 @@ same-count e = ap (λ (x : Log). x .count) e
 
 -- step 3: what `settle` requires
 pub settle-needs : {st tk : State} {pair : List ℕ} → Takes st tk → st .log .count < most-entries → Layout pair 1 →
-    Fine tk × (tk .log .count < most-entries) × Layout pair 1
-settle-needs K few y = (K .fine, omega (arith, same-count (K .same .log)), y)
+    (tk .log .count < most-entries) × Layout pair 1
+settle-needs K few y = (omega (arith, same-count (K .same .log)), y)
 
-pub settles : {st tk lg : State} {t : Taken} {o : Turned} → Takes st tk → Logs tk (mark-of (slot (t .pair) 0)) 0 (t .units) lg → o ≡ going-as lg →
+pub settles : {st tk lg : State} {t : Taken} {o : Turned} → Takes st tk → Logs tk (mark-of (slot (t .pair) 0)) 0 lg → o ≡ goes-on-as lg (t .units) →
     Settles st t o
 settles {st} {tk} {lg} {t} K L e =
     subst (Settles st t) (sym e)
     (record {
-      safe = λ l. go-safe refl (L .fine) (L .entries ∙ ap (λ n. n + 1) (same-count (K .same .log))) (omega (arith, L .units-are));
+      safe = λ l.
+          go-safe refl (units-fine (t .units) (L .fine 0 (fine-but-one (K .fine)))) (L .entries ∙ ap (λ n. n + 1) (same-count (K .same .log))) l;
       goes = refl;
-      units = L .units-are;
-      represents = λ tab s o R m. L .represents tab (without-oldest s) o (K .represents tab s R) m;
+      units = refl;
+      represents = λ tab s o R m. units-represent (t .units) (L .represents tab (without-oldest s) o (K .represents tab s R) m);
     })
 
 -- steps 4 to 7 of the pair that was taken
@@ -79,8 +81,9 @@ orient-room {st} {tk} F K = go (K .room)
     go (inl h) = let a = F .together in omega arith
     go (inr h) = let a = K .fine .live-few in omega arith
 
-pub compose-room : {tab : List ℕ} {st next : State} → Collapses tab st next → Layout (next .pairs .bytes) (next .live)
-compose-room C = layout-less (C .fine .within) (C .fine .layout)
+pub compose-room : {tab origin : List ℕ} {made : ℕ} {st next entered : State} → Collapses tab st next → Logs next origin made entered →
+    Layout (entered .pairs .bytes) (entered .live)
+compose-room C L = let F = L .fine 1 (C .fine) in layout-less (F .within) (F .layout)
 
 -- all right sides were done
 pub all-done : {tab pairs pairs′ : List ℕ} {live units : ℕ} {c : Composed} → ComposesFew tab live pairs pairs′ units c → c .verdict ≡ GoesOn →
@@ -156,47 +159,45 @@ module _ {tab pair : List ℕ} {first rest : State} {o : Oriented} (F : Fine fir
       (Fine rest × (rest .pairs .count ≤ most-rules) × (rest .log .count < most-entries)) × (Layout pair 1 × LowPair pair)
   put-back-needs v room y = ((K .fine, orient-room F K, omega (arith, same-count (K .same .log))), (y, O .low v))
 
-  pub makes-neither : {units : ℕ} {r : Turned} {back : State} → o .way ≡ Neither → PutsBack pair rest units back → r ≡ going-as back →
+  pub makes-neither : {units : ℕ} {r : Turned} {back : State} → o .way ≡ Neither → PutsBack pair rest back → r ≡ goes-on-as back units →
       Makes tab pair first units r
   makes-neither {units} {r} {back} v B e =
       subst (Makes tab pair first units) (sym e)
-      (makes-on units (going-as back) v refl (B .fine) (B .entries) (omega (arith, B .units-are)) (λ T s k R waits shown mark h.
-      make-neither tab T s k units (h .0) (h .1) refl (B .units-are) (B .represents tab s k R waits shown (h .0) mark)))
+      (makes-on units (goes-on-as back units) v refl (units-fine units (B .fine)) (B .entries) (omega arith) (λ T s k R waits shown mark h.
+      make-neither tab T s k units (h .0) (h .1) (B .represents tab s k R waits shown (h .0) mark)))
 
-  pub collapse-room : o .way ≡ Rule → FineBut 1 (o .state) × (0 < o .state .live)
+  pub collapse-room : o .way ≡ Rule → FineBut 1 1 (o .state) × (0 < o .state .live)
   collapse-room v = (O .fine v, omega (arith, O .live v))
 
   module _ {next : State} (C : Collapses tab (o .state) next) where
     log-same : next .log .count ≡ rest .log .count
     log-same = same-count (C .same .log) ∙ same-count (O .same .log)
 
-    pub make-logs : {b : List ℕ} {units : ℕ} {c : Composed} → All tab (next .pairs .bytes) b (next .live) units c → first .log .count < most-entries →
-        FineBut 1 (with-slots next b) × (next .log .count < most-entries)
-    make-logs A room = (slots-fine (C .fine) (A .only), omega (arith, log-same, same-count (K .same .log)))
+    pub enter-needs : first .log .count < most-entries → Layout pair 1 → FineBut 1 1 next × (next .log .count < most-entries) × Layout pair 1
+    enter-needs room y = (C .fine, omega (arith, log-same, same-count (K .same .log)), y)
 
-    module _ (v : o .way ≡ Rule) {units : ℕ} {r : Turned} {b : List ℕ} {c : Composed} (few : ComposesFew tab (next .live) (next .pairs .bytes) b units c) where
+    module _ (v : o .way ≡ Rule) {entered : State} (L : Logs next (mark-of (slot pair 0)) (next .made) entered) {units : ℕ} {r : Turned} {b : List ℕ}
+        {c : Composed} (few : ComposesFew tab (entered .live) (entered .pairs .bytes) b units c) where
       -- a 33rd live rule, or a right side stopped
       pub makes-ends : {end : Ending} → c .verdict ≡ Ends end → r ≡ ended-as first end (c .units) → Makes tab pair first units r
       makes-ends {end} w e = go few
         where
-          go : ComposesFew tab (next .live) (next .pairs .bytes) b units c → Makes tab pair first units r
+          go : ComposesFew tab (entered .live) (entered .pairs .bytes) b units c → Makes tab pair first units r
           go (inl f) =
               let u : c .units ≡ units = ap (λ (x : Composed). x .units) (f .1) in
               let x : end ≡ RulesFull = same-end w (ap (λ (x : Composed). x .verdict) (f .1)) in
               let q : r ≡ ended-as first RulesFull units = e ∙ ap₂ (λ a b. ended-as first a b) x u in
               makes-stop units r v q (omega arith) (λ T s k R waits shown mark h.
-              subst (λ x. MadeIs tab x (make-rule T s k units)) (sym q) (make-full tab T s k units (h .0) waits (h .1) C first (f .0)))
+              subst (λ x. MadeIs tab x (make-rule T s k units)) (sym q) (make-full tab T s k units (h .0) waits (h .1) C mark L first (f .0)))
           go (inr f) =
               makes-stop units r v e (f .1 .left-over) (λ T s k R waits shown mark h.
-              subst (λ x. MadeIs tab x (make-rule T s k units)) (sym e) (make-rights-end tab T s k units (h .0) waits (h .1) C (f .0) (f .1) first w))
+              subst (λ x. MadeIs tab x (make-rule T s k units)) (sym e)
+              (make-rights-end tab T s k units (h .0) waits (h .1) C mark L (f .0) (f .1) first w))
 
-      pub makes-goes : {made : ℕ} {lg : State} → c .verdict ≡ GoesOn → made ≡ next .made → Logs (with-slots next b) (mark-of (slot pair 0)) made (c .units) lg →
-          r ≡ going-as lg → Makes tab pair first units r
-      makes-goes {made} {lg} w m L′ e =
-          let L : Logs (with-slots next b) (mark-of (slot pair 0)) (next .made) (c .units) lg =
-          subst (λ n. Logs (with-slots next b) (mark-of (slot pair 0)) n (c .units) lg) m L′ in
+      pub makes-goes : c .verdict ≡ GoesOn → r ≡ goes-on-as (with-slots entered b) (c .units) → Makes tab pair first units r
+      makes-goes w e =
           let A = all-done few w in
-          let less = A .1 .left-over in
           subst (Makes tab pair first units) (sym e)
-          (makes-on units (going-as lg) v refl (L .fine) (omega (arith, L .entries, log-same)) (omega (arith, L .units-are)) (λ T s k R waits shown mark h.
-          make-goes tab T s k units (h .0) waits (h .1) C (A .0) (A .1) w refl L mark))
+          (makes-on units (goes-on-as (with-slots entered b) (c .units)) v refl (slots-fine (c .units) (L .fine 1 (C .fine)) (A .1 .only) (A .0))
+          (omega (arith, L .entries, log-same)) (A .1 .left-over) (λ T s k R waits shown mark h.
+          make-goes tab T s k units (h .0) waits (h .1) C mark L (A .0) (A .1) w))

@@ -1,10 +1,11 @@
 -- States that differ in their units or in the right sides of their rules; and what every answer of a turn has. Assumes nothing.
--- Read first: specs/Turns (TurnSafe), state/specs/Run (FineBut, Represents), proofs/Holding.
+-- Read first: specs/Turns (TurnSafe), state/specs/Run (FineBut, Represents), state/proofs/Steady, proofs/Holding.
 use mathlib.Core.Path.{_≡_, refl, sym, _∙_, subst}
 use mathlib.Core.List.{List, map}
 use Prim.Native.Nat.{ℕ, _+_, _≤_}
 use native.Mathlib.Omega.{arith}
 use lib.ListN.{length}
+use Rattle.limits.specs.Limits.{most-rules}
 use Rattle.rewriting.specs.Overlap.{Rule, sides-of}
 use Rattle.rewriting.specs.declared.End.{End as Ending}
 use Rattle.rewriting.specs.declared.Verdict.the-variants.{GoesOn}
@@ -17,45 +18,15 @@ use Rattle.state.specs.Run.{FineBut, Fine, Represents, with-units, ended-as}
 use Rattle.state.specs.declared.Turned.{Turned}
 use Rattle.turn.specs.Turns.{TurnSafe}
 use Rattle.state.proofs.Rows.{length-held}
+use Rattle.state.proofs.Steady.{with-slots, still-fine, units-fine}
 use Rattle.turn.proofs.Holding.{same-many, rights-held}
-
-pub units-fine : {b : ℕ} {st : State} (u : ℕ) → FineBut b st → FineBut b (with-units st u)
-units-fine u F =
-    record {
-      layout = F .layout;
-      within = F .within;
-      together = F .together;
-      live-few = F .live-few;
-      log-few = F .log-few;
-      made-few = F .made-few;
-      back-few = F .back-few;
-    }
 
 pub units-represent : {tab : List ℕ} {st : State} {s : RunState} (u : ℕ) → Represents tab st s → Represents tab (with-units st u) s
 units-represent u R = record { pairs = R .pairs; live = R .live; made = R .made; log = R .log; back = R .back }
 
--- the state with other bytes in its slots
-abbrev pub with-slots : State → List ℕ → State
-with-slots st b = record {
-  pairs = record { bytes = b; count = st .pairs .count };
-  live = st .live;
-  made = st .made;
-  log = st .log;
-  back = st .back;
-  units = st .units;
-}
-
-pub slots-fine : {k n : ℕ} {st : State} {b : List ℕ} → FineBut k st → RightsOnly 0 n (st .pairs .bytes) b → FineBut k (with-slots st b)
-slots-fine {st = st} F o =
-    record {
-      layout = o .layout (st .pairs .count) (F .layout);
-      within = F .within;
-      together = F .together;
-      live-few = F .live-few;
-      log-few = F .log-few;
-      made-few = F .made-few;
-      back-few = F .back-few;
-    }
+pub slots-fine : {over behind n : ℕ} {st : State} {b : List ℕ} (u : ℕ) → FineBut over behind st → RightsOnly 0 n (st .pairs .bytes) b →
+    st .live ≤ most-rules → FineBut 0 behind (with-units (with-slots st b) u)
+slots-fine {st = st} u F o few = still-fine F (o .layout (st .pairs .count) (F .layout)) (omega arith) (F .made-few)
 
 abbrev pub with-rules : RunState → List Rule → RunState
 with-rules s rs = record { rules = rs; made = s .made; waiting = s .waiting; log = s .log; put-back = s .put-back }

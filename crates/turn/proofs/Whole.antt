@@ -33,7 +33,8 @@ use Rattle.turn.specs.Turns.{Given, due-after, waiting-behind, PairsOf, 
 use Rattle.turn.proofs.Parts.{Settles, Makes}
 use Rattle.state.proofs.Rows.{length-held}
 use Rattle.turn.proofs.Entries.{Room, none-left, some-left, room}
-use Rattle.turn.proofs.Steady.{units-fine, units-represent, stop-safe, begun-safe}
+use Rattle.state.proofs.Steady.{units-fine}
+use Rattle.turn.proofs.Steady.{units-represent, stop-safe, begun-safe}
 
 -- Step 1 stopped
 look-stop : (e : End) (t : Taken) (waits : Bool) (n : ℕ) → LookStops e t waits → due-after (t .found) waits n ≡ Stop (ending e)

@@ -38,10 +38,6 @@ pub record Given (tab inputs : List ℕ) (count : ℕ) (T : Theory) : Type 0 whe
   pub stored : Stored tab inputs 0 (map (λ c. c .sides) (inputs-of (T .equations)))
   pub counted : count ≡ length (T .equations)
 
--- `going`
-abbrev pub going-as : State → Turned
-going-as st = record { state = st; verdict = GoesOn }
-
 -- `with_room`, `due_after`: steps 1 to 3, from what was found. "24 when a 513th log entry is due, at step 2 of the turn."
 unfoldable pub with-room : ℕ → Due → Due
 with-room entries due = if leb most-entries entries then Stop LogFull else due

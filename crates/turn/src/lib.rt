@@ -5,7 +5,7 @@ ghost use lib.ListN.{length};
 ghost use Rattle.limits.specs.Limits.{most-pairs, most-equations};
 ghost use Rattle.slots.specs.Slots.{Layout};
 ghost use Rattle.state.specs.Run.{Fine};
-ghost use Rattle.turn.specs.Turns.{going-as, with-room, due-after, waiting-behind, Looks, ComposesFew, Turns};
+ghost use Rattle.turn.specs.Turns.{with-room, due-after, waiting-behind, Looks, ComposesFew, Turns};
 use compose::Composed;
 use forms::Found;
 use forms::Taken;
@@ -16,15 +16,6 @@ use slots::ROOM;
 use slots::SLOT;
 use state::State;
 use state::Turned;
-
-fn going(next: State) -> Turned
-    ensures { λ r. ⌜ r ≡ going-as next ⌝ }
-{
-    Turned {
-        state: next,
-        verdict: Verdict::GoesOn,
-    }
-}
 
 // What is due once the forms are known.
 pub enum Due {
@@ -109,8 +100,9 @@ fn compose_few(live: usize, pairs: &mut [u8; ROOM], table: &[u8], units: u32) ->
     compose::compose(pairs, live, table, units)
 }
 
-// A turn, with the input equations. Its unit is paid first; a stop hands back the state as the turn began it. Each method is called here, where the
-// state is, each result has its own name, and a rule's entry is put in place: a function, or a result within an expression, copies the state once more.
+// A turn, with the input equations. Its unit is paid first; a stop hands back the state as the turn began it. So a rule's entry may come before step 7,
+// which is lent the slots: a method behind that copies the state twice more. A function, or a result within an expression, copies it as well: each
+// method is called here, where the state is, and what is handed on has its own name.
 pub fn turn(st: State, inputs: &[u8], count: usize, table: &[u8]) -> Turned
     requires { ⌜ Fine st × Layout (now inputs) count × (count ≤ most-equations) ⌝ }
     ensures { λ r. ⌜ Turns (now (table .entry)) (now (inputs .entry)) count st r ⌝ }
@@ -127,7 +119,7 @@ pub fn turn(st: State, inputs: &[u8], count: usize, table: &[u8]) -> Turned
         return st.ended(end, t.units);
     }
     if let Due::Settle = due {
-        return going(st.take().settle(&pair, t.units));
+        return st.take().settle(&pair).goes_on(t.units);
     }
     let rest = st.take();
     let o = rest.orient(&pair, table);
@@ -136,18 +128,15 @@ pub fn turn(st: State, inputs: &[u8], count: usize, table: &[u8]) -> Turned
         return st.ended(End::TooLarge, t.units);
     }
     if let Way::Neither = way {
-        return going(rest.put_back(&pair, t.units));
+        return rest.put_back(&pair).goes_on(t.units);
     }
     let collapsed = o.state.collapse(table);
-    let mut next = collapsed;
+    let entered = collapsed.enter_rule(&pair);
+    let mut next = entered;
     let c = compose_few(next.live, &mut next.pairs.bytes, table, t.units);
     let composed = c.verdict;
     if let Verdict::Ends(end) = composed {
         return st.ended(end, c.units);
     }
-    let entries = state::enter(next.log.count, next.made as u16, &pair, &mut next.log.bytes);
-    next.log.count = entries;
-    next.back = 0;
-    next.units = c.units;
-    going(next)
+    next.goes_on(c.units)
 }

@@ -1,12 +1,10 @@
--- `turn`: no unit left, or by what is due; a lemma for each return. Behind `compose_few` the state has other bytes in its slots, and behind `enter` one
--- entry more. Assumes nothing.
--- Read first: proofs/Whole, proofs/Parts, state/proofs/Logging.
-use mathlib.Core.Path.{_≡_, refl, ap, _∙_}
+-- `turn`: no unit left, or by what is due; a lemma for each return. Behind `compose_few` the state has other bytes in its slots. Assumes nothing.
+-- Read first: proofs/Whole, proofs/Parts.
+use mathlib.Core.Path.{_≡_, refl}
 use mathlib.Core.List.{[], _∷_}
-use native.Mathlib.Omega.{arith}
 use denote.Enum.Declared.{tagOf}
 use types.Run.{OneOf, miss}
-use Prim.Native.Nat.{_*_, _<_}
+use Prim.Native.Nat.{_<_}
 use lib.ListN.{length}
 use Rattle.limits.specs.Limits.{most-entries}
 use Rattle.slots.specs.Slots.{slot-width}
@@ -15,16 +13,13 @@ use Rattle.turn.specs.declared.Due.the-variants.{Stop, Settle, Make}
 use Rattle.orient.specs.declared.Way.{Way}
 use Rattle.orient.specs.declared.Way.the-variants.{Rule, Neither, TooLarge}
 use Rattle.orient.proofs.Way.{the-type as way-type}
-use Rattle.state.specs.declared.Log.{Log}
 use Rattle.state.specs.declared.Turned.{Turned}
-use Rattle.state.specs.Run.{logged-width, Fine}
-use Rattle.state.proofs.Logging.{log-done}
+use Rattle.state.specs.Run.{Fine}
 use Rattle.turn.specs.Turns.{Turns}
 use Rattle.turn.proofs.Due.{the-type}
 use Rattle.turn.proofs.Entries.{settle-room, make-room}
 use Rattle.turn.proofs.Parts.{settle-needs, settles, Makes, orient-room, makes-large, put-back-needs, makes-neither, collapse-room}
-use Rattle.turn.proofs.Parts.{compose-room, make-logs, makes-ends, all-done, makes-goes}
-use Rattle.turn.proofs.Steady.{with-slots}
+use Rattle.turn.proofs.Parts.{enter-needs, compose-room, makes-ends, makes-goes}
 use Rattle.turn.proofs.Whole.{turn-spent, look-room, began-fine, turn-ends, turn-settled, turn-made}
 use borrow.Author.Needs.{needs}
 use Rattle.turn.proofs.turn.Statement.{statement}
@@ -69,11 +64,11 @@ rest-of-orient at = search depth 0
 abbrev orient-of-collapse : tie.After-collapse → tie.After-orient
 orient-of-collapse at = search depth 0
 
-abbrev collapse-of-compose : tie.After-compose-few → tie.After-collapse
-collapse-of-compose at = search depth 0
+abbrev collapse-of-enter : tie.After-enter-rule → tie.After-collapse
+collapse-of-enter at = search depth 0
 
-abbrev compose-of-enter : tie.After-enter → tie.After-compose-few
-compose-of-enter at = search depth 0
+abbrev enter-of-compose : tie.After-compose-few → tie.After-enter-rule
+enter-of-compose at = search depth 0
 
 -- the state that began its turn is fine, and the slot that was looked for is whole
 begun-fine : (at : tie.After-look) → Fine (begin-of-look at .begin .result)
@@ -136,7 +131,7 @@ returns-3 c =
     let at-begin = begin-of-look at-look in
     turn-settled (entry-of-begin at-begin .pre .0) (else-of-begin at-begin .if1 .left) (at-begin .begin .ensures)
     (waits-of at-look .waiting-behind .ensures) (at-look .look .ensures)
-    (at-due .due-after .ensures) (at-told .enum-told .given .1) (settles (at-take .take .ensures) (at-settle .settle .ensures) (c .going .ensures))
+    (at-due .due-after .ensures) (at-told .enum-told .given .1) (settles (at-take .take .ensures) (at-settle .settle .ensures) (c .goes-on .ensures))
 
 -- steps 4 to 7: a rule is due
 take-requires-2 : tie.Need-take-requires-2
@@ -203,7 +198,7 @@ returns-5 c =
     let at-orient : tie.After-orient = search depth 0 in
     let at-rest = rest-of-orient at-orient in
     made at-rest (makes-neither (begun-fine (look-of-due (due-of-rest at-rest))) (at-rest .take2 .ensures) (at-orient .orient .ensures)
-    (at-told .enum-told3 .given .1) (at-put-back .put-back .ensures) (c .going2 .ensures))
+    (at-told .enum-told3 .given .1) (at-put-back .put-back .ensures) (c .goes-on2 .ensures))
 
 collapse-requires : tie.Need-collapse-requires
 collapse-requires c κs =
@@ -216,78 +211,52 @@ collapse-requires c κs =
 is-rule : (at : tie.After-collapse) → orient-of-collapse at .orient .result .way ≡ Rule
 is-rule at = to-rule _ (at .before .before .match3 .keys2) (at .before .match4 .keys2)
 
+slice-aggregate-enter-rule : tie.Need-slice-aggregate-enter-rule
+slice-aggregate-enter-rule c =
+    let at-collapse : tie.After-collapse = search depth 0 in
+    let n = pair-whole (look-of-due (due-of-rest (rest-of-orient (orient-of-collapse at-collapse)))) in
+    search needs
+
+enter-rule-requires : tie.Need-enter-rule-requires
+enter-rule-requires c κs =
+    let at-collapse : tie.After-collapse = search depth 0 in
+    let at-orient = orient-of-collapse at-collapse in
+    let at-rest = rest-of-orient at-orient in
+    let at-look = look-of-due (due-of-rest at-rest) in
+    enter-needs (begun-fine at-look) (at-rest .take2 .ensures) (at-orient .orient .ensures) (at-collapse .collapse .ensures) (log-room at-rest)
+    (at-look .look .ensures .layout)
+
 compose-few-requires : tie.Need-compose-few-requires
 compose-few-requires c κs =
-    let at-collapse : tie.After-collapse = search depth 0 in
-    compose-room (at-collapse .collapse .ensures)
+    let at-enter : tie.After-enter-rule = search depth 0 in
+    compose-room (collapse-of-enter at-enter .collapse .ensures) (at-enter .enter-rule .ensures)
 
 returns-6 : tie.Need-returns-6
 returns-6 c =
     let at-compose : tie.After-compose-few = search depth 0 in
-    let at-collapse = collapse-of-compose at-compose in
+    let at-enter = enter-of-compose at-compose in
+    let at-collapse = collapse-of-enter at-enter in
     let at-orient = orient-of-collapse at-collapse in
     let at-rest = rest-of-orient at-orient in
     made at-rest (makes-ends (begun-fine (look-of-due (due-of-rest at-rest))) (at-rest .take2 .ensures) (at-orient .orient .ensures)
-    (at-collapse .collapse .ensures) (is-rule at-collapse) (at-compose .compose-few .ensures) (c .before .before .composed .given .1) (c .ended4 .ensures))
+    (at-collapse .collapse .ensures) (is-rule at-collapse) (at-enter .enter-rule .ensures) (at-compose .compose-few .ensures)
+    (c .before .before .composed .given .1) (c .ended4 .ensures))
 
-slice-aggregate-enter : tie.Need-slice-aggregate-enter
-slice-aggregate-enter c =
-    let at-compose : tie.After-compose-few = search depth 0 in
-    let n = pair-whole (look-of-due (due-of-rest (rest-of-orient (orient-of-collapse (collapse-of-compose at-compose))))) in
-    search needs
-
--- the log's room
-first-long : (at : tie.Start) → length (at .args .st .log .bytes) ≡ logged-width * most-entries
-first-long at = search needs
-
-log-long : (at : tie.After-collapse) → length (at .collapse .result .log .bytes) ≡ logged-width * most-entries
-log-long at =
-    let at-orient = orient-of-collapse at in
-    let at-rest = rest-of-orient at-orient in
-    let at-begin = first-of at-rest in
-    ap (λ (l : Log). length (l .bytes))
-    (at .collapse .ensures .same .log
-    ∙ at-orient .orient .ensures .same .log
-    ∙ at-rest .take2 .ensures .same .log
-    ∙ ap (λ b. b .log) (at-begin .begin .ensures))
-    ∙ first-long (entry-of-begin at-begin)
-
--- all right sides were done, and the log has room
+-- all right sides were done
 abbrev compose-of-done : tie.After-enum-told4 → tie.After-compose-few
 compose-of-done at = search depth 0
 
-enter-requires : tie.Need-enter-requires
-enter-requires c κs =
-    let at-told : tie.After-enum-told4 = search depth 0 in
-    let at-compose = compose-of-done at-told in
-    let at-collapse = collapse-of-compose at-compose in
-    let at-orient = orient-of-collapse at-collapse in
-    let at-rest = rest-of-orient at-orient in
-    let at-look = look-of-due (due-of-rest at-rest) in
-    let A = all-done (at-compose .compose-few .ensures) (at-told .enum-told4 .given .1) in
-    let room = make-logs (begun-fine at-look) (at-rest .take2 .ensures) (at-orient .orient .ensures) (at-collapse .collapse .ensures) (A .1)
-    (log-room at-rest) .1 in
-    let long = log-long at-collapse in
-    (room, omega arith, at-look .look .ensures .layout)
-
 returns-7 : tie.Need-returns-7
 returns-7 c =
-    let at-enter : tie.After-enter = search depth 0 in
     let at-told : tie.After-enum-told4 = search depth 0 in
     let at-compose = compose-of-done at-told in
-    let at-collapse = collapse-of-compose at-compose in
+    let at-enter = enter-of-compose at-compose in
+    let at-collapse = collapse-of-enter at-enter in
     let at-orient = orient-of-collapse at-collapse in
     let at-rest = rest-of-orient at-orient in
-    let at-look = look-of-due (due-of-rest at-rest) in
-    let went = at-told .enum-told4 .given .1 in
-    let A = all-done (at-compose .compose-few .ensures) went in
-    let logs = make-logs (begun-fine at-look) (at-rest .take2 .ensures) (at-orient .orient .ensures) (at-collapse .collapse .ensures) (A .1)
-    (log-room at-rest) in
-    let long = log-long at-collapse in
-    made at-rest (makes-goes (begun-fine at-look) (at-rest .take2 .ensures) (at-orient .orient .ensures) (at-collapse .collapse .ensures)
-    (is-rule at-collapse) (at-compose .compose-few .ensures) went refl
-    (log-done (with-slots (at-collapse .collapse .result) _) _ _ _ (logs .0) (A .0) (logs .1) (omega arith) _ _ (at-enter .enter .ensures))
-    (c .going3 .ensures))
+    made at-rest (makes-goes (begun-fine (look-of-due (due-of-rest at-rest))) (at-rest .take2 .ensures) (at-orient .orient .ensures)
+    (at-collapse .collapse .ensures) (is-rule at-collapse) (at-enter .enter-rule .ensures) (at-compose .compose-few .ensures)
+    (at-told .enum-told4 .given .1) (c .goes-on3 .ensures))
 
 pub turn-spec : {M : Type 1} → statement M
 turn-spec =
@@ -296,5 +265,5 @@ turn-spec =
     (λ c κs. search needs)
     returns-2 (λ c. search needs) take-requires slice-aggregate-settle settle-requires (λ c κs. search needs) returns-3 take-requires-2
     slice-aggregate-orient orient-requires (λ c. search needs) (λ c κs. search needs) returns-4 (λ c. search needs) slice-aggregate-put-back
-    put-back-requires (λ c κs. search needs) returns-5 collapse-requires compose-few-requires (λ c. search needs) (λ c κs. search needs) returns-6
-    (λ c. search needs) (λ c. search needs) slice-aggregate-enter enter-requires (λ c κs. search needs) returns-7)
+    put-back-requires (λ c κs. search needs) returns-5 collapse-requires slice-aggregate-enter-rule enter-rule-requires compose-few-requires
+    (λ c. search needs) (λ c κs. search needs) returns-6 (λ c. search needs) (λ c κs. search needs) returns-7)

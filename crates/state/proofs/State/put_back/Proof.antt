@@ -58,7 +58,7 @@ returns c =
     let entry = entry-of-renamed at-renamed in
     let l = long entry in
     put-back-done _ _ _ _ (entry .pre .0 .0) (entry .pre .0 .1) (one-more entry) (at-renamed .renamed .ensures) (at-add-pair .add-pair .ensures)
-    _ (entry .pre .0 .2) (omega arith) _ _ (at-enter .enter .ensures)
+    (entry .pre .0 .2) (omega arith) _ _ (at-enter .enter .ensures)
 
 pub put-back-spec : {M : Type 1} → statement M
 put-back-spec =

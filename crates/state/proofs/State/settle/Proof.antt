@@ -6,7 +6,7 @@ use native.Mathlib.Omega.{arith}
 use lib.ListN.{length}
 use Rattle.limits.specs.Limits.{most-entries}
 use Rattle.state.specs.Run.{logged-width}
-use Rattle.state.proofs.Logging.{log-done, fine-but-one}
+use Rattle.state.proofs.Logging.{log-done}
 use borrow.Author.Needs.{needs}
 use Rattle.state.proofs.State.settle.Statement.{statement}
 use Rattle.state.proofs.State.settle.Tie as tie
@@ -19,16 +19,15 @@ enter-requires : tie.Need-enter-requires
 enter-requires c κs =
     let entry : tie.Start = search depth 0 in
     let l = long entry in
-    let n = entry .pre .1 in
-    (n, omega arith, entry .pre .2)
+    let n = entry .pre .0 in
+    (n, omega arith, entry .pre .1)
 
 returns : tie.Need-returns
 returns c =
     let at-enter : tie.After-enter = search depth 0 in
     let entry : tie.Start = search depth 0 in
     let l = long entry in
-    let few = entry .pre .0 .live-few in
-    log-done _ _ _ _ (fine-but-one (entry .pre .0)) (omega arith) (entry .pre .1) (omega arith) _ _ (at-enter .enter .ensures)
+    log-done _ _ _ (entry .pre .0) (omega arith) _ _ (at-enter .enter .ensures)
 
 pub settle-spec : {M : Type 1} → statement M
 settle-spec = tie.close (tie.spec enter-requires returns)
