@@ -16,7 +16,7 @@ use Rattle.reading.specs.Stops.{wrong-record}
 use Rattle.reading.proofs.Refusals.{is-refusal, Within, reads, refuses, within-bind, within-also, within-test, was-read, FieldWithin, Behind}
 use Rattle.problem.specs.Problem.{Reading, ok, refused, _>>=_, ReadField, Symbol, ReadPart}
 use Rattle.problem.proofs.Reading.{from-bind, ok-injective}
-use Rattle.problem.proofs.Refusals.{due-within}
+use Rattle.reading.proofs.Refusals.{due-within}
 use Rattle.record.specs.Fields.{or-refuse, one-field, fields-there, read-forms}
 use Rattle.record.specs.Record.{RuleAt, Record, read-end, read-units, read-rule-at, read-kind, nothing-behind, last-field, read-record}
 
