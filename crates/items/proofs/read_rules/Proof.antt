@@ -1,10 +1,11 @@
--- `read_rules`: the invariant is that the rules before i are read and their sides stand in the first slots; the bytes to come fall. Assumes nothing.
+-- `read_rules`: the invariant is that the rules before i are read and stand in the first slots; the bytes to come fall. Assumes nothing.
 -- Read first: specs/Readers (IsRules), proofs/Slotted (RulesSoFar).
 use mathlib.Core.Path.{_≡_, refl, _∙_}
 use lib.ListN.{length}
-use Prim.Native.Nat.{_-_}
+use Prim.Native.Nat.{_-_, _≤_}
 use native.Mathlib.Omega.{arith}
 use borrow.Author.Needs.{needs}
+use Rattle.limits.specs.Limits.{most-number}
 use Rattle.items.specs.Readers.{IsRule}
 use Rattle.items.specs.declared.RuleFound.the-variants.{At}
 use Rattle.items.proofs.Slotted.{RulesSoFar, rules-start, rules-full, rules-none, rules-other, rules-bad, rules-more}
@@ -41,38 +42,23 @@ found at =
 loop-holds : tie.Need-loop-holds Inv-loop μ-loop
 loop-holds c =
     let entry : tie.Start Inv-loop μ-loop = search depth 0 in
-    (refl, rules-start _ _ _ _ (entry .pre .1 .0 .0))
+    (refl, rules-start _ _ _ _ _ _ (entry .pre .1 .0 .0))
 
 -- the slots keep their length
-same-length : tie.Need-same-length Inv-loop μ-loop
-same-length c =
-    let at-loop : tie.At-loop Inv-loop μ-loop = search depth 0 in
-    at-loop .loop .inv .0
-
-same-length-2 : tie.Need-same-length-2 Inv-loop μ-loop
-same-length-2 c =
-    let at-loop : tie.At-loop Inv-loop μ-loop = search depth 0 in
-    at-loop .loop .inv .0
-
-same-length-3 : tie.Need-same-length-3 Inv-loop μ-loop
-same-length-3 c =
-    let at-loop : tie.At-loop Inv-loop μ-loop = search depth 0 in
-    at-loop .loop .inv .0
-
-same-length-4 : tie.Need-same-length-4 Inv-loop μ-loop
-same-length-4 c = c .before .loop .inv .0
+same : (at : tie.At-loop Inv-loop μ-loop) → length (at .loop .slots) ≡ length (entry-of-loop at .args .slots .now)
+same at = at .loop .inv .0
 
 returns : tie.Need-returns Inv-loop μ-loop
 returns c =
     let at-loop : tie.At-loop Inv-loop μ-loop = search depth 0 in
     let s = at-loop .loop .inv .1 in
-    rules-full _ _ _ _ _ _ _ s (omega (arith, s .slotted .few, c .if1 .taken))
+    rules-full _ _ _ _ _ _ _ _ _ s (omega (arith, s .slotted .few, c .if1 .taken))
 
 returns-2 : tie.Need-returns-2 Inv-loop μ-loop
 returns-2 c =
     let in-loop : tie.In-loop Inv-loop μ-loop = search depth 0 in
     let at-loop : tie.At-loop Inv-loop μ-loop = search depth 0 in
-    rules-other _ _ _ _ _ _ _ (at-loop .loop .inv .1) (in-loop .loop-test .taken) (c .if2 .taken)
+    rules-other _ _ _ _ _ _ _ _ _ (at-loop .loop .inv .1) (in-loop .loop-test .taken) (c .if2 .taken)
 
 returns-3 : tie.Need-returns-3 Inv-loop μ-loop
 returns-3 c =
@@ -81,42 +67,35 @@ returns-3 c =
     let in-else1 : tie.Else1 Inv-loop μ-loop = search depth 0 in
     let in-loop : tie.In-loop Inv-loop μ-loop = search depth 0 in
     let at-loop : tie.At-loop Inv-loop μ-loop = search depth 0 in
-    rules-bad _ _ _ _ _ _ _ (at-loop .loop .inv .1) (in-loop .loop-test .taken) (in-else1 .if1 .left) (in-else2 .if2 .left)
+    rules-bad _ _ _ _ _ _ _ _ _ (at-loop .loop .inv .1) (in-loop .loop-test .taken) (in-else1 .if1 .left) (in-else2 .if2 .left)
     (rw (c .enum-told .given .1) at (at-rule-field .rule-field .ensures))
 
+-- its number fits in two bytes
+small : (at : tie.After-number Inv-loop μ-loop) → at .number .given .0 .0 ≤ most-number
+small at = omega (arith, found at .1 .high, entry-of-loop (loop-of-number at) .pre .1 .0 .2)
+
+cast-numbered : tie.Need-cast-numbered Inv-loop μ-loop
+cast-numbered c = omega (arith, small (search depth 0))
+
 -- its left side stands from i + 5 to m, its right side from there to e
-add-start : tie.Need-add-start Inv-loop μ-loop
-add-start c =
+add-hold-pair : tie.Need-add-hold-pair Inv-loop μ-loop
+add-hold-pair c =
     let at-number : tie.After-number Inv-loop μ-loop = search depth 0 in
     let R = found at-number .1 in
     omega (arith, R .held .middle, R .held .ends, R .one .within, entry-of-loop (loop-of-number at-number) .pre .1 .0 .1)
 
-sub-put-sides : tie.Need-sub-put-sides Inv-loop μ-loop
-sub-put-sides c = let R = found (search depth 0) .1 in omega (arith, R .held .middle)
-
-part-put-sides-start : tie.Need-part-put-sides-start Inv-loop μ-loop
-part-put-sides-start c = let R = found (search depth 0) .1 in omega (arith, R .held .middle)
-
-part-put-sides-end : tie.Need-part-put-sides-end Inv-loop μ-loop
-part-put-sides-end c = let R = found (search depth 0) .1 in omega (arith, R .held .ends, R .one .within)
-
-sub-put-sides-2 : tie.Need-sub-put-sides-2 Inv-loop μ-loop
-sub-put-sides-2 c = let R = found (search depth 0) .1 in omega (arith, R .held .ends)
-
-part-put-sides-start-2 : tie.Need-part-put-sides-start-2 Inv-loop μ-loop
-part-put-sides-start-2 c = let R = found (search depth 0) .1 in omega (arith, R .held .ends)
-
-part-put-sides-end-2 : tie.Need-part-put-sides-end-2 Inv-loop μ-loop
-part-put-sides-end-2 c = found (search depth 0) .1 .one .within
-
-put-sides-requires : tie.Need-put-sides-requires Inv-loop μ-loop
-put-sides-requires c κs =
+hold-pair-requires : tie.Need-hold-pair-requires Inv-loop μ-loop
+hold-pair-requires c κs =
     let at-number : tie.After-number Inv-loop μ-loop = search depth 0 in
     let in-else1 : tie.Else1 Inv-loop μ-loop = search depth 0 in
     let at-loop = loop-of-number at-number in
     let s = at-loop .loop .inv in
-    let room = entry-of-loop at-loop .pre .1 .1 in
-    (omega (arith, room, s .0, s .1 .slotted .few, in-else1 .if1 .left), held-short _ _ _ _ _ _ (found at-number .1 .held))
+    let R = found at-number .1 in
+    let F = R .held in
+    let room = entry-of-loop at-loop .pre .1 .1 in (
+      (omega (arith, F .middle), omega (arith, F .middle, F .left-small), omega (arith, F .ends), omega (arith, F .ends, F .right-small), R .one .within),
+      (search needs, omega (arith, room, s .0, s .1 .slotted .few, in-else1 .if1 .left)),
+    )
 
 add-count : tie.Need-add-count Inv-loop μ-loop
 add-count c =
@@ -128,7 +107,8 @@ loop-less c = let R = found (search depth 0) .1 in omega (arith, R .one .low, R 
 
 loop-again : tie.Need-loop-again Inv-loop μ-loop
 loop-again c =
-    let at-put-sides : tie.After-put-sides Inv-loop μ-loop = search depth 0 in
+    let at-hold-pair : tie.After-hold-pair Inv-loop μ-loop = search depth 0 in
+    let at-numbered : tie.After-numbered Inv-loop μ-loop = search depth 0 in
     let at-number : tie.After-number Inv-loop μ-loop = search depth 0 in
     let in-else2 : tie.Else2 Inv-loop μ-loop = search depth 0 in
     let in-else1 : tie.Else1 Inv-loop μ-loop = search depth 0 in
@@ -136,18 +116,18 @@ loop-again c =
     let at-loop = loop-of-number at-number in
     let s = at-loop .loop .inv in
     let room = entry-of-loop at-loop .pre .1 .1 in
-    let P = at-put-sides .put-sides .ensures in (
-      P .only .same ∙ s .0,
-      rules-more _ _ _ _ _ _ _ (s .1) (in-loop .loop-test .taken) (in-else1 .if1 .left) (in-else2 .if2 .left) _ _ _ _ (found at-number .1) _ P
-          (omega (arith, room, s .0)),
+    let H = at-hold-pair .hold-pair .ensures in (
+      H .only .same ∙ s .0,
+      rules-more _ _ _ _ _ _ _ _ _ (s .1) (in-loop .loop-test .taken) (in-else1 .if1 .left) (in-else2 .if2 .left) _ _ _ _ (found at-number .1) _ _
+          (at-numbered .numbered .ensures) H (omega (arith, room, s .0)),
     )
 
 returns-4 : tie.Need-returns-4 Inv-loop μ-loop
-returns-4 c = rules-none _ _ _ _ _ _ _ (c .before .loop .inv .1) (c .loop-test .left)
+returns-4 c = rules-none _ _ _ _ _ _ _ _ _ (c .before .loop .inv .1) (c .loop-test .left)
 
 pub read-rules-spec : {M : Type 1} → statement M
 read-rules-spec =
     tie.close (tie.spec
-    Inv-loop μ-loop loop-holds same-length returns (λ c. search needs) same-length-2 returns-2 (λ c κs. search needs) (λ c. search needs)
-    same-length-3 returns-3 (λ c. search needs) add-start sub-put-sides part-put-sides-start part-put-sides-end sub-put-sides-2
-    part-put-sides-start-2 part-put-sides-end-2 put-sides-requires add-count loop-less loop-again same-length-4 returns-4)
+    Inv-loop μ-loop loop-holds (λ c. same (search depth 0)) returns (λ c. search needs) (λ c. same (search depth 0)) returns-2 (λ c κs. search needs)
+    (λ c. search needs) (λ c. same (search depth 0)) returns-3 (λ c. search needs) cast-numbered (λ c κs. search needs) add-hold-pair (λ c. search needs)
+    hold-pair-requires add-count loop-less loop-again (λ c. same (c .before)) returns-4)
