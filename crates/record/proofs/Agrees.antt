@@ -44,34 +44,6 @@ end-read f end e =
     one (b ∷ []) h = ap some (omega arith)
     one (b ∷ c ∷ l) h = absurd (omega arith)
 
--- a rule that was read behind one of a lower number
-pub record RuleRead (Σ : List Symbol) (before : ℕ) (r : Rule) : Type 0 where
-  pub low : before < r .number
-  pub high : r .number ≤ most-number
-  pub sides : PairKeeps Σ (r .sides)
-
--- two sides that were read, and the bytes that they are
-pair-read : (Σ : List Symbol) (at : ℕ) (bytes : List ℕ) (e : Pair) → renamed-pair Σ at bytes ≡ ok e → PairKeeps Σ e × PairFits Σ bytes e
-unfolding renamed-pair
-pair-read Σ at bytes e h =
-    from-bind _ _ e h λ d a h.
-    from-bind _ _ e h λ u g h.
-    let k : PairFits Σ bytes d = pair-fits Σ at bytes d a in
-    subst (λ (d : Pair). PairKeeps Σ d × PairFits Σ bytes d) (ok-injective h)
-    (pair-keeps Σ d (k .held) (k .over) (renamed-dec d .0 (demanded _ u g)), k)
-
-no-term : (t : Term) (l : List ℕ) → [] ≡ term-bytes t ++ l → ⊥
-no-term t l e = absurd (omega (arith, ap length e, length-append (term-bytes t) l, length-bytes t, size-pos t))
-
--- a field that is no rule's
-abbrev NoRule : Field → Type 0
-NoRule f = eqb (f .tag) 0x12 ≡ false
-
-none-rules : {A : Type 0} {tag : ℕ} {read : Option A → ReadField → Reading A} {before : Option A} {fs : List ReadField} {l : List A} → eqb tag 0x12 ≡ false →
-    ReadFrom tag read before fs l → Every NoRule (map plain fs)
-none-rules o none-from = of-none
-none-rules o (one-from t h k) = of-cons (ap (λ n. eqb n 0x12) t ∙ o) (none-rules o k)
-
 -- no byte is left
 no-fields : (at : ℕ) (bytes : List ℕ) (u : Unit {0}) → nothing-behind at bytes ≡ ok u → AreFields at bytes []
 unfolding nothing-behind fields-from
@@ -80,42 +52,6 @@ no-fields at [] u e (suc more) l = refl
 no-fields at (b ∷ bytes) u e more l = absurd (omega (arith, ltb-false 0 (length (b ∷ bytes)) (passed _ wrong-record at u e)))
 
 module _ (Σ : List Symbol) (few : length Σ ≤ 16) where
-  -- two bytes and a pair, as the promise reads a rule
-  same-rule : (bytes : List ℕ) (e : Pair) → PairFits Σ (drop 2 bytes) e → rule-of Σ bytes ≡ ok (record { number = number-from 0 (take 2 bytes); sides = e })
-  same-rule [] e k = absurd (no-term (e .left) _ (k .filled))
-  same-rule (a ∷ []) e k = absurd (no-term (e .left) _ (k .filled))
-  same-rule (a ∷ b ∷ bytes) e k =
-      two-terms Σ few (number-from 0 (a ∷ b ∷ [])) a b (e .left) (e .right) bytes (k .filled) refl (k .over .0) (k .over .1) (k .held .left .made)
-      (k .held .right .made)
-
-  rule-again : (before : ℕ) (f : ReadField) (r : Rule) → read-rule Σ before f ≡ ok r → RuleRead Σ before r × (rule-of Σ (f .contents) ≡ ok r)
-  unfolding read-rule
-  rule-again before f r e =
-      from-bind _ _ r e λ sides h e.
-      from-bind _ _ r e λ u g e.
-      let number : ℕ = number-from 0 (take 2 (f .contents)) in
-      let k = pair-read Σ (f .first + 5) (drop 2 (f .contents)) sides h in
-      let y = both-true (ltb before number) (leb number most-number) (demanded _ u g) in
-      let q : record { number = number; sides = sides } ≡ r = ok-injective e in
-      rw (← q) (
-        record { low = ltb-true before number (y .0); high = leb-true number most-number (y .1); sides = k .0 },
-        same-rule (f .contents) sides (k .1),
-      )
-
-  -- the rules in fields that were read as rules
-  rules-again : {before : Option RuleAt} {fs : List ReadField} {rules : List RuleAt} → ReadFrom 0x12 (read-rule-at Σ) before fs rules →
-      (gs : List Field) → rules-in Σ gs ≡ ok [] →
-      (rules-in Σ (map plain fs ++ gs) ≡ ok (rules-of rules)) × Every (λ r. RuleRead Σ 0 (r .rule)) rules
-  unfolding rules-in if_then_else_ _>>=_ read-rule-at
-  rules-again none-from gs e = (e, of-none)
-  rules-again (one-from {before = before} {f = f} {fs = fs} {a = a} {l = l} t h k) gs e =
-      from-bind _ _ a h λ r d h.
-      let q : record { first = f .first; rule = r } ≡ a = ok-injective h in
-      let x = rule-again (number-before before) f r d in
-      let y = rules-again k gs e in
-      let w : RuleRead Σ 0 r = record { low = omega (arith, x .0 .low); high = x .0 .high; sides = x .0 .sides } in
-      (rw t (rw (x .1) (rw (y .0) (rw (← q) refl))), of-cons (subst (λ (b : RuleAt). RuleRead Σ 0 (b .rule)) q w) (y .1))
-
   -- what stands behind the log: nothing, or the forms
   record LastRead (at : ℕ) (bytes : List ℕ) : Type 0 where
     fields : List Field

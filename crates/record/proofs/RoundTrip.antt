@@ -34,69 +34,6 @@ use Rattle.record.proofs.OneField.{demand-true}
 use Rattle.record.proofs.Slotted.{length-rules-at}
 use Rattle.record.proofs.Back.{placed, one-back, end-of, OtherTag, Backs, none-back, one-more, there-back, pair-back}
 
--- 10 and 11
-end-fits : (e : End) → (listed-end (end-number e) ≡ true) × (end-number e < 256)
-unfolding listed-end end-number member
-end-fits complete = (refl, omega arith)
-end-fits neither-above = (refl, omega arith)
-end-fits spent = (refl, omega arith)
-end-fits too-large = (refl, omega arith)
-end-fits rules-full = (refl, omega arith)
-end-fits log-full = (refl, omega arith)
-
-abbrev field-10 : End → Field
-field-10 e = record { tag = 0x10; contents = number-bytes 1 (end-number e) }
-
-abbrev field-11 : ℕ → Field
-field-11 n = record { tag = 0x11; contents = number-bytes 4 n }
-
-end-back : (e : End) (at : ℕ) (rest : List ℕ) → read-end (placed at (field-10 e) rest) ≡ ok (end-number e)
-unfolding read-end _>>=_
-end-back e at rest =
-    rw (number-back 1 (end-number e) (end-fits e .1))
-    (rw (eq-eqb (length (number-bytes 1 (end-number e))) 1 (length-number-bytes 1 (end-number e)), end-fits e .0) (rw (demand-true true refl) refl))
-
-units-back : (n at : ℕ) (rest : List ℕ) → n ≤ most-budget → read-units (placed at (field-11 n) rest) ≡ ok n
-unfolding read-units _>>=_
-units-back n at rest h =
-    rw (number-back 4 n (omega arith))
-    (rw (eq-eqb (length (number-bytes 4 n)) 4 (length-number-bytes 4 n), le-leb n most-budget h) (rw (demand-true true refl) refl))
-
--- 13
-unfoldable kind-of : Origin → ℕ
-kind-of (waiting-input n) = 1
-kind-of (removed-rule n) = 2
-kind-of (scanned-input n) = 3
-kind-of (overlapping i o p) = 4
-
-abbrev kinds-of : List Entry → List ℕ
-kinds-of log = map (λ (e : Entry). kind-of (e .origin)) log
-
-kind-first : (o : Origin) (l : List ℕ) → getD (origin-bytes o ++ l) 0 0 ≡ kind-of o
-unfolding kind-of origin-bytes
-kind-first (waiting-input n) l = refl
-kind-first (removed-rule n) l = refl
-kind-first (scanned-input n) l = refl
-kind-first (overlapping i o p) l = refl
-
-kind-known : (o : Origin) → (leb 1 (kind-of o) && leb (kind-of o) 4) ≡ true
-unfolding kind-of
-kind-known (waiting-input n) = refl
-kind-known (removed-rule n) = refl
-kind-known (scanned-input n) = refl
-kind-known (overlapping i o p) = refl
-
-kind-back : (e : Entry) (at : ℕ) (rest : List ℕ) → read-kind (placed at (entry-field e) rest) ≡ ok (kind-of (e .origin))
-unfolding read-kind entry-field _>>=_
-kind-back e at rest =
-    let eight : length (origin-bytes (e .origin) ++ number-bytes 2 (e .made)) ≡ 8 = unfold entry-field in entry-length e in
-    rw (eight, kind-first (e .origin) (number-bytes 2 (e .made))) (rw (kind-known (e .origin)) (rw (demand-true true refl) refl))
-
-kinds-back : (at : ℕ) (before : Option ℕ) (log : List Entry) → Backs 0x13 (λ _ f. read-kind f) at before (map entry-field log) (kinds-of log)
-unfolding entry-field
-kinds-back at before [] = none-back
-kinds-back at before (e ∷ log) = one-more {f = entry-field e} refl (omega (arith, entry-length e)) (kind-back e at) (kinds-back _ _ log)
-
 -- 14, or nothing
 abbrev from-forms : End → List Candidate → List ℕ
 from-forms e waiting = flat (forms-field e waiting)
@@ -121,30 +58,6 @@ log-tag [] e waiting = forms-tag 0x12 e waiting refl
 log-tag (d ∷ log) e waiting = refl
 
 module _ (Σ : List Symbol) (few : length Σ ≤ most-symbols) where
-  -- 12
-  rule-at-back : (before : Option RuleAt) (r : Rule) → RuleKeeps Σ (number-before before) r → (at : ℕ) (rest : List ℕ) →
-      read-rule-at Σ before (placed at (rule-field r) rest) ≡ ok (record { first = at; rule = r })
-  unfolding read-rule-at read-rule rule-field _>>=_
-  rule-at-back before r k at rest =
-      let two : length (number-bytes 2 (r .number)) ≡ 2 = length-number-bytes 2 (r .number) in
-      let high : r .number ≤ most-number = k .high in
-      rw (drop-at (number-bytes 2 (r .number)) (pair-bytes (r .sides)) 2 two)
-      (rw (pair-back Σ few (r .sides) (at + 5) (k .sides))
-      (rw (take-at (number-bytes 2 (r .number)) (pair-bytes (r .sides)) 2 two)
-      (rw (number-back 2 (r .number) (omega arith))
-      (rw (lt-ltb (number-before before) (r .number) (k .low), le-leb (r .number) most-number high) (rw (demand-true true refl) refl)))))
-
-  rules-at-back : (at : ℕ) (before : Option RuleAt) (rules : List Rule) → RulesKeep Σ (number-before before) rules →
-      Backs 0x12 (read-rule-at Σ) at before (map rule-field rules) (rules-at at rules)
-  unfolding rules-at rule-field number-before RulesKeep
-  rules-at-back at before [] h = none-back
-  rules-at-back at before (r ∷ rules) h =
-      let here : RuleAt = record { first = at; rule = r } in
-      let next : ℕ = at + 5 + size (r .sides .left) + size (r .sides .right) in
-      let place : next ≡ at + 3 + length (rule-field r .contents) = omega (arith, rule-length r) in
-      one-more {f = rule-field r} refl (omega (arith, rule-length r, h .0 .sides .left-small, h .0 .sides .right-small)) (rule-at-back before r (h .0) at)
-      (subst (λ n. Backs 0x12 (read-rule-at Σ) n (some here) (map rule-field rules) (rules-at next rules)) place (rules-at-back next (some here) rules (h .1)))
-
   last-none : (end at : ℕ) → eqb end 20 ≡ false → last-field Σ end at [] ≡ ok tt
   unfolding last-field nothing-behind if_then_else_ refuse-if
   last-none end at h = rw h refl
