@@ -10,3 +10,4 @@ pub mod Refusals
 pub mod Computes
 pub mod PairField
 pub mod Listing
+pub mod Meaning

@@ -1,35 +1,30 @@
 -- What is read of a record, whoever wrote it, is what the promise of complete reads of those bytes: the same end and the same rules. The rules are
 -- over the symbols, renamed, and keep the limits of document 01. Assumes nothing.
--- Read first: specs/Record, completion/specs/Promise, completion/specs/Keeps, proofs/Parts.
+-- Read first: specs/Record, completion/specs/Promise, completion/specs/Keeps, items/proofs/Parts, items/proofs/Again.
 use mathlib.Core.Path.{_≡_, refl, ap, subst, _∙_}
 use mathlib.Core.Bool.{Bool, true, false}
 use mathlib.Core.List.{List, [], _∷_, _++_, map}
-use mathlib.Core.Option.{Option, none, some}
-use Prim.Native.Nat.{ℕ, zero, suc, _+_, _≤_, _<_}
+use mathlib.Core.Option.{none, some}
+use Prim.Native.Nat.{ℕ, zero, suc, _≤_}
 use native.Mathlib.Omega.{arith}
-use lib.Dec.{eqb, ltb, leb}
-use lib.ListN.{length, take, drop, length-append}
-use borrow.Author.Tests.{eqb-true, ltb-true, ltb-false, leb-true}
+use lib.Dec.{eqb}
+use lib.ListN.{length}
+use borrow.Author.Tests.{eqb-true, ltb-false}
 use Rattle.limits.specs.Limits.{most-rules, most-entries, most-number}
-use Rattle.terms.specs.Base.{if_then_else_, number-from, Field, Every, of-none, of-cons}
-use Rattle.terms.specs.Term.{Term, Pair, term-bytes}
-use Rattle.terms.proofs.Bytes.{length-bytes}
+use Rattle.terms.specs.Base.{if_then_else_, number-from, Field, Every, of-none}
 use Rattle.terms.proofs.Every.{every-one, every-append}
-use Rattle.terms.proofs.Places.{size-pos}
 use Rattle.terms.proofs.Shape.{both-true}
 use Rattle.reading.specs.Stops.{wrong-record}
-use Rattle.problem.specs.Problem.{Reading, ok, _>>=_, ReadField, Symbol}
+use Rattle.problem.specs.Problem.{ok, ReadField, Symbol}
 use Rattle.problem.proofs.Reading.{from-bind, ok-injective, passed}
-use Rattle.rewriting.specs.Overlap.{Rule}
-use Rattle.completion.specs.Keeps.{PairKeeps}
-use Rattle.completion.specs.Promise.{fields-from, fields-of, one-byte, end-in, rule-of, rules-in}
-use Rattle.completion.proofs.Held.{pair-keeps}
-use Rattle.completion.proofs.Accepts.{PairFits, pair-fits}
-use Rattle.completion.proofs.ReadBack.{two-terms, no-rules}
-use Rattle.record.specs.Fields.{renamed-pair, read-rule, read-forms}
-use Rattle.record.specs.Record.{RuleAt, rules-of, Record, listed-end, read-end, read-units, number-before, read-rule-at, read-kind, nothing-behind}
+use Rattle.completion.specs.Promise.{fields-from, fields-of, one-byte, end-in, rules-in}
+use Rattle.completion.proofs.ReadBack.{no-rules}
+use Rattle.items.specs.Fields.{read-forms}
+use Rattle.items.specs.Fields.{rules-of, read-rule-at, read-kind}
+use Rattle.record.specs.Record.{Record, listed-end, read-end, read-units, nothing-behind}
 use Rattle.record.specs.Record.{last-field, read-record}
-use Rattle.record.proofs.Parts.{demanded, renamed-dec, plain, AreFields, OneRead, one-read, ReadFrom, none-from, one-from, ThereRead, there-read}
+use Rattle.items.proofs.Again.{RuleRead, NoRule, none-rules, rules-again}
+use Rattle.items.proofs.Parts.{demanded, plain, AreFields, OneRead, one-read, ThereRead, there-read}
 
 -- the end
 end-read : (f : ReadField) (end : ℕ) → read-end f ≡ ok end → one-byte (f .contents) ≡ some end
@@ -79,7 +74,7 @@ module _ (Σ : List Symbol) (few : length Σ ≤ 16) where
     pub are-fields : fields-of bytes ≡ ok fields
     pub end-is : end-in fields ≡ some (r .end)
     pub rules-are : rules-in Σ fields ≡ ok (rules-of (r .rules))
-    pub rules-read : Every (λ a. RuleRead Σ 0 (a .rule)) (r .rules)
+    pub rules-read : Every (λ a. RuleRead Σ false most-number 0 (a .rule)) (r .rules)
 
   pub agrees : (bytes : List ℕ) (r : Record) → read-record Σ bytes ≡ ok r → Agrees bytes r
   unfolding read-record fields-of end-in rules-in if_then_else_
@@ -92,12 +87,12 @@ module _ (Σ : List Symbol) (few : length Σ ≤ 16) where
       from-bind _ _ r e λ u k e.
       let E : OneRead 0x10 read-end 0 bytes end = one-read wrong-record 0x10 read-end 0 bytes end a in
       let U : OneRead 0x11 read-units (end .end) (end .rest) units = one-read wrong-record 0x11 read-units (end .end) (end .rest) units b in
-      let R : ThereRead 0x12 (read-rule-at Σ) none (units .end) (units .rest) rules =
-      there-read wrong-record 0x12 (read-rule-at Σ) most-rules none (units .end) (units .rest) rules c in
+      let R : ThereRead 0x12 (read-rule-at Σ false most-number) none (units .end) (units .rest) rules =
+      there-read wrong-record 0x12 (read-rule-at Σ false most-number) most-rules none (units .end) (units .rest) rules c in
       let L : ThereRead 0x13 (λ _ f. read-kind f) none (rules .end) (rules .rest) log =
       there-read wrong-record 0x13 (λ _ f. read-kind f) most-entries none (rules .end) (rules .rest) log d in
       let Z : LastRead (log .end) (log .rest) = last-read (end .part) (log .end) (log .rest) u k in
-      let T = rules-again (R .items) _ (no-rules Σ few _ (every-append (none-rules refl (L .items)) (Z .no-rule))) in
+      let T = rules-again Σ few false most-number (R .items) _ (no-rules Σ few _ (every-append (none-rules refl (L .items)) (Z .no-rule))) in
       subst (Agrees bytes) (ok-injective e)
       (record {
         fields = plain (E .field) ∷ plain (U .field) ∷ (map plain (R .fields) ++ (map plain (L .fields) ++ Z .fields));

@@ -1,24 +1,24 @@
 -- What a record's readers come to: refusal 13 at places of at most 16,384, and where the rules' fields begin. A caller's number is the caller's.
 -- Assumes nothing.
 -- Read first: reading/proofs/Refusals (Within, Behind), problem/proofs/Refusals, specs/Record.
-use mathlib.Core.Path.{_≡_, refl, ap, _∙_}
+use mathlib.Core.Path.{refl}
 use mathlib.Core.Bool.{Bool, true, false}
-use mathlib.Core.List.{List, [], _∷_}
-use mathlib.Core.Option.{Option, none, some}
-use Prim.Native.Nat.{ℕ, zero, suc, _+_, _≤_}
+use mathlib.Core.List.{List}
+use mathlib.Core.Option.{none}
+use Prim.Native.Nat.{ℕ, _+_, _≤_}
 use native.Mathlib.Omega.{arith}
 use lib.Dec.{eqb, ltb}
 use lib.ListN.{length}
 use borrow.Author.Tests.{ltb-false}
-use Rattle.limits.specs.Limits.{most-rules, most-entries, most-record}
-use Rattle.terms.specs.Base.{if_then_else_, Every, of-none, of-cons}
+use Rattle.limits.specs.Limits.{most-rules, most-number, most-entries, most-record}
+use Rattle.terms.specs.Base.{if_then_else_, Every}
 use Rattle.reading.specs.Stops.{wrong-record}
-use Rattle.reading.proofs.Refusals.{is-refusal, Within, reads, refuses, within-bind, within-also, within-test, was-read, FieldWithin, Behind}
-use Rattle.problem.specs.Problem.{Reading, ok, refused, _>>=_, ReadField, Symbol, ReadPart}
-use Rattle.problem.proofs.Reading.{from-bind, ok-injective}
-use Rattle.reading.proofs.Refusals.{due-within}
-use Rattle.record.specs.Fields.{or-refuse, one-field, fields-there, read-forms}
-use Rattle.record.specs.Record.{RuleAt, Record, read-end, read-units, read-rule-at, read-kind, nothing-behind, last-field, read-record}
+use Rattle.reading.proofs.Refusals.{Within, reads, within-bind, within-also, within-test, Behind}
+use Rattle.problem.specs.Problem.{Reading, _>>=_, ReadField, Symbol, ReadPart}
+use Rattle.items.specs.Fields.{one-field, read-forms}
+use Rattle.items.specs.Fields.{RuleAt, read-rule-at, read-kind}
+use Rattle.items.proofs.Refusals.{one-within, there-within, rule-first}
+use Rattle.record.specs.Record.{Record, read-end, read-units, nothing-behind, last-field, read-record}
 
 -- 13
 abbrev RecordWithin : {A : Type 0} → ℕ → (A → Type 0) → Reading A → Type 0
@@ -52,8 +52,8 @@ module _ (Σ : List Symbol) where
       let few : length bytes ≤ most-record = ltb-false most-record (length bytes) p in
       within-bind _ _ (one-there 0x10 read-end 0 bytes (omega arith)) λ end a.
       within-bind _ _ (one-there 0x11 read-units (end .end) (end .rest) (omega arith)) λ units b.
-      within-bind _ _ (there-within (λ (a : RuleAt). a .first ≤ most-record) wrong-record most-record wrong-record refl 0x12 (read-rule-at Σ)
-      rule-first most-rules none (units .end) (units .rest) (omega arith)) λ rules c.
+      within-bind _ _ (there-within (λ (a : RuleAt). a .first ≤ most-record) wrong-record most-record wrong-record refl 0x12 (read-rule-at Σ false most-number)
+      (rule-first Σ false most-number) most-rules none (units .end) (units .rest) (omega arith)) λ rules c.
       let after : Behind (units .end) (units .rest) rules = c .0 in
       within-bind _ _ (there-within (λ _. Unit {0}) wrong-record most-record wrong-record refl 0x13 (λ _ f. read-kind f) (λ _ _ _ _ _. tt) most-entries none
       (rules .end) (rules .rest) (omega arith)) λ log d.

@@ -1,38 +1,36 @@
 -- A result that keeps the limits is read back as what was written: its end, its units, and its rules with the places of their fields. So 13 is not
 -- given for it. Assumes nothing.
 -- Read first: specs/Record, specs/Reader (rules-at), completion/specs/Keeps, proofs/Back.
-use mathlib.Core.Path.{_≡_, refl, sym, ap, subst, _∙_}
-use mathlib.Core.Bool.{true, false, _&&_}
-use mathlib.Core.List.{List, [], _∷_, _++_, map, flatMap, append-assoc, append-nil}
-use mathlib.Core.Option.{Option, none, some}
-use Prim.Native.Nat.{ℕ, _+_, _≤_, _<_}
+use mathlib.Core.Path.{_≡_, refl, ap, _∙_}
+use mathlib.Core.Bool.{false}
+use mathlib.Core.List.{List, [], _∷_, _++_, map, flatMap, append-assoc}
+use mathlib.Core.Option.{none}
+use Prim.Native.Nat.{ℕ, _≤_}
 use native.Mathlib.Omega.{arith}
-use lib.Dec.{eqb, leb}
-use lib.ListN.{length, getD, length-map}
-use lib.Seq.{take-at, drop-at}
-use borrow.Author.Tests.{eq-eqb, lt-ltb, le-ltb, le-leb}
-use Rattle.limits.specs.Limits.{most-symbols, most-budget, most-rules, most-entries, most-number, most-record, two-byte-values}
-use Rattle.terms.specs.Base.{if_then_else_, number-bytes, member, Field, field-bytes}
-use Rattle.terms.specs.Term.{Pair, size}
+use lib.Dec.{eqb}
+use lib.ListN.{length, length-map}
+use borrow.Author.Tests.{le-ltb}
+use Rattle.limits.specs.Limits.{most-symbols, most-rules, most-entries, most-number, most-record}
+use Rattle.terms.specs.Base.{if_then_else_, number-bytes, field-bytes}
 use Rattle.terms.proofs.Lists.{flatMap-append}
 use Rattle.terms.proofs.Limits.{length-number-bytes}
-use Rattle.terms.proofs.Numerals.{number-back}
 use Rattle.reading.specs.Stops.{wrong-record}
 use Rattle.reading.proofs.Reading.{bind-ok}
 use Rattle.problem.specs.Problem.{ok, _>>=_, refuse-if, Symbol}
-use Rattle.rewriting.specs.Overlap.{Rule}
 use Rattle.rewriting.specs.Rewrite.{End, complete, neither-above, spent, too-large, rules-full, log-full, end-number}
-use Rattle.completion.specs.Turn.{Origin, waiting-input, removed-rule, scanned-input, overlapping, Candidate, Entry, Finished}
-use Rattle.completion.specs.Calls.{pair-bytes, rule-field, origin-bytes, entry-field, oldest-field, forms-field, result-fields, result-bytes}
-use Rattle.completion.specs.Keeps.{PairKeeps, RuleKeeps, RulesKeep, OldestKeeps, Keeps}
-use Rattle.completion.proofs.Widths.{flat, pair-bytes-length, rule-length, entry-length}
-use Rattle.record.specs.Fields.{one-field, fields-there, read-rule, read-forms}
-use Rattle.record.specs.Record.{RuleAt, listed-end, read-end, read-units, number-before, read-rule-at, read-kind, nothing-behind, last-field}
+use Rattle.completion.specs.Turn.{Candidate, Entry, Finished}
+use Rattle.completion.specs.Calls.{rule-field, entry-field, oldest-field, forms-field, result-fields, result-bytes}
+use Rattle.completion.specs.Keeps.{OldestKeeps, Keeps}
+use Rattle.completion.proofs.Widths.{flat}
+use Rattle.items.specs.Fields.{one-field, fields-there}
+use Rattle.items.specs.Fields.{number-before, read-rule-at, read-kind}
+use Rattle.record.specs.Record.{read-end, read-units, nothing-behind, last-field}
 use Rattle.record.specs.Record.{read-record}
-use Rattle.record.specs.Reader.{rules-at}
-use Rattle.record.proofs.OneField.{demand-true}
-use Rattle.record.proofs.Slotted.{length-rules-at}
-use Rattle.record.proofs.Back.{placed, one-back, end-of, OtherTag, Backs, none-back, one-more, there-back, pair-back}
+use Rattle.items.specs.Readers.{rules-at}
+use Rattle.items.proofs.RoundTrip.{rules-at-back, numbers-keep, forms-back, kind-of, kinds-of, kinds-back}
+use Rattle.record.proofs.EndUnits.{field-10, field-11, end-back, units-back}
+use Rattle.items.proofs.Slotted.{length-rules-at}
+use Rattle.items.proofs.Back.{one-back, end-of, OtherTag, there-back}
 
 -- 14, or nothing
 abbrev from-forms : End → List Candidate → List ℕ
@@ -62,20 +60,10 @@ module _ (Σ : List Symbol) (few : length Σ ≤ most-symbols) where
   unfolding last-field nothing-behind if_then_else_ refuse-if
   last-none end at h = rw h refl
 
-  last-forms : (e : Pair) (at : ℕ) → PairKeeps Σ e → last-field Σ 20 at (field-bytes (record { tag = 0x14; contents = pair-bytes e })) ≡ ok tt
-  unfolding last-field nothing-behind if_then_else_ _>>=_ refuse-if read-forms
-  last-forms e at k =
-      let f : Field = record { tag = 0x14; contents = pair-bytes e } in
-      let s : length (pair-bytes e) < two-byte-values = omega (arith, pair-bytes-length e, k .left-small, k .right-small) in
-      let b : one-field wrong-record 0x14 (read-forms Σ) at (field-bytes f) ≡ ok (record { part = e; end = at + 3 + length (pair-bytes e); rest = [] }) =
-      ap (one-field wrong-record 0x14 (read-forms Σ) at) (sym (append-nil (field-bytes f)))
-      ∙ one-back wrong-record (read-forms Σ) at f [] e s (pair-back Σ few e (at + 3) k) in
-      rw b refl
-
   last-oldest : (waiting : List Candidate) (at : ℕ) → OldestKeeps Σ waiting → last-field Σ 20 at (flat (oldest-field waiting)) ≡ ok tt
-  unfolding OldestKeeps oldest-field flatMap
+  unfolding OldestKeeps oldest-field flatMap last-field nothing-behind if_then_else_ _>>=_ refuse-if
   last-oldest [] at h = absurd h
-  last-oldest (c ∷ waiting) at h = ap (last-field Σ 20 at) (append-nil _) ∙ last-forms (c .sides) at h
+  last-oldest (c ∷ waiting) at h = rw (forms-back Σ few wrong-record (c .sides) at [] h) refl
 
   last-back : (e : End) (waiting : List Candidate) (at : ℕ) → (e ≡ neither-above → OldestKeeps Σ waiting) →
       last-field Σ (end-number e) at (from-forms e waiting) ≡ ok tt
@@ -120,11 +108,12 @@ module _ (Σ : List Symbol) (few : length Σ ≤ most-symbols) where
         one-back wrong-record read-units 4 (field-11 (f .units)) from-rules (f .units) (omega arith) (units-back (f .units) 4 from-rules (k .units-few))
         ∙ ap (λ n. ok (record { part = f .units; end = n; rest = from-rules })) (omega arith)
 
-    back-12 : fields-there wrong-record 0x12 (read-rule-at Σ) most-rules none 11 from-rules ≡ ok
+    back-12 : fields-there wrong-record 0x12 (read-rule-at Σ false most-number) most-rules none 11 from-rules ≡ ok
         (record { part = rules-at 11 (f .state .rules); end = end-of 11 (map rule-field (f .state .rules)); rest = from-log })
     unfolding number-before
     back-12 =
-        there-back wrong-record 0x12 (read-rule-at Σ) (rules-at-back 11 none (f .state .rules) (k .rules-keep)) most-rules
+        there-back wrong-record 0x12 (read-rule-at Σ false most-number)
+        (rules-at-back Σ few false most-number 11 none (f .state .rules) (k .rules-keep) (numbers-keep Σ 0 (f .state .rules) (k .rules-keep))) most-rules
         (omega (arith, length-rules-at 11 (f .state .rules), k .rules-few)) from-log (log-tag (f .state .log) (f .end) (f .state .waiting))
 
     back-13 : (at : ℕ) → fields-there wrong-record 0x13 (λ _ f. read-kind f) most-entries none at from-log ≡ ok

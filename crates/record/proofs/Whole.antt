@@ -2,23 +2,26 @@
 -- nothing.
 -- Read first: specs/Record (read-record), specs/Reader (read-behind, IsBehind, IsRecord).
 use mathlib.Core.Path.{_≡_, refl, _∙_}
+use mathlib.Core.Bool.{false}
 use mathlib.Core.List.{List}
-use mathlib.Core.Option.{none}
 use Prim.Native.Nat.{ℕ, _<_, _≤_}
 use native.Mathlib.Omega.{arith}
 use lib.ListN.{length, drop, length-drop}
 use borrow.Author.Tests.{lt-ltb, le-ltb, eq-eqb, ne-eqb}
+use Rattle.limits.specs.Limits.{most-rules, most-number, most-entries}
 use Rattle.terms.specs.Base.{if_then_else_}
 use Rattle.terms.specs.Term.{Pair}
 use Rattle.reading.specs.Answers.{symbols-of}
 use Rattle.reading.proofs.Reading.{bind-ok, bind-refused}
 use Rattle.problem.specs.Problem.{ok, refused, _>>=_, refuse-if}
 use Rattle.rewriting.specs.Overlap.{Rule}
-use Rattle.record.specs.Fields.{one-field, fields-there, read-forms}
-use Rattle.record.specs.Record.{read-end, read-units, read-rule-at, read-kind, nothing-behind, last-field, read-record}
-use Rattle.record.specs.Reader.{OneAt, OneBad, rules-at, RulesAre, EntriesAre, IsNothing, IsLast, read-behind, IsBehind, IsRecord}
-use Rattle.record.specs.declared.Outcome.{Outcome}
-use Rattle.record.specs.declared.Outcome.the-variants.{Value, Bad}
+use Rattle.items.specs.Fields.{one-field, read-forms}
+use Rattle.items.specs.Fields.{read-rule-at, read-kind}
+use Rattle.record.specs.Record.{read-end, read-units, nothing-behind, last-field, read-record}
+use Rattle.items.specs.Readers.{OneAt, OneBad, There, ThereBad, rules-at}
+use Rattle.record.specs.Reader.{IsNothing, IsLast, read-behind, IsBehind, IsRecord}
+use Rattle.items.specs.declared.Outcome.{Outcome}
+use Rattle.items.specs.declared.Outcome.the-variants.{Value, Bad}
 use Rattle.record.specs.declared.RecordFound.{RecordFound}
 use Rattle.record.specs.declared.RecordFound.the-variants.{Fine, Bad as BadRecord}
 
@@ -57,18 +60,18 @@ module _ (tab l : List ℕ) (end at : ℕ) where
 
 -- `read_behind`
 module _ (tab l : List ℕ) (end : ℕ) where
-  pub behind-rules-bad : (p : ℕ) → ((n : ℕ) → fields-there n 0x12 (read-rule-at (symbols-of tab)) 32 none 11 (drop 11 l) ≡ refused n p) →
+  pub behind-rules-bad : (p : ℕ) → ThereBad 0x12 (read-rule-at (symbols-of tab) false most-number) most-rules l 11 p →
       (units : ℕ) → read-behind (symbols-of tab) end units 11 (drop 11 l) ≡ refused 13 p
   unfolding read-behind
   behind-rules-bad p B units = bind-refused _ (B 13)
 
-  module _ (e : ℕ) (rules : List Rule) (R : RulesAre tab l 11 e rules) where
-    pub behind-entries-bad : (p : ℕ) → ((n : ℕ) → fields-there n 0x13 (λ _ f. read-kind f) 512 none e (drop e l) ≡ refused n p) →
+  module _ (e : ℕ) (rules : List Rule) (R : There 0x12 (read-rule-at (symbols-of tab) false most-number) most-rules l 11 e (rules-at 11 rules)) where
+    pub behind-entries-bad : (p : ℕ) → ThereBad 0x13 (λ _ f. read-kind f) most-entries l e p →
         (units : ℕ) → read-behind (symbols-of tab) end units 11 (drop 11 l) ≡ refused 13 p
     unfolding read-behind
     behind-entries-bad p B units = bind-ok _ (R .is 13) ∙ bind-refused _ (B 13)
 
-    module _ (f : ℕ) (kinds : List ℕ) (L : EntriesAre l e f kinds) where
+    module _ (f : ℕ) (kinds : List ℕ) (L : There 0x13 (λ _ f. read-kind f) most-entries l e f kinds) where
       pub behind-last-bad : (p : ℕ) → last-field (symbols-of tab) end f (drop f l) ≡ refused 13 p →
           (units : ℕ) → read-behind (symbols-of tab) end units 11 (drop 11 l) ≡ refused 13 p
       unfolding read-behind

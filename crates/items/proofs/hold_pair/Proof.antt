@@ -1,6 +1,5 @@
 -- `hold_pair`: the mark, then the sides, by `pair-held`. Assumes nothing.
 -- Read first: specs/Readers (HoldsPair), proofs/Slotted.
-use native.Mathlib.Omega.{arith}
 use borrow.Author.Needs.{needs}
 use Rattle.items.proofs.Slotted.{pair-held}
 use Rattle.items.proofs.hold_pair.Statement.{statement}

@@ -1,12 +1,12 @@
 -- `end_field`: the field that is due, and whether its byte is a listed end. Assumes nothing.
--- Read first: specs/Reader (IsEnd), proofs/OneField.
+-- Read first: specs/Reader (IsEnd), items/proofs/OneField, proofs/EndUnits.
 use mathlib.Core.Path.{sym, _∙_}
 use native.Mathlib.Omega.{arith}
 use borrow.Author.Needs.{needs}
-use Rattle.problem.specs.Parser.{IsDue}
-use Rattle.problem.specs.declared.Read.the-variants.{Value}
+use Rattle.reading.specs.Answers.{DueTo}
 use Rattle.record.specs.Record.{read-end}
-use Rattle.record.proofs.OneField.{one-ends, one-undue, one-read, one-unread, end-length, end-unlisted, end-listed}
+use Rattle.items.proofs.OneField.{not-due, one-ends, one-undue, one-read, one-unread}
+use Rattle.record.proofs.EndUnits.{end-length, end-unlisted, end-listed}
 use Rattle.record.proofs.end_field.Statement.{statement}
 use Rattle.record.proofs.end_field.Tie as tie
 
@@ -15,7 +15,7 @@ abbrev entry-of-e : tie.After-e → tie.Start
 entry-of-e at = search depth 0
 
 -- the field
-found : (at : tie.After-e) → IsDue 0x10 (entry-of-e at .args .kept .now) 0 (Value (at .e .given .0 .0))
+found : (at : tie.After-e) → DueTo 0x10 (entry-of-e at .args .kept .now) 0 (at .e .given .0 .0)
 found at =
     let at-due : tie.After-due = search depth 0 in
     rw (at .e .given .1) at (at-due .due .ensures)
@@ -44,11 +44,6 @@ returns-2 c =
 
 returns-3 : tie.Need-returns-3
 returns-3 c =
-    let at-due : tie.After-due = search depth 0 in
-    one-undue _ read-end _ _ _ _ (rw (c .enum-told .given .1) at (at-due .due .ensures))
-
-returns-4 : tie.Need-returns-4
-returns-4 c =
     let at-listed : tie.After-listed = search depth 0 in
     let at-wide : tie.After-wide = search depth 0 in
     let in-else1 : tie.Else1 = search depth 0 in
@@ -56,8 +51,13 @@ returns-4 c =
     one-unread _ read-end _ _ _ d
     (end-unlisted _ _ (d .1) (d .2) (in-else1 .if1 .left) _ (at-wide .wide .ensures .0) (sym (at-listed .listed .ensures) ∙ c .if2 .left))
 
+returns-4 : tie.Need-returns-4
+returns-4 c =
+    let at-due : tie.After-due = search depth 0 in
+    one-undue _ read-end _ _ (at-due .due .result) (at-due .due .ensures) (λ e z. not-due (rw z at (c .match .keys2)))
+
 pub end-field-spec : {M : Type 1} → statement M
 end-field-spec =
     tie.close (tie.spec
-    (λ c κs. search needs) (λ c. search needs) (λ c. search needs) returns shared-slice-read-wide (λ c κs. search needs) (λ c κs. search needs)
+    (λ c κs. search needs) (λ c. search needs) returns shared-slice-read-wide (λ c κs. search needs) (λ c κs. search needs)
     returns-2 returns-3 returns-4)

@@ -1,11 +1,11 @@
 -- `units_field`: the field that is due, and whether its number is within the budget's limit. Assumes nothing.
--- Read first: specs/Reader (IsUnits), proofs/OneField.
+-- Read first: specs/Reader (IsUnits), items/proofs/OneField, proofs/EndUnits.
 use native.Mathlib.Omega.{arith}
 use borrow.Author.Needs.{needs}
-use Rattle.problem.specs.Parser.{IsDue}
-use Rattle.problem.specs.declared.Read.the-variants.{Value}
+use Rattle.reading.specs.Answers.{DueTo}
 use Rattle.record.specs.Record.{read-units}
-use Rattle.record.proofs.OneField.{one-ends, one-undue, one-read, one-unread, units-length, units-large, units-fine}
+use Rattle.items.proofs.OneField.{not-due, one-ends, one-undue, one-read, one-unread}
+use Rattle.record.proofs.EndUnits.{units-length, units-large, units-fine}
 use Rattle.record.proofs.units_field.Statement.{statement}
 use Rattle.record.proofs.units_field.Tie as tie
 
@@ -14,7 +14,7 @@ abbrev entry-of-e : tie.After-e → tie.Start
 entry-of-e at = search depth 0
 
 -- the field
-found : (at : tie.After-e) → IsDue 0x11 (entry-of-e at .args .kept .now) (entry-of-e at .args .at) (Value (at .e .given .0 .0))
+found : (at : tie.After-e) → DueTo 0x11 (entry-of-e at .args .kept .now) (entry-of-e at .args .at) (at .e .given .0 .0)
 found at =
     let at-due : tie.After-due = search depth 0 in
     rw (at .e .given .1) at (at-due .due .ensures)
@@ -46,11 +46,6 @@ returns-2 c =
 
 returns-3 : tie.Need-returns-3
 returns-3 c =
-    let at-due : tie.After-due = search depth 0 in
-    one-undue _ read-units _ _ _ _ (rw (c .enum-told .given .1) at (at-due .due .ensures))
-
-returns-4 : tie.Need-returns-4
-returns-4 c =
     let at-number : tie.After-number = search depth 0 in
     let in-else1 : tie.Else1 = search depth 0 in
     let d = found (search depth 0) in
@@ -58,7 +53,12 @@ returns-4 c =
     one-ends (omega (arith, d .1))
     (one-read _ read-units _ _ _ d _ (units-fine _ _ _ (d .1) (d .2) f _ (at-number .number .ensures .0) (c .if2 .left)))
 
+returns-4 : tie.Need-returns-4
+returns-4 c =
+    let at-due : tie.After-due = search depth 0 in
+    one-undue _ read-units _ _ (at-due .due .result) (at-due .due .ensures) (λ e z. not-due (rw z at (c .match .keys2)))
+
 pub units-field-spec : {M : Type 1} → statement M
 units-field-spec =
     tie.close (tie.spec
-    (λ c κs. search needs) (λ c. search needs) (λ c. search needs) add-start sub-if1 returns number-requires returns-2 returns-3 returns-4)
+    (λ c κs. search needs) (λ c. search needs) add-start sub-if1 returns number-requires returns-2 returns-3 returns-4)
