@@ -17,7 +17,8 @@ use Rattle.orient.specs.declared.Way.the-variants.{Rule, Neither, TooLarge}
 use Rattle.orient.proofs.Way.{the-type as way-type}
 use Rattle.state.specs.declared.Log.{Log}
 use Rattle.state.specs.declared.Turned.{Turned}
-use Rattle.state.specs.Run.{logged-width, Fine}
+use Rattle.items.specs.Written.{logged-width}
+use Rattle.state.specs.Run.{Fine}
 use Rattle.state.proofs.Logging.{log-done}
 use Rattle.turn.specs.Turns.{Turns}
 use Rattle.turn.proofs.Due.{the-type}
