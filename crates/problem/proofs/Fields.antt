@@ -70,6 +70,6 @@ module _ (l : List ℕ) (at e : ℕ) (low : at + 3 ≤ e) (within : e ≤ length
     unfolding _>>=_ refuse-if
     budget-large k = budget-is ∙ rw (lt-ltb 1_000_000 n k) refl
 
-    pub budget-fine : n ≤ 1_000_000 → (budget-field (field-at 0x02 l at e) ≡ ok n) × (e ≡ at + 7)
+    pub budget-fine : n ≤ 1_000_000 → budget-field (field-at 0x02 l at e) ≡ ok n
     unfolding _>>=_ refuse-if
-    budget-fine k = (budget-is ∙ rw (le-ltb 1_000_000 n k) refl, omega arith)
+    budget-fine k = budget-is ∙ rw (le-ltb 1_000_000 n k) refl

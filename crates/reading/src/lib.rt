@@ -6,6 +6,7 @@ ghost use lib.ListN.{length, take, drop};
 ghost use Rattle.limits.specs.Limits.{most-symbols, byte-values, two-byte-values};
 ghost use Rattle.terms.specs.Base.{number-from};
 ghost use Rattle.reading.specs.Answers.{IsField, IsDue, IsRanked, IsSymbols, Table, IsTerm, IsSide, IsPair, next-after, IsRenamed};
+use limits::FIELD_HEAD;
 
 // The number of so many bytes, high byte first, at a place.
 pub fn number(t: &[u8], at: usize, width: usize) -> usize
@@ -35,17 +36,17 @@ pub fn field_at(t: &[u8], at: usize) -> Field
     ensures { λ r. ⌜ IsField (now (t .entry)) at r ⌝ }
 {
     let left = t.len() - at;
-    if left < 3 {
+    if left < FIELD_HEAD {
         return Field::Cut;
     }
     let n = number(t, at + 1, 2);
-    if left - 3 < n {
+    if left - FIELD_HEAD < n {
         return Field::Cut;
     }
     Field::At {
         tag: t[at],
-        start: at + 3,
-        end: at + 3 + n,
+        start: at + FIELD_HEAD,
+        end: at + FIELD_HEAD + n,
     }
 }
 
