@@ -2,7 +2,7 @@
 -- Read first: specs/Readers (rules-at, InSlots, RuleIs, HoldsPair), proofs/Walking (Walked), slots/proofs/Listing, slots/proofs/Layouts.
 use mathlib.Core.Path.{_≡_, refl, ap, sym, subst, _∙_}
 use mathlib.Core.Bool.{Bool}
-use mathlib.Core.List.{List, [], _∷_, _++_, map, map-append}
+use mathlib.Core.List.{List, [], _∷_, _++_, map, map-append, map-map}
 use mathlib.Core.Option.{Option, none, some}
 use Prim.Native.Nat.{ℕ, suc, _+_, _*_, _<_, _≤_}
 use native.Mathlib.Omega.{arith}
@@ -12,9 +12,9 @@ use Rattle.terms.specs.Term.{Pair, size}
 use Rattle.reading.specs.Answers.{symbols-of}
 use Rattle.reading.proofs.Reading.{bind-ok, bind-refused}
 use Rattle.problem.specs.Problem.{Reading, ok, _>>=_, ReadField}
-use Rattle.rewriting.specs.Overlap.{Rule}
-use Rattle.slots.specs.Slots.{slot-width, numbered-bytes, Sides, MarkedAt, Holds, PutMark, PutSides}
-use Rattle.slots.proofs.Listing.{all-none, holds-next}
+use Rattle.rewriting.specs.Overlap.{Rule, sides-of}
+use Rattle.slots.specs.Slots.{slot-width, numbered-bytes, Sides, Marked, MarkedAt, Stored, Holds, PutMark, PutSides}
+use Rattle.slots.proofs.Listing.{all-none, stored-of, holds-next}
 use Rattle.slots.proofs.Layouts.{layout-put, layout-more}
 use Rattle.items.specs.Fields.{one-field, read-rule, RuleAt, number-before, read-rule-at}
 use Rattle.items.specs.Written.{row}
@@ -42,6 +42,11 @@ held-at H s = record {
     sides = record { left-wf = s .left-wf; right-wf = s .right-wf; left-bytes = H .left-is ∙ s .left-bytes; right-bytes = H .right-is ∙ s .right-bytes };
   };
 }
+
+-- the sides of rules that stand in slots
+pub slots-store : {tab slots : List ℕ} {count : ℕ} {rules : List Rule} → InSlots tab slots count rules → Stored tab slots 0 (sides-of rules)
+slots-store {tab} {slots} {rules = rules} I =
+    subst (Stored tab slots 0) (map-map (λ (m : Marked). m .sides) row rules) (stored-of tab slots 0 (map row rules) (I .holds))
 
 -- the place behind a rule's field, and behind those of rules one behind the other
 abbrev pub behind-rule : ℕ → Rule → ℕ
