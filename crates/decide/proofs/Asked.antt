@@ -36,8 +36,8 @@ pub record Asked (problem kept : List ℕ) (q : Question) : Type 0 where
   pub rules-are : rules-in (q .symbols) fields ≡ ok (q .rules)
 
 -- rules that passed 15
-above-over : (Σ : List Symbol) (rules : List RuleAt) (u : Unit {0}) → all-above Σ rules ≡ ok u → Every (λ (r : RuleAt). RuleRead Σ false most-number 0 (r .rule)) rules →
-    Every (λ (r : RuleAt). OverRule Σ (r .rule .sides)) rules
+above-over : (Σ : List Symbol) (rules : List RuleAt) (u : Unit {0}) → all-above Σ rules ≡ ok u →
+    Every (λ (r : RuleAt). RuleRead Σ false most-number 0 (r .rule)) rules → Every (λ (r : RuleAt). OverRule Σ (r .rule .sides)) rules
 unfolding all-above
 above-over Σ [] u e of-none = of-none
 above-over Σ (r ∷ rules) u e (of-cons k h) =

@@ -61,8 +61,8 @@ no-term t l e = absurd (omega (arith, ap length e, length-append (term-bytes t) 
 abbrev pub NoRule : Field → Type 0
 NoRule f = eqb (f .tag) 0x12 ≡ false
 
-pub none-rules : {A : Type 0} {tag : ℕ} {read : Option A → ReadField → Reading A} {before : Option A} {fs : List ReadField} {l : List A} → eqb tag 0x12 ≡ false →
-    ReadFrom tag read before fs l → Every NoRule (map plain fs)
+pub none-rules : {A : Type 0} {tag : ℕ} {read : Option A → ReadField → Reading A} {before : Option A} {fs : List ReadField} {l : List A} →
+    eqb tag 0x12 ≡ false → ReadFrom tag read before fs l → Every NoRule (map plain fs)
 none-rules o none-from = of-none
 none-rules o (one-from t h k) = of-cons (ap (λ n. eqb n 0x12) t ∙ o) (none-rules o k)
 

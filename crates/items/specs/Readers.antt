@@ -5,9 +5,9 @@ use mathlib.Core.Path.{_≡_}
 use mathlib.Core.Bool.{Bool}
 use mathlib.Core.List.{List, [], _∷_, map}
 use mathlib.Core.Option.{Option, none}
-use Prim.Native.Nat.{ℕ, _+_, _-_, _≤_}
+use Prim.Native.Nat.{ℕ, _+_, _-_, _<_, _≤_}
 use lib.ListN.{length, take, drop}
-use Rattle.limits.specs.Limits.{most-nodes, most-variables, most-rules, most-entries}
+use Rattle.limits.specs.Limits.{two-byte-values, most-nodes, most-variables, most-rules, most-entries}
 use Rattle.terms.specs.Term.{Pair, size}
 use Rattle.reading.specs.Answers.{symbols-of, between}
 use Rattle.problem.specs.Problem.{Reading, ok, refused, ReadField}
@@ -77,7 +77,7 @@ AreRuleSides tab ordered l at end r = IsPairRead (rule-sides (symbols-of tab) or
 pub record RuleIs (tab : List ℕ) (ordered : Bool) (most : ℕ) (l : List ℕ) (at before number m e : ℕ) (p : Pair) : Type 0 where
   pub one : OneAt 0x12 (read-rule (symbols-of tab) ordered most before) l at (record { number = number; sides = p }) e
   pub held : SidesFill tab l (at + 5) e m p
-  pub high : number ≤ most
+  pub fits : number < two-byte-values
 
 abbrev pub IsRule : List ℕ → Bool → ℕ → List ℕ → ℕ → ℕ → RuleFound → Type 0
 IsRule tab ordered most l at before (At number m e) = (p : Pair) × RuleIs tab ordered most l at before number m e p

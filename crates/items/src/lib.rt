@@ -4,7 +4,7 @@ ghost use mathlib.Core.Path.{_≡_};
 ghost use mathlib.Core.List.{flatMap};
 ghost use Prim.Native.Nat.{_+_, _*_, _≤_};
 ghost use lib.ListN.{length};
-ghost use Rattle.limits.specs.Limits.{most-nodes, most-pair, most-rules, most-number, two-byte-values};
+ghost use Rattle.limits.specs.Limits.{most-nodes, most-pair, most-rules, two-byte-values};
 ghost use Rattle.limits.specs.Limits.{field-head, origin-width, rule-width, entry-width};
 ghost use Rattle.terms.specs.Base.{field-bytes};
 ghost use Rattle.fields.specs.Puts.{PutsSome};
@@ -188,7 +188,7 @@ pub fn read_rules(
     slots: &mut [u8],
 ) -> RulesFound
     requires { ⌜ Table (now table) ⌝ }
-    requires { ⌜ (at ≤ length (now kept)) × (length (now kept) ≤ two-byte-values) × (most ≤ most-number) ⌝ }
+    requires { ⌜ (at ≤ length (now kept)) × (length (now kept) ≤ two-byte-values) ⌝ }
     requires { ⌜ slot-width * most-rules ≤ length (now slots) ⌝ }
     ensures { λ r. ⌜ IsRules (now (table .entry)) ordered most (now (kept .entry)) at (now (slots .exit)) r ⌝ }
 {
@@ -203,9 +203,7 @@ pub fn read_rules(
             return RulesFound::Fine { count, end: i };
         }
         match rule_field(kept, table, i, before, most, ordered) {
-            RuleFound::Bad => {
-                return RulesFound::Bad(i);
-            }
+            RuleFound::Bad => return RulesFound::Bad(i),
             RuleFound::At {
                 number,
                 middle,

@@ -2,10 +2,9 @@
 -- Read first: specs/Readers (IsRules), proofs/Slotted (RulesSoFar).
 use mathlib.Core.Path.{_≡_, refl, _∙_}
 use lib.ListN.{length}
-use Prim.Native.Nat.{_-_, _≤_}
+use Prim.Native.Nat.{_-_}
 use native.Mathlib.Omega.{arith}
 use borrow.Author.Needs.{needs}
-use Rattle.limits.specs.Limits.{most-number}
 use Rattle.items.specs.Readers.{IsRule}
 use Rattle.items.specs.declared.RuleFound.the-variants.{At}
 use Rattle.items.proofs.Slotted.{RulesSoFar, rules-start, rules-full, rules-none, rules-other, rules-bad, rules-more}
@@ -32,7 +31,8 @@ Found at =
     let at-loop = loop-of-number at in
     let args = entry-of-loop at-loop .args in
     let told = at .number .given .0 in
-    IsRule (args .table .now) (args .ordered) (args .most) (args .kept .now) (at-loop .loop .i) (at-loop .loop .before) (At (told .0) (told .1 .0) (told .1 .1 .0))
+    IsRule (args .table .now) (args .ordered) (args .most) (args .kept .now) (at-loop .loop .i) (at-loop .loop .before)
+    (At (told .0) (told .1 .0) (told .1 .1 .0))
 
 found : (at : tie.After-number Inv-loop μ-loop) → Found at
 found at =
@@ -70,12 +70,8 @@ returns-3 c =
     rules-bad _ _ _ _ _ _ _ _ _ (at-loop .loop .inv .1) (in-loop .loop-test .taken) (in-else1 .if1 .left) (in-else2 .if2 .left)
     (rw (c .enum-told .given .1) at (at-rule-field .rule-field .ensures))
 
--- its number fits in two bytes
-small : (at : tie.After-number Inv-loop μ-loop) → at .number .given .0 .0 ≤ most-number
-small at = omega (arith, found at .1 .high, entry-of-loop (loop-of-number at) .pre .1 .0 .2)
-
 cast-numbered : tie.Need-cast-numbered Inv-loop μ-loop
-cast-numbered c = omega (arith, small (search depth 0))
+cast-numbered c = omega (arith, found (search depth 0) .1 .fits)
 
 -- its left side stands from i + 5 to m, its right side from there to e
 add-hold-pair : tie.Need-add-hold-pair Inv-loop μ-loop

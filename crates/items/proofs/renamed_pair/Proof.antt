@@ -12,7 +12,8 @@ returns c =
     let at-pair-at : tie.After-pair-at = search depth 0 in
     let entry : tie.Start = search depth 0 in
     let q = rw (at-middle .middle .given .1) at (at-pair-at .pair-at .ensures) in
-    (q .0, pair-renamed _ _ _ _ (entry .pre .0) _ _ (q .1) _ (at-is-renamed .is-renamed .ensures) (c .if1 .taken), pair-fills _ _ _ _ (entry .pre .0) _ _ (q .1))
+    let r = pair-renamed _ _ _ _ (entry .pre .0) _ _ (q .1) _ (at-is-renamed .is-renamed .ensures) (c .if1 .taken) in
+    (q .0, r, pair-fills _ _ _ _ (entry .pre .0) _ _ (q .1))
 
 returns-2 : tie.Need-returns-2
 returns-2 c =

@@ -86,7 +86,7 @@ returns-5 c =
     let d = found (search depth 0) in
     let h = rw (at-middle .middle .given .1) at (at-rule-sides .rule-sides .ensures) in
     let r = rule-fine _ _ _ _ _ _ _ (d .2) (in-else1 .if1 .left) _ (at-number .number .ensures .0) _ (h .1) (in-else2 .if2 .left) (c .if3 .left) in
-    (h .0, record { one = one-read _ (read-rule _ _ _ _) _ _ _ d _ r; held = h .2; high = c .if3 .left })
+    (h .0, record { one = one-read _ (read-rule _ _ _ _) _ _ _ d _ r; held = h .2; fits = at-number .number .ensures .1 })
 
 returns-6 : tie.Need-returns-6
 returns-6 c =

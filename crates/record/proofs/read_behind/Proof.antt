@@ -22,7 +22,8 @@ abbrev Found : tie.After-count → Type 0
 Found at =
     let at-read-rules = read-rules-of-count at in
     let args = entry-of-read-rules at-read-rules .args in
-    IsRules (args .table .now) false most-number (args .kept .now) 11 (at-read-rules .read-rules .last .1 .1 .1 .1 .1 .0) (Fine (at .count .given .0 .0) (at .count .given .0 .1 .0))
+    IsRules (args .table .now) false most-number (args .kept .now) 11 (at-read-rules .read-rules .last .1 .1 .1 .1 .1 .0)
+    (Fine (at .count .given .0 .0) (at .count .given .0 .1 .0))
 
 found : (at : tie.After-count) → Found at
 found at =
