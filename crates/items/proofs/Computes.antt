@@ -5,6 +5,6 @@ use Rattle.completion.proofs.Computes.{computes}
 use Rattle.items.specs.Fields
 
 unfoldable pub items-compute : Unit {0}
-unfolding computes Fields.or-refuse Fields.demand Fields.one-field Fields.fields-there Fields.is-renamed Fields.renamed-pair Fields.rule-sides
+unfolding computes Fields.or-refuse Fields.demand Fields.one-field Fields.read-number Fields.fields-there Fields.is-renamed Fields.renamed-pair Fields.rule-sides
     Fields.read-rule Fields.number-before Fields.read-rule-at Fields.read-kind Fields.read-forms
 items-compute = tt

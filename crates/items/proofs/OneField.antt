@@ -11,13 +11,15 @@ use lib.Seq.{getD-take, getD-drop}
 use lib.Dec.{leb}
 use borrow.Author.Tests.{le-leb, lt-leb, eq-eqb, ne-eqb}
 use types.Run.{OneOf, miss}
+use Rattle.terms.specs.Base.{number-from}
+use Rattle.terms.proofs.Lists.{take-drop}
 use Rattle.reading.proofs.Reading.{bind-ok, bind-refused}
 use Rattle.problem.specs.Problem.{Reading, ok, refused, _>>=_, refuse-if, ReadField, ReadPart, due}
 use Rattle.reading.specs.Answers.{field-at, DueTo, IsDue}
 use Rattle.reading.specs.declared.DueField.{DueField}
 use Rattle.reading.specs.declared.DueField.the-variants.{At, Cut, Other}
 use Rattle.reading.proofs.Fields.{contents-length, due-at}
-use Rattle.items.specs.Fields.{or-refuse, demand, one-field, read-kind}
+use Rattle.items.specs.Fields.{or-refuse, demand, one-field, read-number, read-kind}
 use Rattle.items.specs.Readers.{Unread, OneAt, OneBad}
 
 -- what is refused stays refused; what a field must keep is kept, or it is refused
@@ -76,32 +78,56 @@ module _ {A : Type 0} (tag : ℕ) (read : ReadField → Reading A) (l : List ℕ
     pub one-unread : Unread (read (field-at tag l at e)) → OneBad tag read l at at
     one-unread u n = one-is n ∙ or-refused n at _ (unread-bind (read (field-at tag l at e)) _ u)
 
--- A field that is read with its place is read as it is without.
-module _ {A B : Type 0} (n tag : ℕ) (read : ReadField → Reading A) (g : ℕ → A → B) (at : ℕ) where
-  abbrev with-place : ReadField → Reading B
-  with-place f = read f >>= λ a. ok (g (f .first) a)
-
-  abbrev put-place : ReadPart A → Reading (ReadPart B)
-  put-place p = ok (record { part = g at (p .part); end = p .end; rest = p .rest })
+-- A reader that does more with what another one read, and with the field's place.
+module _ {A B : Type 0} (tag : ℕ) (read : ReadField → Reading A) (g : ℕ → A → Reading B) (l : List ℕ) (at : ℕ) where
+  abbrev read-more : ReadField → Reading B
+  read-more f = read f >>= g (f .first)
 
   abbrev kept-of : {C : Type 0} → (ReadField → Reading C) → ReadField → Reading (ReadPart C)
   kept-of read f = read f >>= λ c. ok (record { part = c; end = f .end; rest = f .rest })
 
-  of-field : (f : ReadField) → f .first ≡ at → (r : Reading A) → read f ≡ r →
-      or-refuse n at (kept-of with-place f) ≡ (or-refuse n at (kept-of read f) >>= put-place)
-  unfolding or-refuse _>>=_
-  of-field f h (ok a) e = rw (e, h) refl
-  of-field f h (refused m p) e = rw e refl
+  abbrev with-more : ℕ → ReadPart A → Reading (ReadPart B)
+  with-more n p = or-refuse n at (g at (p .part) >>= λ b. ok (record { part = b; end = p .end; rest = p .rest }))
 
-  of-due : (d : Reading ReadField) → ((f : ReadField) → d ≡ ok f → f .first ≡ at) →
-      or-refuse n at (d >>= kept-of with-place) ≡ (or-refuse n at (d >>= kept-of read) >>= put-place)
+  of-field : (n : ℕ) (f : ReadField) → f .first ≡ at → (r : Reading A) → read f ≡ r →
+      or-refuse n at (kept-of read-more f) ≡ (or-refuse n at (kept-of read f) >>= with-more n)
   unfolding or-refuse _>>=_
-  of-due (refused m p) h = refl
-  of-due (ok f) h = of-field f (h f refl) (read f) refl
+  of-field n f h (ok a) e = rw (e, h) refl
+  of-field n f h (refused m p) e = rw e refl
 
-  pub one-placed : (l : List ℕ) → one-field n tag with-place at (drop at l) ≡ (one-field n tag read at (drop at l) >>= put-place)
+  of-due : (n : ℕ) (d : Reading ReadField) → ((f : ReadField) → d ≡ ok f → f .first ≡ at) →
+      or-refuse n at (d >>= kept-of read-more) ≡ (or-refuse n at (d >>= kept-of read) >>= with-more n)
+  unfolding or-refuse _>>=_
+  of-due n (refused m p) h = refl
+  of-due n (ok f) h = of-field n f (h f refl) (read f) refl
+
+  one-then : (n : ℕ) → one-field n tag read-more at (drop at l) ≡ (one-field n tag read at (drop at l) >>= with-more n)
   unfolding one-field field-at
-  one-placed l = of-due (due tag at (drop at l)) (λ f e. ap (λ (f : ReadField). f .first) (due-at tag l at f e .is))
+  one-then n = of-due n (due tag at (drop at l)) (λ f e. ap (λ (f : ReadField). f .first) (due-at tag l at f e .is))
+
+  pub more-bad : (p : ℕ) → OneBad tag read l at p → OneBad tag read-more l at p
+  more-bad p B n = one-then n ∙ bind-refused _ (B n)
+
+  module _ (a : A) (e : ℕ) (O : OneAt tag read l at a e) where
+    pub more-read : (b : B) → g at a ≡ ok b → OneAt tag read-more l at b e
+    unfolding or-refuse
+    more-read b h = record { is = λ n. one-then n ∙ bind-ok _ (O .is n) ∙ ap (or-refuse n at) (bind-ok _ h); low = O .low; within = O .within }
+
+    pub more-unread : Unread (g at a) → OneBad tag read-more l at at
+    more-unread u n = one-then n ∙ bind-ok _ (O .is n) ∙ or-refused n at _ (unread-bind (g at a) _ u)
+
+-- a number, in the field from `at` to e
+module _ (tag width : ℕ) (l : List ℕ) (at e : ℕ) (low : at + 3 ≤ e) (within : e ≤ length l) where
+  pub number-length : (e - (at + 3) ≡ width → ⊥) → Unread (read-number width (field-at tag l at e))
+  unfolding read-number
+  number-length h = demand-broken _ (rw (contents-length tag l at e within) (ne-eqb (e - (at + 3)) width h))
+
+  pub number-is : e - (at + 3) ≡ width → (n : ℕ) → n ≡ number-from 0 (take width (drop (at + 3) l)) → read-number width (field-at tag l at e) ≡ ok n
+  unfolding read-number field-at
+  number-is h n i =
+      let q : at + 3 + width ≡ e = omega arith in
+      let t : take width (drop (at + 3) l) ≡ drop (at + 3) (take e l) = take-drop (at + 3) width l ∙ rw q refl in
+      demand-kept _ (rw (contents-length tag l at e within) (eq-eqb (e - (at + 3)) width h)) ∙ ap ok (sym (i ∙ ap (number-from 0) t))
 
 -- the kind, in the field from `at` to e
 module _ (l : List ℕ) (at e : ℕ) (low : at + 3 ≤ e) (within : e ≤ length l) where

@@ -6,20 +6,19 @@ use mathlib.Core.List.{List, [], _∷_, _++_, map, map-append, map-map}
 use mathlib.Core.Option.{Option, none, some}
 use Prim.Native.Nat.{ℕ, suc, _+_, _*_, _<_, _≤_}
 use native.Mathlib.Omega.{arith}
-use lib.ListN.{length, drop, getD, length-append, length-map}
+use lib.ListN.{length, getD, length-append, length-map}
 use Rattle.limits.specs.Limits.{most-rules, most-variables}
 use Rattle.terms.specs.Term.{Pair, size}
 use Rattle.reading.specs.Answers.{symbols-of}
-use Rattle.reading.proofs.Reading.{bind-ok, bind-refused}
-use Rattle.problem.specs.Problem.{Reading, ok, _>>=_, ReadField}
+use Rattle.problem.specs.Problem.{Reading, ok, ReadField}
 use Rattle.rewriting.specs.Overlap.{Rule, sides-of}
 use Rattle.slots.specs.Slots.{slot-width, numbered-bytes, Sides, Marked, MarkedAt, Stored, Holds, PutMark, PutSides}
 use Rattle.slots.proofs.Listing.{all-none, stored-of, holds-next}
 use Rattle.slots.proofs.Layouts.{layout-put, layout-more}
-use Rattle.items.specs.Fields.{one-field, read-rule, RuleAt, number-before, read-rule-at}
+use Rattle.items.specs.Fields.{read-rule, RuleAt, number-before, read-rule-at}
 use Rattle.items.specs.Written.{row}
 use Rattle.items.specs.Readers.{part, OneAt, OneBad, There, ThereBad, RuleIs, HoldsPair, rules-at, InSlots}
-use Rattle.items.proofs.OneField.{one-placed}
+use Rattle.items.proofs.OneField.{more-bad, more-read}
 use Rattle.items.proofs.Walking.{Walked, walk-start, walk-full, walk-none, walk-other, walk-bad, walk-more}
 
 -- `hold_pair`
@@ -79,18 +78,9 @@ module _ (tab : List ℕ) (ordered : Bool) (top : ℕ) where
   abbrev pub read-at : Option RuleAt → ReadField → Reading RuleAt
   read-at before = read-rule-at (symbols-of tab) ordered top before
 
-  -- the rule's field, with its place
-  module _ (l : List ℕ) (at : ℕ) (before : Option RuleAt) where
-    rule-placed : (n : ℕ) → one-field n 0x12 (read-at before) at (drop at l) ≡ (one-field n 0x12 (read (number-before before)) at (drop at l) >>= λ p.
-        ok (record { part = record { first = at; rule = p .part }; end = p .end; rest = p .rest }))
-    unfolding read-rule-at
-    rule-placed n = one-placed n 0x12 (read (number-before before)) (λ first r. record { first = first; rule = r }) at l
-
-    rule-at-bad : OneBad 0x12 (read (number-before before)) l at at → OneBad 0x12 (read-at before) l at at
-    rule-at-bad B n = rule-placed n ∙ bind-refused _ (B n)
-
-    rule-at-one : (r : Rule) (e : ℕ) → OneAt 0x12 (read (number-before before)) l at r e → OneAt 0x12 (read-at before) l at (record { first = at; rule = r }) e
-    rule-at-one r e O = record { is = λ n. rule-placed n ∙ bind-ok _ (O .is n); low = O .low; within = O .within }
+  -- with its place
+  abbrev placed-rule : ℕ → Rule → Reading RuleAt
+  placed-rule first r = ok (record { first = first; rule = r })
 
   -- The rules whose fields stand from `at` to i are read, and stand in the first `count` slots. The next number is to be above that of the last.
   pub record RulesSoFar (l : List ℕ) (at : ℕ) (slots : List ℕ) (count before i : ℕ) : Type 0 where
@@ -140,8 +130,10 @@ module _ (tab : List ℕ) (ordered : Bool) (top : ℕ) where
           room-left e = f (sym counted ∙ e)
 
           pub rules-bad : OneBad 0x12 (read before) l i i → ThereBad 0x12 read-at most-rules l at i
+          unfolding read-rule-at
           rules-bad B =
-              walk-bad _ _ _ _ _ _ _ _ (s .walked) h room-left t i (rule-at-bad l i (s .last) (subst (λ z. OneBad 0x12 (read z) l i i) (sym (s .told)) B))
+              let b = subst (λ z. OneBad 0x12 (read z) l i i) (sym (s .told)) B in
+              walk-bad _ _ _ _ _ _ _ _ (s .walked) h room-left t i (more-bad 0x12 (read (number-before (s .last))) placed-rule l i i b)
 
           module _ (number m e : ℕ) (p : Pair) (R : RuleIs tab ordered top l i before number m e p) (mark slots′ : List ℕ)
               (q : mark ≡ numbered-bytes 2 number) (H : HoldsPair slots count mark (part l (i + 5) m) (part l m e) slots′)
@@ -153,12 +145,13 @@ module _ (tab : List ℕ) (ordered : Bool) (top : ℕ) where
             rules′ = s .rules ++ (rule ∷ [])
 
             walked-on : Walked 0x12 read-at most-rules l at (rules-at at rules′) (some (record { first = i; rule = rule })) e
-            unfolding rules-at
+            unfolding rules-at read-rule-at
             walked-on =
                 let o = subst (λ z. OneAt 0x12 (read z) l i rule e) (sym (s .told)) (R .one) in
                 let d : rules-at at rules′ ≡ rules-at at (s .rules) ++ (record { first = i; rule = rule } ∷ []) =
                 rules-at-append at (s .rules) (rule ∷ []) ∙ ap (λ z. rules-at at (s .rules) ++ rules-at z (rule ∷ [])) (s .place) in
-                rw d (walk-more _ _ _ _ _ _ _ _ (s .walked) h room-left t _ e (rule-at-one l i (s .last) rule e o))
+                rw d (walk-more _ _ _ _ _ _ _ _ (s .walked) h room-left t _ e
+                (more-read 0x12 (read (number-before (s .last))) placed-rule l i rule e o _ refl))
 
             put-on : InSlots tab slots′ (count + 1) rules′
             put-on =

@@ -30,6 +30,12 @@ one-field n tag read at bytes =
       a ← read f
       ok (record { part = a; end = f .end; rest = f .rest }))
 
+-- a number that fills its field, in so many bytes
+unfoldable pub read-number : ℕ → ReadField → Reading ℕ
+read-number width f = do
+  _ ← demand (eqb (length (f .contents)) width)
+  ok (number-from 0 (f .contents))
+
 -- The fields of this tag that stand at a place, at most so many; `read` is told what the field before it held. They end where another tag stands, or
 -- where one more would be too many: what is due behind them then refuses it. [18.5]
 unfoldable pub fields-there : {A : Type 0} → ℕ → ℕ → (Option A → ReadField → Reading A) → ℕ → Option A → ℕ → List ℕ → Reading (ReadPart (List A))

@@ -13,7 +13,7 @@ use Rattle.reading.specs.Answers.{symbols-of, between}
 use Rattle.problem.specs.Problem.{Reading, ok, refused, ReadField}
 use Rattle.rewriting.specs.Overlap.{Rule}
 use Rattle.slots.specs.Slots.{slot, mark-of, left-of, right-of, Short, OnlySlot, Sides, Holds, Layout}
-use Rattle.items.specs.Fields.{one-field, fields-there, renamed-pair, rule-sides, read-rule, RuleAt, read-rule-at, read-kind, read-forms}
+use Rattle.items.specs.Fields.{one-field, read-number, fields-there, renamed-pair, rule-sides, read-rule, RuleAt, read-rule-at, read-kind, read-forms}
 use Rattle.items.specs.Written.{row}
 use Rattle.items.specs.declared.Outcome.{Outcome}
 use Rattle.items.specs.declared.Outcome.the-variants.{Value, Bad}
@@ -42,6 +42,11 @@ pub record OneAt {A : Type 0} (tag : ℕ) (read : ReadField → Reading A) (l : 
 -- it is refused at p
 abbrev pub OneBad : {A : Type 0} → ℕ → (ReadField → Reading A) → List ℕ → ℕ → ℕ → Type 0
 OneBad tag read l at p = (n : ℕ) → one-field n tag read at (drop at l) ≡ refused n p
+
+-- `number_field`
+abbrev pub IsNumber : ℕ → ℕ → List ℕ → ℕ → Outcome → Type 0
+IsNumber tag width l at (Value n) = OneAt tag (read-number width) l at n (at + (3 + width))
+IsNumber tag width l at (Bad p) = OneBad tag (read-number width) l at p
 
 -- fields of one tag, at most so many, from `at` on: these were read, and they end at e
 pub record There {A : Type 0} (tag : ℕ) (read : Option A → ReadField → Reading A) (most : ℕ) (l : List ℕ) (at e : ℕ) (items : List A) : Type 0 where

@@ -1,5 +1,5 @@
-// The fields of rules, log entries and pairs of forms: of each its tag, its reader over a problem's symbols, and its writer. A field that is bad has its
-// first byte for a place; the refusal's number is the caller's.
+// The fields of rules, log entries and pairs of forms: of each its tag, its reader over a problem's symbols, and its writer; and numbers in fields of
+// their own, which `fields::put_number_field` writes. A field that is bad has its first byte for a place; the refusal's number is the caller's.
 ghost use mathlib.Core.Path.{_≡_};
 ghost use mathlib.Core.List.{flatMap};
 ghost use Prim.Native.Nat.{_+_, _*_, _≤_};
@@ -11,7 +11,7 @@ ghost use Rattle.fields.specs.Puts.{PutsSome};
 ghost use Rattle.reading.specs.Answers.{Table};
 ghost use Rattle.slots.specs.Slots.{slot-width, Layout};
 ghost use Rattle.items.specs.Written.{logged-width, each, pair-field, slot-field, logged-field};
-ghost use Rattle.items.specs.Readers.{part, IsPairFound, AreRuleSides, IsRule, HoldsPair, IsRules, IsEntry, IsEntries, IsForms};
+ghost use Rattle.items.specs.Readers.{part, IsNumber, IsPairFound, AreRuleSides, IsRule, HoldsPair, IsRules, IsEntry, IsEntries, IsForms};
 use limits::FIELD_HEAD;
 use slots::origins;
 
@@ -37,6 +37,23 @@ pub enum Outcome {
     Value(usize),
     // The first byte of a bad field, or the end where one is due.
     Bad(usize),
+}
+
+// A number that fills its field, in so many bytes.
+pub fn number_field(kept: &[u8], at: usize, tag: u8, width: usize) -> Outcome
+    requires { ⌜ width ≤ 4 ⌝ }
+    ensures { λ r. ⌜ IsNumber tag width (now (kept .entry)) at r ⌝ }
+{
+    match reading::due(kept, at, tag) {
+        reading::DueField::At(e) => {
+            let start = at + FIELD_HEAD;
+            if e - start != width {
+                return Outcome::Bad(at);
+            }
+            Outcome::Value(reading::number(kept, start, width))
+        }
+        _ => Outcome::Bad(at),
+    }
 }
 
 pub enum PairFound {

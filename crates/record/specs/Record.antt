@@ -10,7 +10,7 @@ use Rattle.limits.specs.Limits.{most-budget, most-rules, most-number, most-entr
 use Rattle.terms.specs.Base.{if_then_else_, number-from, member}
 use Rattle.reading.specs.Stops.{wrong-record}
 use Rattle.problem.specs.Problem.{Reading, ok, _>>=_, refuse-if, ReadField, Symbol}
-use Rattle.items.specs.Fields.{demand, one-field, fields-there, RuleAt, read-rule-at, read-kind, read-forms}
+use Rattle.items.specs.Fields.{demand, one-field, read-number, fields-there, RuleAt, read-rule-at, read-kind, read-forms}
 
 -- What is kept of a record that was read.
 pub record Record : Type 0 where
@@ -25,15 +25,15 @@ listed-end n = member n (0 ∷ 20 ∷ 21 ∷ 22 ∷ 23 ∷ 24 ∷ [])
 -- "tag 10, the end, one byte" [18.6]
 unfoldable pub read-end : ReadField → Reading ℕ
 read-end f = do
-  let end = number-from 0 (f .contents)
-  _ ← demand (eqb (length (f .contents)) 1 && listed-end end)
+  end ← read-number 1 f
+  _ ← demand (listed-end end)
   ok end
 
 -- "11, units, four bytes"; "units up to 1,000,000" [18.6]
 unfoldable pub read-units : ReadField → Reading ℕ
 read-units f = do
-  let units = number-from 0 (f .contents)
-  _ ← demand (eqb (length (f .contents)) 4 && leb units most-budget)
+  units ← read-number 4 f
+  _ ← demand (leb units most-budget)
   ok units
 
 -- a field behind the last one due is out of order [18.5]

@@ -42,18 +42,14 @@ fn listed(end: usize) -> bool
 fn end_field(kept: &[u8]) -> Outcome
     ensures { λ r. ⌜ IsEnd (now (kept .entry)) r ⌝ }
 {
-    match reading::due(kept, 0, items::END) {
-        reading::DueField::At(e) => {
-            if e != UNITS_AT {
-                return Outcome::Bad(0);
-            }
-            let end = terms::wide(kept[FIELD_HEAD]);
+    match items::number_field(kept, 0, items::END, 1) {
+        Outcome::Bad(place) => Outcome::Bad(place),
+        Outcome::Value(end) => {
             if listed(end) {
                 return Outcome::Value(end);
             }
             Outcome::Bad(0)
         }
-        _ => Outcome::Bad(0),
     }
 }
 
@@ -61,19 +57,14 @@ fn end_field(kept: &[u8]) -> Outcome
 fn units_field(kept: &[u8], at: usize) -> Outcome
     ensures { λ r. ⌜ IsUnits (now (kept .entry)) at r ⌝ }
 {
-    match reading::due(kept, at, items::UNITS) {
-        reading::DueField::At(e) => {
-            let start = at + FIELD_HEAD;
-            if e - start != 4 {
-                return Outcome::Bad(at);
-            }
-            let units = reading::number(kept, start, 4);
+    match items::number_field(kept, at, items::UNITS, 4) {
+        Outcome::Bad(place) => Outcome::Bad(place),
+        Outcome::Value(units) => {
             if units > limits::BUDGET {
                 return Outcome::Bad(at);
             }
             Outcome::Value(units)
         }
-        _ => Outcome::Bad(at),
     }
 }
 
