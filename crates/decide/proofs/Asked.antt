@@ -19,7 +19,7 @@ use Rattle.completion.proofs.Accepts.{SingleFits, single-fits}
 use Rattle.completion.proofs.Over.{OverPair}
 use Rattle.completion.proofs.OverRules.{above-brings, OverRule, OverRules}
 use Rattle.items.specs.Fields.{RuleAt}
-use Rattle.items.proofs.Again.{RuleRead}
+use Rattle.items.proofs.Parts.{RuleRead}
 use Rattle.record.proofs.Agrees.{Agrees, agrees}
 use Rattle.decide.specs.Decide.{all-above, Question, read-question}
 

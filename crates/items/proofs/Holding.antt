@@ -31,7 +31,7 @@ use Rattle.completion.proofs.Ranks.{ranks-are}
 use Rattle.items.specs.Fields.{demand, is-renamed, renamed-pair, rule-sides, read-rule, read-forms}
 use Rattle.items.specs.Readers.{Unread, part, SidesFill}
 use Rattle.items.proofs.Parts.{renamed-dec}
-use Rattle.items.proofs.OneField.{unread-is, unread-bind, demand-kept, demand-broken}
+use Rattle.items.proofs.OneField.{unread-is, unread-bind, unread-then, demand-kept, demand-broken}
 
 pub pair-refused : (Σ : List Symbol) (at : ℕ) (m : List ℕ) (n p : ℕ) → read-pair Σ at m ≡ refused n p → Unread (renamed-pair Σ at m)
 unfolding renamed-pair
@@ -149,18 +149,14 @@ module _ (tab : List ℕ) (ordered : Bool) (most : ℕ) (l : List ℕ) (at befor
     pub rule-unheld : Unread sides-read → Unread rule-read
     rule-unheld u = rw rule-is (unread-bind sides-read _ u)
 
-    module _ (p : Pair) (H : sides-read ≡ ok p) where
-      rule-then : rule-read ≡ (demand (ltb before n && leb n most) >>= λ _. ok (record { number = n; sides = p }))
-      rule-then = rule-is ∙ bind-ok _ H
+    pub rule-low : n ≤ before → Unread rule-read
+    rule-low k = rw rule-is (unread-then sides-read _ (λ p. demand-broken _ (rw (le-ltb before n k) refl)))
 
-      pub rule-low : n ≤ before → Unread rule-read
-      rule-low k = rw rule-then (demand-broken _ (rw (le-ltb before n k) refl))
+    pub rule-high : most < n → Unread rule-read
+    rule-high k = rw rule-is (unread-then sides-read _ (λ p. demand-broken _ (rw (lt-leb n most k) (and-false (ltb before n)))))
 
-      pub rule-high : most < n → Unread rule-read
-      rule-high k = rw rule-then (demand-broken _ (rw (lt-leb n most k) (and-false (ltb before n))))
-
-      pub rule-fine : before < n → n ≤ most → rule-read ≡ ok (record { number = n; sides = p })
-      rule-fine j k = rule-then ∙ demand-kept _ (rw (lt-ltb before n j, le-leb n most k) refl)
+    pub rule-fine : before < n → n ≤ most → (p : Pair) → sides-read ≡ ok p → rule-read ≡ ok (record { number = n; sides = p })
+    rule-fine j k p h = rule-is ∙ bind-ok _ h ∙ demand-kept _ (rw (lt-ltb before n j, le-leb n most k) refl)
 
 -- both sides fit in a slot
 module _ (tab l : List ℕ) (at end m : ℕ) (p : Pair) (F : SidesFill tab l at end m p) where

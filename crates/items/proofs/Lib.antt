@@ -4,10 +4,6 @@ pub mod Walking
 pub mod Holding
 pub mod Slotted
 pub mod Back
-pub mod RoundTrip
-pub mod Again
 pub mod Refusals
 pub mod Computes
-pub mod PairField
-pub mod Listing
-pub mod Meaning
+pub mod Writing

@@ -32,6 +32,11 @@ unfolding Unread _>>=_
 unread-bind (ok a) f u = absurd u
 unread-bind (refused n p) f u = tt
 
+pub unread-then : {A B : Type 0} (m : Reading A) (f : A → Reading B) → ((a : A) → Unread (f a)) → Unread (m >>= f)
+unfolding Unread _>>=_
+unread-then (ok a) f u = u a
+unread-then (refused n p) f u = tt
+
 or-refused : {A : Type 0} (n at : ℕ) (m : Reading A) → Unread m → or-refuse n at m ≡ refused n at
 unfolding Unread or-refuse
 or-refused n at (ok a) u = absurd u
@@ -128,6 +133,24 @@ module _ (tag width : ℕ) (l : List ℕ) (at e : ℕ) (low : at + 3 ≤ e) (wit
       let q : at + 3 + width ≡ e = omega arith in
       let t : take width (drop (at + 3) l) ≡ drop (at + 3) (take e l) = take-drop (at + 3) width l ∙ rw q refl in
       demand-kept _ (rw (contents-length tag l at e within) (eq-eqb (e - (at + 3)) width h)) ∙ ap ok (sym (i ∙ ap (number-from 0) t))
+
+-- such a number, tested
+module _ (tag width : ℕ) (test : ℕ → Bool) (l : List ℕ) (at : ℕ) where
+  abbrev tested : ℕ → ℕ → Reading ℕ
+  tested _ n = demand (test n) >>= λ _. ok n
+
+  abbrev tests : ReadField → Reading ℕ
+  tests f = read-number width f >>= λ n. tested 0 n
+
+  pub tested-bad : (p : ℕ) → OneBad tag (read-number width) l at p → OneBad tag tests l at p
+  tested-bad = more-bad tag (read-number width) tested l at
+
+  module _ (n e : ℕ) (O : OneAt tag (read-number width) l at n e) where
+    pub tested-fine : test n ≡ true → OneAt tag tests l at n e
+    tested-fine h = more-read tag (read-number width) tested l at n e O n (demand-kept _ h)
+
+    pub tested-broken : test n ≡ false → OneBad tag tests l at at
+    tested-broken h = more-unread tag (read-number width) tested l at n e O (demand-broken _ h)
 
 -- the kind, in the field from `at` to e
 module _ (l : List ℕ) (at e : ℕ) (low : at + 3 ≤ e) (within : e ≤ length l) where

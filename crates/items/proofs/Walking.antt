@@ -2,10 +2,12 @@
 -- come. Whatever the fields hold, and however they are read. Assumes nothing.
 -- Read first: specs/Fields (one-field, fields-there), specs/Readers (OneAt, OneBad, There, ThereBad).
 use mathlib.Core.Path.{_≡_, refl, ap, sym, _∙_}
+use mathlib.Core.Bool.{false}
 use mathlib.Core.List.{List, [], _∷_, _++_, append-assoc, append-nil}
 use mathlib.Core.Option.{Option, none, some}
 use Prim.Native.Nat.{ℕ, zero, suc, _-_, _<_, _≤_}
 use native.Mathlib.Omega.{arith}
+use lib.Dec.{eqb}
 use lib.ListN.{length, drop, getD, length-append, drop-of-length-le}
 use lib.Seq.{drop-cons}
 use borrow.Author.Tests.{eq-eqb, ne-eqb}
@@ -31,25 +33,25 @@ unfolding prepend _>>=_
 prepend-one done a (ok p) = ap (λ l. ok (record { part = l; end = p .end; rest = p .rest })) (sym (append-assoc done (a ∷ []) (p .part)))
 prepend-one done a (refused n p) = refl
 
--- at i no byte is left, another tag stands there, or a field of this tag does
+-- another tag, or no byte
+abbrev pub OtherTag : ℕ → List ℕ → Type 0
+OtherTag tag [] = Unit {0}
+OtherTag tag (b ∷ bytes) = eqb b tag ≡ false
+
 module _ {A : Type 0} (tag : ℕ) (read : Option A → ReadField → Reading A) where
-  none-at : (n more : ℕ) (before : Option A) (i : ℕ) → fields-there n tag read more before i [] ≡ ok (record { part = []; end = i; rest = [] })
-  unfolding fields-there
-  none-at n zero before i = refl
-  none-at n (suc more) before i = refl
-
-  other-at : (n more : ℕ) (before : Option A) (i b : ℕ) (m : List ℕ) → (b ≡ tag → ⊥) →
-      fields-there n tag read more before i (b ∷ m) ≡ ok (record { part = []; end = i; rest = b ∷ m })
+  pub none-there : (n more : ℕ) (before : Option A) (i : ℕ) (m : List ℕ) → OtherTag tag m →
+      fields-there n tag read more before i m ≡ ok (record { part = []; end = i; rest = m })
   unfolding fields-there if_then_else_
-  other-at n zero before i b m t = refl
-  other-at n (suc more) before i b m t = rw (ne-eqb b tag t) refl
+  none-there n zero before i m h = refl
+  none-there n (suc more) before i [] h = refl
+  none-there n (suc more) before i (b ∷ m) h = rw h refl
 
-  one-at : (n more : ℕ) (before : Option A) (i b : ℕ) (m : List ℕ) → b ≡ tag →
+  pub one-there : (n more : ℕ) (before : Option A) (i b : ℕ) (m : List ℕ) → b ≡ tag →
       fields-there n tag read (suc more) before i (b ∷ m) ≡ (one-field n tag (read before) i (b ∷ m) >>= λ a.
       fields-there n tag read more (some (a .part)) (a .end) (a .rest) >>= λ later.
       ok (record { part = a .part ∷ later .part; end = later .end; rest = later .rest }))
   unfolding fields-there if_then_else_
-  one-at n more before i b m t = rw (eq-eqb b tag t) refl
+  one-there n more before i b m t = rw (eq-eqb b tag t) refl
 
 -- The fields from `at` on, at most so many: these were read, the last of them is what the next one is told, and the next one stands at i.
 pub record Walked {A : Type 0} (tag : ℕ) (read : Option A → ReadField → Reading A) (most : ℕ) (l : List ℕ) (at : ℕ) (done : List A)
@@ -76,14 +78,14 @@ module _ {A : Type 0} (tag : ℕ) (read : Option A → ReadField → Reading A) 
     walk-full h = let z : most - length done ≡ 0 = omega arith in ended (λ n. rw z refl)
 
     pub walk-none : length l ≤ i → There tag read most l at i done
-    walk-none h = ended (λ n. rw (drop-of-length-le l h) (none-at tag read n (most - length done) before i))
+    walk-none h = ended (λ n. rw (drop-of-length-le l h) (none-there tag read n (most - length done) before i [] tt))
 
     module _ (h : i < length l) where
       first-is : drop i l ≡ getD l i 0 ∷ drop (suc i) l
       first-is = drop-cons l i 0 h
 
       pub walk-other : (getD l i 0 ≡ tag → ⊥) → There tag read most l at i done
-      walk-other t = ended (λ n. rw first-is (other-at tag read n (most - length done) before i (getD l i 0) (drop (suc i) l) t))
+      walk-other t = ended (λ n. rw first-is (none-there tag read n (most - length done) before i _ (ne-eqb (getD l i 0) tag t)))
 
       -- a field is there, and one more may come
       module _ (f : length done ≡ most → ⊥) (t : getD l i 0 ≡ tag) where
@@ -92,7 +94,7 @@ module _ {A : Type 0} (tag : ℕ) (read : Option A → ReadField → Reading A) 
             ok (record { part = a .part ∷ later .part; end = later .end; rest = later .rest }))
         one-is n =
             let z : most - length done ≡ suc (most - suc (length done)) = omega (arith, f, W .few) in
-            rw (z, first-is) (one-at tag read n (most - suc (length done)) before i (getD l i 0) (drop (suc i) l) t)
+            rw (z, first-is) (one-there tag read n (most - suc (length done)) before i (getD l i 0) (drop (suc i) l) t)
 
         pub walk-bad : (p : ℕ) → OneBad tag (read before) l i p → ThereBad tag read most l at p
         unfolding prepend

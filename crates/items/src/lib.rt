@@ -167,21 +167,19 @@ pub fn rule_field(
                 return RuleFound::Bad;
             }
             let number = reading::number(kept, at + FIELD_HEAD, 2);
+            if number <= before {
+                return RuleFound::Bad;
+            }
+            if number > most {
+                return RuleFound::Bad;
+            }
             match rule_sides(kept, table, start, end, ordered) {
                 PairFound::Bad => RuleFound::Bad,
-                PairFound::Filled(middle) => {
-                    if number <= before {
-                        return RuleFound::Bad;
-                    }
-                    if number > most {
-                        return RuleFound::Bad;
-                    }
-                    RuleFound::At {
-                        number,
-                        middle,
-                        end,
-                    }
-                }
+                PairFound::Filled(middle) => RuleFound::At {
+                    number,
+                    middle,
+                    end,
+                },
             }
         }
         _ => RuleFound::Bad,

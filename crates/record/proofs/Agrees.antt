@@ -1,6 +1,6 @@
 -- What is read of a record, whoever wrote it, is what the promise of complete reads of those bytes: the same end and the same rules. The rules are
 -- over the symbols, renamed, and keep the limits of document 01. Assumes nothing.
--- Read first: specs/Record, completion/specs/Promise, completion/specs/Keeps, items/proofs/Parts, items/proofs/Again.
+-- Read first: specs/Record, completion/specs/Promise, completion/specs/Keeps, items/proofs/Parts.
 use mathlib.Core.Path.{_≡_, refl, ap, subst, _∙_}
 use mathlib.Core.Bool.{Bool, true, false}
 use mathlib.Core.List.{List, [], _∷_, _++_, map}
@@ -13,26 +13,23 @@ use borrow.Author.Tests.{eqb-true, ltb-false}
 use Rattle.limits.specs.Limits.{most-rules, most-entries, most-number}
 use Rattle.terms.specs.Base.{if_then_else_, number-from, Field, Every, of-none}
 use Rattle.terms.proofs.Every.{every-one, every-append}
-use Rattle.terms.proofs.Shape.{both-true}
 use Rattle.reading.specs.Stops.{wrong-record}
 use Rattle.problem.specs.Problem.{ok, ReadField, Symbol}
 use Rattle.problem.proofs.Reading.{from-bind, ok-injective, passed}
 use Rattle.completion.specs.Promise.{fields-from, fields-of, one-byte, end-in, rules-in}
 use Rattle.completion.proofs.ReadBack.{no-rules}
-use Rattle.items.specs.Fields.{read-forms}
-use Rattle.items.specs.Fields.{rules-of, read-rule-at, read-kind}
-use Rattle.record.specs.Record.{Record, listed-end, read-end, read-units, nothing-behind}
-use Rattle.record.specs.Record.{last-field, read-record}
-use Rattle.items.proofs.Again.{RuleRead, NoRule, none-rules, rules-again}
-use Rattle.items.proofs.Parts.{demanded, plain, AreFields, OneRead, one-read, ThereRead, there-read}
+use Rattle.items.specs.Fields.{read-number, read-forms, rules-of, read-rule-at, read-kind}
+use Rattle.items.proofs.Parts.{RuleRead, NoRule, none-rules, rules-again, demanded, plain, AreFields, OneRead, one-read, ThereRead, there-read}
+use Rattle.record.specs.Record.{Record, read-end, read-units, nothing-behind, last-field, read-record}
 
 -- the end
 end-read : (f : ReadField) (end : ℕ) → read-end f ≡ ok end → one-byte (f .contents) ≡ some end
-unfolding read-end one-byte number-from
+unfolding read-end read-number one-byte number-from
 end-read f end e =
-    from-bind _ _ end e λ u g e.
-    let h = both-true (eqb (length (f .contents)) 1) (listed-end (number-from 0 (f .contents))) (demanded _ u g) in
-    one (f .contents) (eqb-true (length (f .contents)) 1 (h .0)) ∙ ap some (ok-injective e)
+    from-bind _ _ end e λ n h e.
+    from-bind _ _ n h λ u g h.
+    from-bind _ _ end e λ _ _ e.
+    one (f .contents) (eqb-true (length (f .contents)) 1 (demanded _ u g)) ∙ ap some (ok-injective h ∙ ok-injective e)
   where
     one : (l : List ℕ) → length l ≡ 1 → one-byte l ≡ some (number-from 0 l)
     one [] h = absurd (omega arith)

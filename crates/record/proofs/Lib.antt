@@ -2,5 +2,4 @@ pub mod Agrees
 pub mod RoundTrip
 pub mod Computes
 pub mod Refusals
-mod EndUnits
 mod Whole

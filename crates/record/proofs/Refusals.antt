@@ -15,8 +15,7 @@ use Rattle.terms.specs.Base.{if_then_else_, Every}
 use Rattle.reading.specs.Stops.{wrong-record}
 use Rattle.reading.proofs.Refusals.{Within, reads, within-bind, within-also, within-test, Behind}
 use Rattle.problem.specs.Problem.{Reading, _>>=_, ReadField, Symbol, ReadPart}
-use Rattle.items.specs.Fields.{one-field, read-forms}
-use Rattle.items.specs.Fields.{RuleAt, read-rule-at, read-kind}
+use Rattle.items.specs.Fields.{one-field, read-forms, RuleAt, read-rule-at, read-kind}
 use Rattle.items.proofs.Refusals.{one-within, there-within, rule-first}
 use Rattle.record.specs.Record.{Record, read-end, read-units, nothing-behind, last-field, read-record}
 

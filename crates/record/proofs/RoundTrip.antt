@@ -1,17 +1,17 @@
 -- A result that keeps the limits is read back as what was written: its end, its units, and its rules with the places of their fields. So 13 is not
 -- given for it. Assumes nothing.
--- Read first: specs/Record, specs/Reader (rules-at), completion/specs/Keeps, proofs/Back.
+-- Read first: specs/Record, specs/Reader (rules-at), completion/specs/Keeps, items/proofs/Back.
 use mathlib.Core.Path.{_≡_, refl, ap, _∙_}
-use mathlib.Core.Bool.{false}
+use mathlib.Core.Bool.{false, true}
 use mathlib.Core.List.{List, [], _∷_, _++_, map, flatMap, append-assoc}
 use mathlib.Core.Option.{none}
-use Prim.Native.Nat.{ℕ, _≤_}
+use Prim.Native.Nat.{ℕ, _≤_, _<_}
 use native.Mathlib.Omega.{arith}
 use lib.Dec.{eqb}
-use lib.ListN.{length, length-map}
-use borrow.Author.Tests.{le-ltb}
-use Rattle.limits.specs.Limits.{most-symbols, most-rules, most-entries, most-number, most-record}
-use Rattle.terms.specs.Base.{if_then_else_, number-bytes, field-bytes}
+use lib.ListN.{length, getD, length-map}
+use borrow.Author.Tests.{le-ltb, le-leb}
+use Rattle.limits.specs.Limits.{most-symbols, most-rules, most-entries, most-number, most-record, most-budget}
+use Rattle.terms.specs.Base.{if_then_else_, number-bytes, field-bytes, member, Field}
 use Rattle.terms.proofs.Lists.{flatMap-append}
 use Rattle.terms.proofs.Limits.{length-number-bytes}
 use Rattle.reading.specs.Stops.{wrong-record}
@@ -22,15 +22,37 @@ use Rattle.completion.specs.Turn.{Candidate, Entry, Finished}
 use Rattle.completion.specs.Calls.{rule-field, entry-field, oldest-field, forms-field, result-fields, result-bytes}
 use Rattle.completion.specs.Keeps.{OldestKeeps, Keeps}
 use Rattle.completion.proofs.Widths.{flat}
-use Rattle.items.specs.Fields.{one-field, fields-there}
-use Rattle.items.specs.Fields.{number-before, read-rule-at, read-kind}
-use Rattle.record.specs.Record.{read-end, read-units, nothing-behind, last-field}
-use Rattle.record.specs.Record.{read-record}
+use Rattle.items.specs.Fields.{one-field, fields-there, number-before, read-rule-at, read-kind}
+use Rattle.items.proofs.OneField.{demand-kept}
 use Rattle.items.specs.Readers.{rules-at}
-use Rattle.items.proofs.RoundTrip.{rules-at-back, numbers-keep, forms-back, kind-of, kinds-of, kinds-back}
-use Rattle.record.proofs.EndUnits.{field-10, field-11, end-back, units-back}
+use Rattle.items.proofs.Walking.{OtherTag}
+use Rattle.items.proofs.Back.{rules-at-back, numbers-keep, forms-back, kinds-of, kinds-back, placed, read-number-back, one-back, end-of, there-back}
 use Rattle.items.proofs.Slotted.{length-rules-at}
-use Rattle.items.proofs.Back.{one-back, end-of, OtherTag, there-back}
+use Rattle.record.specs.Record.{read-end, read-units, nothing-behind, last-field, listed-end, read-record}
+
+-- 10 and 11
+end-fits : (e : End) → (listed-end (end-number e) ≡ true) × (end-number e < 256)
+unfolding listed-end end-number member
+end-fits complete = (refl, omega arith)
+end-fits neither-above = (refl, omega arith)
+end-fits spent = (refl, omega arith)
+end-fits too-large = (refl, omega arith)
+end-fits rules-full = (refl, omega arith)
+end-fits log-full = (refl, omega arith)
+
+abbrev field-10 : End → Field
+field-10 e = record { tag = 0x10; contents = number-bytes 1 (end-number e) }
+
+abbrev field-11 : ℕ → Field
+field-11 n = record { tag = 0x11; contents = number-bytes 4 n }
+
+end-back : (e : End) (at : ℕ) (rest : List ℕ) → read-end (placed at (field-10 e) rest) ≡ ok (end-number e)
+unfolding read-end
+end-back e at rest = bind-ok _ (read-number-back 0x10 1 (end-number e) at rest (end-fits e .1)) ∙ demand-kept _ (end-fits e .0)
+
+units-back : (n at : ℕ) (rest : List ℕ) → n ≤ most-budget → read-units (placed at (field-11 n) rest) ≡ ok n
+unfolding read-units
+units-back n at rest h = bind-ok _ (read-number-back 0x11 4 n at rest (omega arith)) ∙ demand-kept _ (le-leb n most-budget h)
 
 -- 14, or nothing
 abbrev from-forms : End → List Candidate → List ℕ
@@ -120,7 +142,7 @@ module _ (Σ : List Symbol) (few : length Σ ≤ most-symbols) where
         (record { part = kinds-of (f .state .log); end = end-of at (map entry-field (f .state .log)); rest = from-forms (f .end) (f .state .waiting) })
     back-13 at =
         there-back wrong-record 0x13 (λ _ f. read-kind f) (kinds-back at none (f .state .log)) most-entries
-        (omega (arith, length-map (f .state .log) (λ (e : Entry). kind-of (e .origin)), k .log-few)) (from-forms (f .end) (f .state .waiting))
+        (omega (arith, length-map (f .state .log) (λ (e : Entry). getD (entry-field e .contents) 0 0), k .log-few)) (from-forms (f .end) (f .state .waiting))
         (forms-tag 0x13 (f .end) (f .state .waiting) refl)
 
     -- What was written is what is read: the rules' fields begin behind the eleven bytes of the end and the units.

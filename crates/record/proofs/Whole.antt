@@ -1,29 +1,66 @@
--- The record as a whole: what may stand behind the log, what follows the first two fields, and `read-record` itself, a lemma for each return. Assumes
--- nothing.
+-- The record as a whole: the listed ends, what may stand behind the log, what follows the first two fields, and `read-record` itself, a lemma for each
+-- return. Assumes nothing.
 -- Read first: specs/Record (read-record), specs/Reader (read-behind, IsBehind, IsRecord).
-use mathlib.Core.Path.{_≡_, refl, _∙_}
-use mathlib.Core.Bool.{false}
+use mathlib.Core.Path.{_≡_, refl, _∙_, ap, sym}
+use mathlib.Core.Bool.{false, Bool, true}
 use mathlib.Core.List.{List}
-use Prim.Native.Nat.{ℕ, _<_, _≤_}
+use Prim.Native.Nat.{ℕ, _<_, _≤_, zero, suc, _+_, _-_}
 use native.Mathlib.Omega.{arith}
 use lib.ListN.{length, drop, length-drop}
-use borrow.Author.Tests.{lt-ltb, le-ltb, eq-eqb, ne-eqb}
+use borrow.Author.Tests.{lt-ltb, le-ltb, eq-eqb, ne-eqb, leb-true, leb-false}
+use lib.Dec.{leb}
 use Rattle.limits.specs.Limits.{most-rules, most-number, most-entries}
-use Rattle.terms.specs.Base.{if_then_else_}
+use Rattle.terms.specs.Base.{if_then_else_, member, Every, of-none, of-cons}
 use Rattle.terms.specs.Term.{Pair}
 use Rattle.reading.specs.Answers.{symbols-of}
 use Rattle.reading.proofs.Reading.{bind-ok, bind-refused}
 use Rattle.problem.specs.Problem.{ok, refused, _>>=_, refuse-if}
 use Rattle.rewriting.specs.Overlap.{Rule}
-use Rattle.items.specs.Fields.{one-field, read-forms}
-use Rattle.items.specs.Fields.{read-rule-at, read-kind}
-use Rattle.record.specs.Record.{read-end, read-units, nothing-behind, last-field, read-record}
+use Rattle.items.specs.Fields.{one-field, read-forms, read-rule-at, read-kind}
 use Rattle.items.specs.Readers.{OneAt, OneBad, There, ThereBad, rules-at}
-use Rattle.record.specs.Reader.{IsNothing, IsLast, read-behind, IsBehind, IsRecord}
 use Rattle.items.specs.declared.Outcome.{Outcome}
 use Rattle.items.specs.declared.Outcome.the-variants.{Value, Bad}
+use Rattle.record.specs.Record.{read-end, read-units, nothing-behind, last-field, read-record, listed-end}
+use Rattle.record.specs.Reader.{IsNothing, IsLast, read-behind, IsBehind, IsRecord}
 use Rattle.record.specs.declared.RecordFound.{RecordFound}
 use Rattle.record.specs.declared.RecordFound.the-variants.{Fine, Bad as BadRecord}
+
+-- `listed`: 0 and 20 to 24
+pub listed-none : (n : ℕ) → n ≡ 0 → true ≡ listed-end n
+unfolding listed-end member
+listed-none n e = rw e refl
+
+listed-stop : (k : ℕ) → k < 5 → true ≡ listed-end (20 + k)
+unfolding listed-end member
+listed-stop zero h = refl
+listed-stop (suc zero) h = refl
+listed-stop (suc (suc zero)) h = refl
+listed-stop (suc (suc (suc zero))) h = refl
+listed-stop (suc (suc (suc (suc zero)))) h = refl
+listed-stop (suc (suc (suc (suc (suc k))))) h = absurd (omega arith)
+
+-- nothing else is
+not-member : (n : ℕ) {l : List ℕ} → Every (λ (m : ℕ). n ≡ m → ⊥) l → false ≡ member n l
+unfolding member
+not-member n of-none = refl
+not-member n (of-cons {x = m} h hs) = rw (ne-eqb n m h) (not-member n hs)
+
+unlisted : (n : ℕ) → (n ≡ 0 → ⊥) → (20 ≤ n → n ≤ 24 → ⊥) → false ≡ listed-end n
+unfolding listed-end
+unlisted n z f =
+    not-member n
+    (of-cons z (of-cons (λ e. f (omega arith) (omega arith)) (of-cons (λ e. f (omega arith) (omega arith)) (of-cons (λ e. f (omega arith) (omega arith))
+    (of-cons (λ e. f (omega arith) (omega arith)) (of-cons (λ e. f (omega arith) (omega arith)) of-none))))))
+
+pub listed-low : (n : ℕ) → (n ≡ 0 → ⊥) → n < 20 → false ≡ listed-end n
+listed-low n z h = unlisted n z (λ low _. omega arith)
+
+pub listed-high : (n : ℕ) → 20 ≤ n → leb n 24 ≡ listed-end n
+listed-high n h = go (n - 20) (omega arith) (leb n 24) refl
+  where
+    go : (k : ℕ) → n ≡ 20 + k → (b : Bool) → leb n 24 ≡ b → leb n 24 ≡ listed-end n
+    go k e true q = q ∙ listed-stop k (omega (arith, leb-true n 24 q)) ∙ ap listed-end (sym e)
+    go k e false q = q ∙ unlisted n (λ z. omega arith) (λ _ high. omega (arith, leb-false n 24 q))
 
 -- `nothing_behind`
 module _ (l : List ℕ) (at : ℕ) where

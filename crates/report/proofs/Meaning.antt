@@ -20,7 +20,7 @@ use Rattle.completion.specs.Calls.{pair-bytes, rule-field, entry-field, oldest-
 use Rattle.fields.specs.Puts.{tagged}
 use Rattle.inputs.specs.Inputs.{marked}
 use Rattle.items.specs.Written.{row, logged-width, each, slot-field, logged-field}
-use Rattle.items.proofs.Meaning.{rules-are, forms-are as pair-is, entries-are}
+use Rattle.items.proofs.Writing.{rules-are, forms-are as pair-is, entries-are}
 use Rattle.state.specs.Run.{held, Leaves}
 use Rattle.state.proofs.Rows.{held-rows, length-held, length-rows, row-at}
 use Rattle.state.specs.declared.State.{State}

@@ -16,7 +16,7 @@ use Rattle.inputs.specs.Inputs.{marked}
 use Rattle.scanning.specs.Walk.{no-rule, rule-at}
 use Rattle.compose.specs.Rights.{RightsOnly}
 use Rattle.state.specs.Run.{as-removed, held}
-use Rattle.items.proofs.Meaning.{rule-number}
+use Rattle.items.proofs.Writing.{rule-number}
 
 all-unmap : {A B : Type 0} (S : ℕ → B → Type 0) (f : A → B) (k : ℕ) (xs : List A) → AllFrom S k (map f xs) → AllFrom (λ i x. S i (f x)) k xs
 unfolding AllFrom

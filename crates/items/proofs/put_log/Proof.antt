@@ -1,10 +1,10 @@
 -- `put_log`: the invariant is that the fields of the entries from i on, put at a, give the whole list; count - i falls. Assumes nothing.
--- Read first: specs/Written (logged-field), fields/specs/Puts (PutsSome), proofs/PairField (puts-entry), proofs/Listing (Listing).
+-- Read first: specs/Written (logged-field), fields/specs/Puts (PutsSome), proofs/Writing (puts-entry, Listing).
 use Prim.Native.Nat.{_-_}
 use Rattle.limits.specs.Limits.{entry-width}
 use Rattle.items.specs.Written.{logged-field}
-use Rattle.items.proofs.PairField.{puts-entry}
-use Rattle.items.proofs.Listing.{Listing, listing-start, listing-more, listing-end}
+use Rattle.items.proofs.Writing.{puts-entry}
+use Rattle.items.proofs.Writing.{Listing, listing-start, listing-more, listing-end}
 use borrow.Author.Needs.{needs}
 use Rattle.items.proofs.put_log.Statement.{statement}
 use Rattle.items.proofs.put_log.Tie as tie

@@ -1,6 +1,6 @@
 -- `put_pair`: tag, length, head and the two sides of slot k are a field, by `puts-pair`. Assumes nothing.
--- Read first: specs/Written (pair-field), fields/specs/Puts (PutsSome), proofs/PairField.
-use Rattle.items.proofs.PairField.{puts-pair}
+-- Read first: specs/Written (pair-field), fields/specs/Puts (PutsSome), proofs/Writing.
+use Rattle.items.proofs.Writing.{puts-pair}
 use borrow.Author.Needs.{needs}
 use Rattle.items.proofs.put_pair.Statement.{statement}
 use Rattle.items.proofs.put_pair.Tie as tie

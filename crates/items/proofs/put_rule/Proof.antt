@@ -1,8 +1,8 @@
 -- `put_rule`: the head of its field is the rule's number, by `puts-rule`. Assumes nothing.
--- Read first: specs/Written (slot-field), proofs/PairField.
+-- Read first: specs/Written (slot-field), proofs/Writing.
 use mathlib.Core.Path.{_≡_}
 use lib.ListN.{length}
-use Rattle.items.proofs.PairField.{puts-rule}
+use Rattle.items.proofs.Writing.{puts-rule}
 use borrow.Author.Needs.{needs}
 use Rattle.items.proofs.put_rule.Statement.{statement}
 use Rattle.items.proofs.put_rule.Tie as tie

@@ -1,10 +1,10 @@
 -- `put_rules`: the invariant is that the fields of the slots from i on, put at a, give the whole list; count - i falls. Assumes nothing.
--- Read first: specs/Written (slot-field), fields/specs/Puts (PutsSome), proofs/Listing (Listing).
+-- Read first: specs/Written (slot-field), fields/specs/Puts (PutsSome), proofs/Writing (Listing).
 use Prim.Native.Nat.{_-_}
 use Rattle.limits.specs.Limits.{rule-width}
 use Rattle.slots.proofs.Layouts.{layout-less}
 use Rattle.items.specs.Written.{slot-field}
-use Rattle.items.proofs.Listing.{Listing, listing-start, listing-more, listing-end}
+use Rattle.items.proofs.Writing.{Listing, listing-start, listing-more, listing-end}
 use borrow.Author.Needs.{needs}
 use Rattle.items.proofs.put_rules.Statement.{statement}
 use Rattle.items.proofs.put_rules.Tie as tie

@@ -37,34 +37,28 @@ number-requires c κs =
     let d = found (search depth 0) in
     (omega (arith, in-else1 .if1 .left, d .2), omega arith)
 
+returns-2 : tie.Need-returns-2
+returns-2 c =
+    let at-number : tie.After-number = search depth 0 in
+    let in-else1 : tie.Else1 = search depth 0 in
+    let d = found (search depth 0) in
+    one-unread _ (read-rule _ _ _ _) _ _ _ d
+    (rule-low _ _ _ _ _ _ _ (d .2) (in-else1 .if1 .left) _ (at-number .number .ensures .0) (omega (arith, c .if2 .taken)))
+
+returns-3 : tie.Need-returns-3
+returns-3 c =
+    let at-number : tie.After-number = search depth 0 in
+    let in-else1 : tie.Else1 = search depth 0 in
+    let d = found (search depth 0) in
+    one-unread _ (read-rule _ _ _ _) _ _ _ d
+    (rule-high _ _ _ _ _ _ _ (d .2) (in-else1 .if1 .left) _ (at-number .number .ensures .0) (omega (arith, c .if3 .taken)))
+
 rule-sides-requires : tie.Need-rule-sides-requires
 rule-sides-requires c κs =
     let in-else1 : tie.Else1 = search depth 0 in
     let at-end : tie.After-end = search depth 0 in
     let entry = entry-of-end at-end in
     (entry .pre .0, (in-else1 .if1 .left, found at-end .2, entry .pre .1))
-
-returns-2 : tie.Need-returns-2
-returns-2 c =
-    let at-middle : tie.After-middle = search depth 0 in
-    let at-rule-sides : tie.After-rule-sides = search depth 0 in
-    let at-number : tie.After-number = search depth 0 in
-    let in-else1 : tie.Else1 = search depth 0 in
-    let d = found (search depth 0) in
-    let h = rw (at-middle .middle .given .1) at (at-rule-sides .rule-sides .ensures) in
-    one-unread _ (read-rule _ _ _ _) _ _ _ d
-    (rule-low _ _ _ _ _ _ _ (d .2) (in-else1 .if1 .left) _ (at-number .number .ensures .0) _ (h .1) (omega (arith, c .if2 .taken)))
-
-returns-3 : tie.Need-returns-3
-returns-3 c =
-    let at-middle : tie.After-middle = search depth 0 in
-    let at-rule-sides : tie.After-rule-sides = search depth 0 in
-    let at-number : tie.After-number = search depth 0 in
-    let in-else1 : tie.Else1 = search depth 0 in
-    let d = found (search depth 0) in
-    let h = rw (at-middle .middle .given .1) at (at-rule-sides .rule-sides .ensures) in
-    one-unread _ (read-rule _ _ _ _) _ _ _ d
-    (rule-high _ _ _ _ _ _ _ (d .2) (in-else1 .if1 .left) _ (at-number .number .ensures .0) _ (h .1) (omega (arith, c .if3 .taken)))
 
 returns-4 : tie.Need-returns-4
 returns-4 c =
@@ -78,14 +72,15 @@ returns-4 c =
 
 returns-5 : tie.Need-returns-5
 returns-5 c =
-    let in-else2 : tie.Else2 = search depth 0 in
-    let at-middle : tie.After-middle = search depth 0 in
     let at-rule-sides : tie.After-rule-sides = search depth 0 in
+    let in-else3 : tie.Else3 = search depth 0 in
+    let in-else2 : tie.Else2 = search depth 0 in
     let at-number : tie.After-number = search depth 0 in
     let in-else1 : tie.Else1 = search depth 0 in
     let d = found (search depth 0) in
+    let at-middle : tie.After-middle = search depth 0 in
     let h = rw (at-middle .middle .given .1) at (at-rule-sides .rule-sides .ensures) in
-    let r = rule-fine _ _ _ _ _ _ _ (d .2) (in-else1 .if1 .left) _ (at-number .number .ensures .0) _ (h .1) (in-else2 .if2 .left) (c .if3 .left) in
+    let r = rule-fine _ _ _ _ _ _ _ (d .2) (in-else1 .if1 .left) _ (at-number .number .ensures .0) (in-else2 .if2 .left) (in-else3 .if3 .left) _ (h .1) in
     (h .0, record { one = one-read _ (read-rule _ _ _ _) _ _ _ d _ r; held = h .2; fits = at-number .number .ensures .1 })
 
 returns-6 : tie.Need-returns-6
@@ -96,5 +91,5 @@ returns-6 c =
 pub rule-field-spec : {M : Type 1} → statement M
 rule-field-spec =
     tie.close (tie.spec
-    (λ c κs. search needs) (λ c. search needs) add-start returns (λ c. search needs) number-requires rule-sides-requires
-    (λ c. search needs) (λ c. search needs) returns-2 returns-3 returns-4 returns-5 returns-6)
+    (λ c κs. search needs) (λ c. search needs) add-start returns (λ c. search needs) number-requires returns-2 returns-3 rule-sides-requires
+    (λ c. search needs) (λ c. search needs) returns-4 returns-5 returns-6)

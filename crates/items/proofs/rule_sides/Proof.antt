@@ -1,6 +1,7 @@
 -- `rule_sides`: the pair that fills the bytes, and where rules are ordered whether its left side is above its right side. Assumes nothing.
 -- Read first: specs/Readers (AreRuleSides), proofs/Holding.
 use mathlib.Core.Path.{_∙_}
+use Prim.Native.Nat.{_≤_}
 use native.Mathlib.Omega.{arith}
 use borrow.Author.Needs.{needs}
 use Rattle.items.specs.Readers.{IsPairFound}
@@ -25,22 +26,14 @@ found at =
 returns : tie.Need-returns
 returns c = let f = found (search depth 0) in (f .0, sides-any _ _ _ _ _ (f .1) (c .if1 .taken), f .2)
 
-sub-above : tie.Need-sub-above
-sub-above c = let f = found (search depth 0) .2 in omega (arith, f .middle)
-
-part-above-start : tie.Need-part-above-start
-part-above-start c = let f = found (search depth 0) .2 in omega (arith, f .middle)
+-- the left side ends within the bytes
+within : (at : tie.After-middle) → (entry-of-middle at .args .at ≤ at .middle .given .0 .0) × (at .middle .given .0 .0 ≤ entry-of-middle at .args .end)
+within at = let F = found at .2 in (omega (arith, F .middle), omega (arith, F .ends))
 
 part-above-end : tie.Need-part-above-end
 part-above-end c =
     let at-middle : tie.After-middle = search depth 0 in
-    let f = found at-middle .2 in omega (arith, f .ends, entry-of-middle at-middle .pre .1 .1)
-
-sub-above-2 : tie.Need-sub-above-2
-sub-above-2 c = let f = found (search depth 0) .2 in omega (arith, f .ends)
-
-part-above-start-2 : tie.Need-part-above-start-2
-part-above-start-2 c = let f = found (search depth 0) .2 in omega (arith, f .ends)
+    omega (arith, within at-middle .1, entry-of-middle at-middle .pre .1 .1)
 
 above-requires : tie.Need-above-requires
 above-requires c κs =
@@ -72,5 +65,5 @@ returns-4 c =
 pub rule-sides-spec : {M : Type 1} → statement M
 rule-sides-spec =
     tie.close (tie.spec
-    (λ c κs. search needs) (λ c. search needs) (λ c. search needs) returns sub-above part-above-start part-above-end sub-above-2
-    part-above-start-2 (λ c. search needs) above-requires returns-2 returns-3 returns-4)
+    (λ c κs. search needs) (λ c. search needs) (λ c. search needs) returns (λ c. within (search depth 0) .0) (λ c. within (search depth 0) .0) part-above-end
+    (λ c. within (search depth 0) .1) (λ c. within (search depth 0) .1) (λ c. search needs) above-requires returns-2 returns-3 returns-4)
