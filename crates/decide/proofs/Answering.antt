@@ -22,8 +22,9 @@ use Rattle.completion.specs.Delivery.{Replacement, Many, Last}
 use Rattle.completion.specs.Decides.{Decides}
 use Rattle.completion.specs.Promise.{Promise, end-in, rules-in}
 use Rattle.completion.proofs.Promised.{Kept, engine-kept}
-use Rattle.record.specs.Record.{RuleAt, rules-of, read-record}
-use Rattle.record.specs.Reader.{rules-at}
+use Rattle.items.specs.Fields.{RuleAt, rules-of}
+use Rattle.items.specs.Readers.{rules-at}
+use Rattle.record.specs.Record.{read-record}
 use Rattle.record.proofs.RoundTrip.{record-back}
 use Rattle.decide.specs.Decide.{all-above, Question, read-question, Answer, are-same, are-different, answer, decide-call}
 use Rattle.decide.specs.Answers.{OneLast, TwoLasts, AboutRules, WroteFor, Leads, AboutEquations, NotRefused}

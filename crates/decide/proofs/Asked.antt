@@ -2,10 +2,12 @@
 -- promise of complete reads the end 0 and the same rules in the record's bytes. Assumes nothing.
 -- Read first: specs/Decide, record/proofs/Agrees.
 use mathlib.Core.Path.{_≡_, refl, ap, subst, _∙_}
+use mathlib.Core.Bool.{false}
 use mathlib.Core.List.{List, [], _∷_}
 use mathlib.Core.Option.{some}
 use Prim.Native.Nat.{ℕ}
 use borrow.Author.Tests.{eqb-true, not-false}
+use Rattle.limits.specs.Limits.{most-number}
 use Rattle.terms.specs.Base.{Field, Every, of-none, of-cons}
 use Rattle.terms.proofs.Every.{every-mapped}
 use Rattle.reading.specs.Stops.{not-complete, not-above}
@@ -16,8 +18,9 @@ use Rattle.completion.specs.Promise.{fields-of, end-in, rules-in}
 use Rattle.completion.proofs.Accepts.{SingleFits, single-fits}
 use Rattle.completion.proofs.Over.{OverPair}
 use Rattle.completion.proofs.OverRules.{above-brings, OverRule, OverRules}
-use Rattle.record.specs.Record.{RuleAt}
-use Rattle.record.proofs.Agrees.{RuleRead, Agrees, agrees}
+use Rattle.items.specs.Fields.{RuleAt}
+use Rattle.items.proofs.Parts.{RuleRead}
+use Rattle.record.proofs.Agrees.{Agrees, agrees}
 use Rattle.decide.specs.Decide.{all-above, Question, read-question}
 
 pub record Asked (problem kept : List ℕ) (q : Question) : Type 0 where
@@ -33,8 +36,8 @@ pub record Asked (problem kept : List ℕ) (q : Question) : Type 0 where
   pub rules-are : rules-in (q .symbols) fields ≡ ok (q .rules)
 
 -- rules that passed 15
-above-over : (Σ : List Symbol) (rules : List RuleAt) (u : Unit {0}) → all-above Σ rules ≡ ok u → Every (λ (r : RuleAt). RuleRead Σ 0 (r .rule)) rules →
-    Every (λ (r : RuleAt). OverRule Σ (r .rule .sides)) rules
+above-over : (Σ : List Symbol) (rules : List RuleAt) (u : Unit {0}) → all-above Σ rules ≡ ok u →
+    Every (λ (r : RuleAt). RuleRead Σ false most-number 0 (r .rule)) rules → Every (λ (r : RuleAt). OverRule Σ (r .rule .sides)) rules
 unfolding all-above
 above-over Σ [] u e of-none = of-none
 above-over Σ (r ∷ rules) u e (of-cons k h) =

@@ -1,23 +1,22 @@
 -- `not_above`: the rules from slot k on, whose fields begin at a place, decide the answer; a lemma for each step and each return. Assumes nothing.
--- Read first: specs/Asking (FirstNotAbove), specs/Decide (all-above), record/specs/Reader (rules-at).
-use mathlib.Core.Path.{_≡_, refl, sym, _∙_, ap}
+-- Read first: specs/Asking (FirstNotAbove), specs/Decide (all-above), items/specs/Readers (rules-at).
+use mathlib.Core.Path.{_≡_, refl, _∙_, ap}
 use mathlib.Core.Bool.{Bool, true, false}
-use mathlib.Core.List.{List, [], _∷_, append-nil}
+use mathlib.Core.List.{List, [], _∷_}
 use Prim.Native.Nat.{ℕ, zero, suc, _+_, _<_, _≤_}
 use native.Mathlib.Omega.{arith}
 use lib.ListN.{length}
-use Rattle.terms.specs.Term.{Term, size, term-bytes}
-use Rattle.terms.specs.Flat.{Wf, Starts}
+use Rattle.terms.specs.Term.{size}
 use Rattle.terms.proofs.Bytes.{length-bytes}
-use Rattle.terms.proofs.Flats.{widen}
 use Rattle.order.specs.Order.{above}
 use Rattle.order.specs.Walk.{IsAbove}
 use Rattle.reading.specs.Answers.{symbols-of, Table}
 use Rattle.problem.specs.Problem.{Reading, ok, refused, _>>=_, refuse-if, rank-of}
 use Rattle.rewriting.specs.Overlap.{Rule, sides-of}
-use Rattle.completion.proofs.Ranks.{ranks-are}
+use Rattle.slots.proofs.Layouts.{sides-read}
 use Rattle.slots.specs.Slots.{slot, left-of, right-of, AllFrom, PairAt, Stored}
-use Rattle.record.specs.Reader.{rules-at}
+use Rattle.items.specs.Readers.{rules-at}
+use Rattle.items.proofs.Holding.{sides-compared}
 use Rattle.decide.specs.Decide.{all-above}
 use Rattle.decide.specs.Asking.{above-told, FirstNotAbove}
 
@@ -33,17 +32,11 @@ module _ (tab slots : List ℕ) (count : ℕ) where
   pub passed-none : Passed 11 0
   passed-none = record { rest = λ r h. h }
 
-  starts : (x : Term) (l : List ℕ) → Wf 16 tab x → l ≡ term-bytes x → Starts tab l x
-  starts x l w b = record { wf = widen 16 32 tab x (omega arith) w; rest = []; bytes = b ∙ sym (append-nil (term-bytes x)) }
-
   -- the rule in slot k, compared
   module _ (T : Table tab) (place k : ℕ) (low : k < count) (left right : List ℕ) (ql : left ≡ left-of (slot slots k)) (qr : right ≡ right-of (slot slots k))
       (b : Bool) (h : IsAbove tab left right b) where
     here : (r : Rule) → PairAt 16 tab slots k (r .sides) → above (rank-of (symbols-of tab)) (r .sides .left) (r .sides .right) ≡ b
-    here r at =
-        let S = at .sides in
-        ap (λ (f : ℕ → ℕ). above f (r .sides .left) (r .sides .right)) (ranks-are tab T)
-        ∙ sym (h (r .sides .left) (r .sides .right) (starts _ _ (S .left-wf) (ql ∙ S .left-bytes)) (starts _ _ (S .right-wf) (qr ∙ S .right-bytes)))
+    here r at = sides-compared tab T (sides-read ql qr at) b h
 
     pub not-above : b ≡ false → From place k (refused 15 place)
     unfolding AllFrom rules-at all-above _>>=_ refuse-if

@@ -21,8 +21,10 @@ use Rattle.completion.specs.Calls.{Single, parse-single}
 use Rattle.completion.proofs.Accepts.{single-fits}
 use Rattle.slots.specs.Slots.{Sides}
 use Rattle.only_equation.specs.Places.{table, left-side, right-side, SidesAt}
-use Rattle.record.specs.Record.{Record, rules-of, read-record}
-use Rattle.record.specs.Reader.{rules-at, InSlots}
+use Rattle.items.specs.Fields.{rules-of}
+use Rattle.items.specs.Readers.{rules-at, InSlots}
+use Rattle.items.proofs.Slotted.{slots-store}
+use Rattle.record.specs.Record.{Record, read-record}
 use Rattle.decide.specs.Decide.{all-above, Question, read-question, Answer, answer, decide-call}
 use Rattle.decide.specs.Answers.{decided-told}
 use Rattle.decide.specs.Asking.{above-told, FirstNotAbove, FormsCompared, ask-call, Asks}
@@ -58,14 +60,14 @@ module _ (tab kept : List ℕ) (budget : ℕ) where
           FirstNotAbove tab slots count p → Asks tab left right budget kept (Refused 15 p)
       unfolding decided-told above-told
       rule-refused I left right zero n A = absurd (n refl)
-      rule-refused I left right (suc p) n A = record { is = λ e S. sym (behind e ∙ bind-refused _ (A .is rs (I .stored) (I .counted))) }
+      rule-refused I left right (suc p) n A = record { is = λ e S. sym (behind e ∙ bind-refused _ (A .is rs (slots-store I) (I .counted))) }
 
       pub forms-asked : {slots left right : List ℕ} {count p : ℕ} {d : Decided} → InSlots tab slots count rs → p ≡ 0 → FirstNotAbove tab slots count p →
           FormsCompared tab slots count left right budget d → Asks tab left right budget kept d
       unfolding above-told
       forms-asked I n A F = record {
         is = λ e S.
-            F .is rs (I .stored) (I .counted) e S ∙ sym (behind e ∙ bind-ok _ (A .is rs (I .stored) (I .counted) ∙ ap above-told n));
+            F .is rs (slots-store I) (I .counted) e S ∙ sym (behind e ∙ bind-ok _ (A .is rs (slots-store I) (I .counted) ∙ ap above-told n));
       }
 
 -- what is done with the question may be done behind its tests

@@ -11,7 +11,7 @@ use Rattle.reading.specs.Stops.{not-complete, not-above}
 use Rattle.reading.proofs.Refusals.{Within, reads, within-bind, within-also, within-test, wider, never-7}
 use Rattle.problem.specs.Problem.{Reading, ok, refused, Symbol}
 use Rattle.completion.proofs.Refusals.{single-within}
-use Rattle.record.specs.Record.{RuleAt}
+use Rattle.items.specs.Fields.{RuleAt}
 use Rattle.record.proofs.Refusals.{record-within}
 use Rattle.decide.specs.Decide.{all-above, read-question, Question, Answer, are-same, are-different, numbered, decide-call}
 use Rattle.decide.proofs.Right.{about-rules}

@@ -1,5 +1,5 @@
 -- What each function of `decide` answers, said by the definitions of Decide. Assumes nothing.
--- Read first: Decide, Answers (decided-told), record/specs/Reader (rules-at), slots/specs/Slots (Stored, Sides).
+-- Read first: Decide, Answers (decided-told), items/specs/Readers (rules-at), slots/specs/Slots (Stored, Sides).
 use mathlib.Core.Path.{_≡_}
 use mathlib.Core.Bool.{not}
 use mathlib.Core.List.{List}
@@ -15,8 +15,9 @@ use Rattle.problem.specs.Problem.{Reading, ok, refused, _>>=_, refuse-if, Symbo
 use Rattle.rewriting.specs.Overlap.{Rule, sides-of}
 use Rattle.rewriting.specs.Rewrite.{return, Paying, _>>=_ as _then_, normalise, normalise-pair}
 use Rattle.slots.specs.Slots.{Sides, Stored}
-use Rattle.record.specs.Record.{rules-of, read-record}
-use Rattle.record.specs.Reader.{rules-at}
+use Rattle.items.specs.Fields.{rules-of}
+use Rattle.items.specs.Readers.{rules-at}
+use Rattle.record.specs.Record.{read-record}
 use Rattle.decide.specs.Decide.{all-above, Answer, answer}
 use Rattle.decide.specs.Answers.{decided-told}
 use Rattle.decide.specs.declared.Decided.{Decided}

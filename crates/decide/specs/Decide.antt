@@ -13,7 +13,8 @@ use Rattle.problem.specs.Problem.{Reading, ok, _>>=_, refuse-if, Symbol, rank-o
 use Rattle.rewriting.specs.Overlap.{Rule}
 use Rattle.rewriting.specs.Rewrite.{Paid, done, stop, end-number, normalise-pair}
 use Rattle.completion.specs.Calls.{parse-single}
-use Rattle.record.specs.Record.{RuleAt, rules-of, read-record}
+use Rattle.items.specs.Fields.{RuleAt, rules-of}
+use Rattle.record.specs.Record.{read-record}
 
 -- 15: "when a rule's left side is not above its right side, at that field's first byte" [18.11]
 unfoldable pub all-above : List Symbol → List RuleAt → Reading (Unit {0})

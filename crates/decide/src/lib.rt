@@ -48,7 +48,7 @@ fn not_above(rules: &[u8], count: usize, table: &[u8]) -> usize
         let left = slots::left(rules, k);
         let right = slots::right(rules, k);
         if order::above(left, right, table) {
-            place += record::RULE_HEAD + left.len() + right.len();
+            place += items::RULE_HEAD + left.len() + right.len();
             k += 1;
         } else {
             return place;

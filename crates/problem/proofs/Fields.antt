@@ -12,7 +12,7 @@ use Rattle.terms.proofs.Lists.{take-drop}
 use Rattle.terms.specs.Base.{number-from}
 use Rattle.reading.specs.Answers.{DueTo, wrong-length, SymbolsAre}
 use Rattle.reading.proofs.Reading.{bind-ok}
-pub use Rattle.reading.proofs.Fields.{contents-length, due-read}
+use Rattle.reading.proofs.Fields.{contents-length}
 use Rattle.problem.specs.Problem.{ok, refused, _>>=_, refuse-if, due, read-symbols, symbol-field, budget-field}
 use Rattle.problem.specs.Parser.{field-at, symbols-of, SymbolsAt}
 

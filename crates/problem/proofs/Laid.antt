@@ -8,7 +8,7 @@ use lib.ListN.{length, take, drop, length-drop}
 use Rattle.problem.specs.Problem.{ok, ReadField, due, Equation, equation-field, equation-fields, Problem}
 use Rattle.problem.specs.Parser.{field-at, symbols-of, Table, ParsedAt}
 use Rattle.reading.proofs.Reading.{from-bind, no-ok, ok-injective}
-pub use Rattle.reading.proofs.Fields.{due-at}
+use Rattle.reading.proofs.Fields.{due-at}
 use Rattle.problem.proofs.Sides.{Both, both-sides, first-of}
 
 module _ (tab : List ℕ) (T : Table tab) (l : List ℕ) where

@@ -12,7 +12,7 @@ use Rattle.terms.specs.Base.{Every, of-none, of-cons}
 use Rattle.terms.proofs.Every.{every-head, every-tail}
 use Rattle.reading.specs.Stops.{long-problem, wrong-symbol-field, wrong-budget, many-equations, large-side, not-one-equation}
 use Rattle.reading.proofs.Refusals.{Within, reads, refuses, within-bind, within-test, symbols-within, pair-within}
-pub use Rattle.reading.proofs.Refusals.{due-within}
+use Rattle.reading.proofs.Refusals.{due-within}
 use Rattle.problem.specs.Problem.{ReadField, Symbol, symbol-field, budget-field, Equation, equation-field, equation-fields, Problem, parse}
 use Rattle.problem.specs.Problem.{only-equation}
 

@@ -1,76 +1,40 @@
 -- What is read of a record, whoever wrote it, is what the promise of complete reads of those bytes: the same end and the same rules. The rules are
 -- over the symbols, renamed, and keep the limits of document 01. Assumes nothing.
--- Read first: specs/Record, completion/specs/Promise, completion/specs/Keeps, proofs/Parts.
+-- Read first: specs/Record, completion/specs/Promise, completion/specs/Keeps, items/proofs/Parts.
 use mathlib.Core.Path.{_≡_, refl, ap, subst, _∙_}
 use mathlib.Core.Bool.{Bool, true, false}
 use mathlib.Core.List.{List, [], _∷_, _++_, map}
-use mathlib.Core.Option.{Option, none, some}
-use Prim.Native.Nat.{ℕ, zero, suc, _+_, _≤_, _<_}
+use mathlib.Core.Option.{none, some}
+use Prim.Native.Nat.{ℕ, zero, suc, _≤_}
 use native.Mathlib.Omega.{arith}
-use lib.Dec.{eqb, ltb, leb}
-use lib.ListN.{length, take, drop, length-append}
-use borrow.Author.Tests.{eqb-true, ltb-true, ltb-false, leb-true}
+use lib.Dec.{eqb}
+use lib.ListN.{length}
+use borrow.Author.Tests.{eqb-true, ltb-false}
 use Rattle.limits.specs.Limits.{most-rules, most-entries, most-number}
-use Rattle.terms.specs.Base.{if_then_else_, number-from, Field, Every, of-none, of-cons}
-use Rattle.terms.specs.Term.{Term, Pair, term-bytes}
-use Rattle.terms.proofs.Bytes.{length-bytes}
+use Rattle.terms.specs.Base.{if_then_else_, number-from, Field, Every, of-none}
 use Rattle.terms.proofs.Every.{every-one, every-append}
-use Rattle.terms.proofs.Places.{size-pos}
-use Rattle.terms.proofs.Shape.{both-true}
 use Rattle.reading.specs.Stops.{wrong-record}
-use Rattle.problem.specs.Problem.{Reading, ok, _>>=_, ReadField, Symbol}
+use Rattle.problem.specs.Problem.{ok, ReadField, Symbol}
 use Rattle.problem.proofs.Reading.{from-bind, ok-injective, passed}
-use Rattle.rewriting.specs.Overlap.{Rule}
-use Rattle.completion.specs.Keeps.{PairKeeps}
-use Rattle.completion.specs.Promise.{fields-from, fields-of, one-byte, end-in, rule-of, rules-in}
-use Rattle.completion.proofs.Held.{pair-keeps}
-use Rattle.completion.proofs.Accepts.{PairFits, pair-fits}
-use Rattle.completion.proofs.ReadBack.{two-terms, no-rules}
-use Rattle.record.specs.Fields.{renamed-pair, read-rule, read-forms}
-use Rattle.record.specs.Record.{RuleAt, rules-of, Record, listed-end, read-end, read-units, number-before, read-rule-at, read-kind, nothing-behind}
-use Rattle.record.specs.Record.{last-field, read-record}
-use Rattle.record.proofs.Parts.{demanded, renamed-dec, plain, AreFields, OneRead, one-read, ReadFrom, none-from, one-from, ThereRead, there-read}
+use Rattle.completion.specs.Promise.{fields-from, fields-of, one-byte, end-in, rules-in}
+use Rattle.completion.proofs.ReadBack.{no-rules}
+use Rattle.items.specs.Fields.{read-number, read-forms, rules-of, read-rule-at, read-kind}
+use Rattle.items.proofs.Parts.{RuleRead, NoRule, none-rules, rules-again, demanded, plain, AreFields, OneRead, one-read, ThereRead, there-read}
+use Rattle.record.specs.Record.{Record, read-end, read-units, nothing-behind, last-field, read-record}
 
 -- the end
 end-read : (f : ReadField) (end : ℕ) → read-end f ≡ ok end → one-byte (f .contents) ≡ some end
-unfolding read-end one-byte number-from
+unfolding read-end read-number one-byte number-from
 end-read f end e =
-    from-bind _ _ end e λ u g e.
-    let h = both-true (eqb (length (f .contents)) 1) (listed-end (number-from 0 (f .contents))) (demanded _ u g) in
-    one (f .contents) (eqb-true (length (f .contents)) 1 (h .0)) ∙ ap some (ok-injective e)
+    from-bind _ _ end e λ n h e.
+    from-bind _ _ n h λ u g h.
+    from-bind _ _ end e λ _ _ e.
+    one (f .contents) (eqb-true (length (f .contents)) 1 (demanded _ u g)) ∙ ap some (ok-injective h ∙ ok-injective e)
   where
     one : (l : List ℕ) → length l ≡ 1 → one-byte l ≡ some (number-from 0 l)
     one [] h = absurd (omega arith)
     one (b ∷ []) h = ap some (omega arith)
     one (b ∷ c ∷ l) h = absurd (omega arith)
-
--- a rule that was read behind one of a lower number
-pub record RuleRead (Σ : List Symbol) (before : ℕ) (r : Rule) : Type 0 where
-  pub low : before < r .number
-  pub high : r .number ≤ most-number
-  pub sides : PairKeeps Σ (r .sides)
-
--- two sides that were read, and the bytes that they are
-pair-read : (Σ : List Symbol) (at : ℕ) (bytes : List ℕ) (e : Pair) → renamed-pair Σ at bytes ≡ ok e → PairKeeps Σ e × PairFits Σ bytes e
-unfolding renamed-pair
-pair-read Σ at bytes e h =
-    from-bind _ _ e h λ d a h.
-    from-bind _ _ e h λ u g h.
-    let k : PairFits Σ bytes d = pair-fits Σ at bytes d a in
-    subst (λ (d : Pair). PairKeeps Σ d × PairFits Σ bytes d) (ok-injective h)
-    (pair-keeps Σ d (k .held) (k .over) (renamed-dec d .0 (demanded _ u g)), k)
-
-no-term : (t : Term) (l : List ℕ) → [] ≡ term-bytes t ++ l → ⊥
-no-term t l e = absurd (omega (arith, ap length e, length-append (term-bytes t) l, length-bytes t, size-pos t))
-
--- a field that is no rule's
-abbrev NoRule : Field → Type 0
-NoRule f = eqb (f .tag) 0x12 ≡ false
-
-none-rules : {A : Type 0} {tag : ℕ} {read : Option A → ReadField → Reading A} {before : Option A} {fs : List ReadField} {l : List A} → eqb tag 0x12 ≡ false →
-    ReadFrom tag read before fs l → Every NoRule (map plain fs)
-none-rules o none-from = of-none
-none-rules o (one-from t h k) = of-cons (ap (λ n. eqb n 0x12) t ∙ o) (none-rules o k)
 
 -- no byte is left
 no-fields : (at : ℕ) (bytes : List ℕ) (u : Unit {0}) → nothing-behind at bytes ≡ ok u → AreFields at bytes []
@@ -80,42 +44,6 @@ no-fields at [] u e (suc more) l = refl
 no-fields at (b ∷ bytes) u e more l = absurd (omega (arith, ltb-false 0 (length (b ∷ bytes)) (passed _ wrong-record at u e)))
 
 module _ (Σ : List Symbol) (few : length Σ ≤ 16) where
-  -- two bytes and a pair, as the promise reads a rule
-  same-rule : (bytes : List ℕ) (e : Pair) → PairFits Σ (drop 2 bytes) e → rule-of Σ bytes ≡ ok (record { number = number-from 0 (take 2 bytes); sides = e })
-  same-rule [] e k = absurd (no-term (e .left) _ (k .filled))
-  same-rule (a ∷ []) e k = absurd (no-term (e .left) _ (k .filled))
-  same-rule (a ∷ b ∷ bytes) e k =
-      two-terms Σ few (number-from 0 (a ∷ b ∷ [])) a b (e .left) (e .right) bytes (k .filled) refl (k .over .0) (k .over .1) (k .held .left .made)
-      (k .held .right .made)
-
-  rule-again : (before : ℕ) (f : ReadField) (r : Rule) → read-rule Σ before f ≡ ok r → RuleRead Σ before r × (rule-of Σ (f .contents) ≡ ok r)
-  unfolding read-rule
-  rule-again before f r e =
-      from-bind _ _ r e λ sides h e.
-      from-bind _ _ r e λ u g e.
-      let number : ℕ = number-from 0 (take 2 (f .contents)) in
-      let k = pair-read Σ (f .first + 5) (drop 2 (f .contents)) sides h in
-      let y = both-true (ltb before number) (leb number most-number) (demanded _ u g) in
-      let q : record { number = number; sides = sides } ≡ r = ok-injective e in
-      rw (← q) (
-        record { low = ltb-true before number (y .0); high = leb-true number most-number (y .1); sides = k .0 },
-        same-rule (f .contents) sides (k .1),
-      )
-
-  -- the rules in fields that were read as rules
-  rules-again : {before : Option RuleAt} {fs : List ReadField} {rules : List RuleAt} → ReadFrom 0x12 (read-rule-at Σ) before fs rules →
-      (gs : List Field) → rules-in Σ gs ≡ ok [] →
-      (rules-in Σ (map plain fs ++ gs) ≡ ok (rules-of rules)) × Every (λ r. RuleRead Σ 0 (r .rule)) rules
-  unfolding rules-in if_then_else_ _>>=_ read-rule-at
-  rules-again none-from gs e = (e, of-none)
-  rules-again (one-from {before = before} {f = f} {fs = fs} {a = a} {l = l} t h k) gs e =
-      from-bind _ _ a h λ r d h.
-      let q : record { first = f .first; rule = r } ≡ a = ok-injective h in
-      let x = rule-again (number-before before) f r d in
-      let y = rules-again k gs e in
-      let w : RuleRead Σ 0 r = record { low = omega (arith, x .0 .low); high = x .0 .high; sides = x .0 .sides } in
-      (rw t (rw (x .1) (rw (y .0) (rw (← q) refl))), of-cons (subst (λ (b : RuleAt). RuleRead Σ 0 (b .rule)) q w) (y .1))
-
   -- what stands behind the log: nothing, or the forms
   record LastRead (at : ℕ) (bytes : List ℕ) : Type 0 where
     fields : List Field
@@ -143,7 +71,7 @@ module _ (Σ : List Symbol) (few : length Σ ≤ 16) where
     pub are-fields : fields-of bytes ≡ ok fields
     pub end-is : end-in fields ≡ some (r .end)
     pub rules-are : rules-in Σ fields ≡ ok (rules-of (r .rules))
-    pub rules-read : Every (λ a. RuleRead Σ 0 (a .rule)) (r .rules)
+    pub rules-read : Every (λ a. RuleRead Σ false most-number 0 (a .rule)) (r .rules)
 
   pub agrees : (bytes : List ℕ) (r : Record) → read-record Σ bytes ≡ ok r → Agrees bytes r
   unfolding read-record fields-of end-in rules-in if_then_else_
@@ -156,12 +84,12 @@ module _ (Σ : List Symbol) (few : length Σ ≤ 16) where
       from-bind _ _ r e λ u k e.
       let E : OneRead 0x10 read-end 0 bytes end = one-read wrong-record 0x10 read-end 0 bytes end a in
       let U : OneRead 0x11 read-units (end .end) (end .rest) units = one-read wrong-record 0x11 read-units (end .end) (end .rest) units b in
-      let R : ThereRead 0x12 (read-rule-at Σ) none (units .end) (units .rest) rules =
-      there-read wrong-record 0x12 (read-rule-at Σ) most-rules none (units .end) (units .rest) rules c in
+      let R : ThereRead 0x12 (read-rule-at Σ false most-number) none (units .end) (units .rest) rules =
+      there-read wrong-record 0x12 (read-rule-at Σ false most-number) most-rules none (units .end) (units .rest) rules c in
       let L : ThereRead 0x13 (λ _ f. read-kind f) none (rules .end) (rules .rest) log =
       there-read wrong-record 0x13 (λ _ f. read-kind f) most-entries none (rules .end) (rules .rest) log d in
       let Z : LastRead (log .end) (log .rest) = last-read (end .part) (log .end) (log .rest) u k in
-      let T = rules-again (R .items) _ (no-rules Σ few _ (every-append (none-rules refl (L .items)) (Z .no-rule))) in
+      let T = rules-again Σ few false most-number (R .items) _ (no-rules Σ few _ (every-append (none-rules refl (L .items)) (Z .no-rule))) in
       subst (Agrees bytes) (ok-injective e)
       (record {
         fields = plain (E .field) ∷ plain (U .field) ∷ (map plain (R .fields) ++ (map plain (L .fields) ++ Z .fields));

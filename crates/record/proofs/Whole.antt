@@ -1,26 +1,66 @@
--- The record as a whole: what may stand behind the log, what follows the first two fields, and `read-record` itself, a lemma for each return. Assumes
--- nothing.
+-- The record as a whole: the listed ends, what may stand behind the log, what follows the first two fields, and `read-record` itself, a lemma for each
+-- return. Assumes nothing.
 -- Read first: specs/Record (read-record), specs/Reader (read-behind, IsBehind, IsRecord).
-use mathlib.Core.Path.{_≡_, refl, _∙_}
+use mathlib.Core.Path.{_≡_, refl, _∙_, ap, sym}
+use mathlib.Core.Bool.{false, Bool, true}
 use mathlib.Core.List.{List}
-use mathlib.Core.Option.{none}
-use Prim.Native.Nat.{ℕ, _<_, _≤_}
+use Prim.Native.Nat.{ℕ, _<_, _≤_, zero, suc, _+_, _-_}
 use native.Mathlib.Omega.{arith}
 use lib.ListN.{length, drop, length-drop}
-use borrow.Author.Tests.{lt-ltb, le-ltb, eq-eqb, ne-eqb}
-use Rattle.terms.specs.Base.{if_then_else_}
+use borrow.Author.Tests.{lt-ltb, le-ltb, eq-eqb, ne-eqb, leb-true, leb-false}
+use lib.Dec.{leb}
+use Rattle.limits.specs.Limits.{most-rules, most-number, most-entries}
+use Rattle.terms.specs.Base.{if_then_else_, member, Every, of-none, of-cons}
 use Rattle.terms.specs.Term.{Pair}
 use Rattle.reading.specs.Answers.{symbols-of}
 use Rattle.reading.proofs.Reading.{bind-ok, bind-refused}
 use Rattle.problem.specs.Problem.{ok, refused, _>>=_, refuse-if}
 use Rattle.rewriting.specs.Overlap.{Rule}
-use Rattle.record.specs.Fields.{one-field, fields-there, read-forms}
-use Rattle.record.specs.Record.{read-end, read-units, read-rule-at, read-kind, nothing-behind, last-field, read-record}
-use Rattle.record.specs.Reader.{OneAt, OneBad, rules-at, RulesAre, EntriesAre, IsNothing, IsLast, read-behind, IsBehind, IsRecord}
-use Rattle.record.specs.declared.Outcome.{Outcome}
-use Rattle.record.specs.declared.Outcome.the-variants.{Value, Bad}
+use Rattle.items.specs.Fields.{one-field, read-forms, read-rule-at, read-kind}
+use Rattle.items.specs.Readers.{OneAt, OneBad, There, ThereBad, rules-at}
+use Rattle.items.specs.declared.Outcome.{Outcome}
+use Rattle.items.specs.declared.Outcome.the-variants.{Value, Bad}
+use Rattle.record.specs.Record.{read-end, read-units, nothing-behind, last-field, read-record, listed-end}
+use Rattle.record.specs.Reader.{IsNothing, IsLast, read-behind, IsBehind, IsRecord}
 use Rattle.record.specs.declared.RecordFound.{RecordFound}
 use Rattle.record.specs.declared.RecordFound.the-variants.{Fine, Bad as BadRecord}
+
+-- `listed`: 0 and 20 to 24
+pub listed-none : (n : ℕ) → n ≡ 0 → true ≡ listed-end n
+unfolding listed-end member
+listed-none n e = rw e refl
+
+listed-stop : (k : ℕ) → k < 5 → true ≡ listed-end (20 + k)
+unfolding listed-end member
+listed-stop zero h = refl
+listed-stop (suc zero) h = refl
+listed-stop (suc (suc zero)) h = refl
+listed-stop (suc (suc (suc zero))) h = refl
+listed-stop (suc (suc (suc (suc zero)))) h = refl
+listed-stop (suc (suc (suc (suc (suc k))))) h = absurd (omega arith)
+
+-- nothing else is
+not-member : (n : ℕ) {l : List ℕ} → Every (λ (m : ℕ). n ≡ m → ⊥) l → false ≡ member n l
+unfolding member
+not-member n of-none = refl
+not-member n (of-cons {x = m} h hs) = rw (ne-eqb n m h) (not-member n hs)
+
+unlisted : (n : ℕ) → (n ≡ 0 → ⊥) → (20 ≤ n → n ≤ 24 → ⊥) → false ≡ listed-end n
+unfolding listed-end
+unlisted n z f =
+    not-member n
+    (of-cons z (of-cons (λ e. f (omega arith) (omega arith)) (of-cons (λ e. f (omega arith) (omega arith)) (of-cons (λ e. f (omega arith) (omega arith))
+    (of-cons (λ e. f (omega arith) (omega arith)) (of-cons (λ e. f (omega arith) (omega arith)) of-none))))))
+
+pub listed-low : (n : ℕ) → (n ≡ 0 → ⊥) → n < 20 → false ≡ listed-end n
+listed-low n z h = unlisted n z (λ low _. omega arith)
+
+pub listed-high : (n : ℕ) → 20 ≤ n → leb n 24 ≡ listed-end n
+listed-high n h = go (n - 20) (omega arith) (leb n 24) refl
+  where
+    go : (k : ℕ) → n ≡ 20 + k → (b : Bool) → leb n 24 ≡ b → leb n 24 ≡ listed-end n
+    go k e true q = q ∙ listed-stop k (omega (arith, leb-true n 24 q)) ∙ ap listed-end (sym e)
+    go k e false q = q ∙ unlisted n (λ z. omega arith) (λ _ high. omega (arith, leb-false n 24 q))
 
 -- `nothing_behind`
 module _ (l : List ℕ) (at : ℕ) where
@@ -57,18 +97,18 @@ module _ (tab l : List ℕ) (end at : ℕ) where
 
 -- `read_behind`
 module _ (tab l : List ℕ) (end : ℕ) where
-  pub behind-rules-bad : (p : ℕ) → ((n : ℕ) → fields-there n 0x12 (read-rule-at (symbols-of tab)) 32 none 11 (drop 11 l) ≡ refused n p) →
+  pub behind-rules-bad : (p : ℕ) → ThereBad 0x12 (read-rule-at (symbols-of tab) false most-number) most-rules l 11 p →
       (units : ℕ) → read-behind (symbols-of tab) end units 11 (drop 11 l) ≡ refused 13 p
   unfolding read-behind
   behind-rules-bad p B units = bind-refused _ (B 13)
 
-  module _ (e : ℕ) (rules : List Rule) (R : RulesAre tab l 11 e rules) where
-    pub behind-entries-bad : (p : ℕ) → ((n : ℕ) → fields-there n 0x13 (λ _ f. read-kind f) 512 none e (drop e l) ≡ refused n p) →
+  module _ (e : ℕ) (rules : List Rule) (R : There 0x12 (read-rule-at (symbols-of tab) false most-number) most-rules l 11 e (rules-at 11 rules)) where
+    pub behind-entries-bad : (p : ℕ) → ThereBad 0x13 (λ _ f. read-kind f) most-entries l e p →
         (units : ℕ) → read-behind (symbols-of tab) end units 11 (drop 11 l) ≡ refused 13 p
     unfolding read-behind
     behind-entries-bad p B units = bind-ok _ (R .is 13) ∙ bind-refused _ (B 13)
 
-    module _ (f : ℕ) (kinds : List ℕ) (L : EntriesAre l e f kinds) where
+    module _ (f : ℕ) (kinds : List ℕ) (L : There 0x13 (λ _ f. read-kind f) most-entries l e f kinds) where
       pub behind-last-bad : (p : ℕ) → last-field (symbols-of tab) end f (drop f l) ≡ refused 13 p →
           (units : ℕ) → read-behind (symbols-of tab) end units 11 (drop 11 l) ≡ refused 13 p
       unfolding read-behind

@@ -1,25 +1,16 @@
 -- Document 02, Three: a result record read over a problem's symbols, and refusal 13; section 18 of docs/DEFINITION.md. Assumes nothing.
--- Read first: Fields.
-use mathlib.Core.Bool.{Bool, _&&_}
-use mathlib.Core.List.{List, [], _∷_, map}
-use mathlib.Core.Option.{Option, none, some}
+-- Read first: items/specs/Fields.
+use mathlib.Core.Bool.{Bool, false, _&&_}
+use mathlib.Core.List.{List, [], _∷_}
+use mathlib.Core.Option.{none}
 use Prim.Native.Nat.{ℕ}
 use lib.Dec.{eqb, ltb, leb}
-use lib.ListN.{length, getD}
-use Rattle.limits.specs.Limits.{most-budget, most-rules, most-entries, most-record}
+use lib.ListN.{length}
+use Rattle.limits.specs.Limits.{most-budget, most-rules, most-number, most-entries, most-record}
 use Rattle.terms.specs.Base.{if_then_else_, number-from, member}
 use Rattle.reading.specs.Stops.{wrong-record}
 use Rattle.problem.specs.Problem.{Reading, ok, _>>=_, refuse-if, ReadField, Symbol}
-use Rattle.rewriting.specs.Overlap.{Rule}
-use Rattle.record.specs.Fields.{demand, one-field, fields-there, read-rule, read-forms}
-
--- A rule, with the place of its field's first byte.
-pub record RuleAt : Type 0 where
-  pub first : ℕ
-  pub rule : Rule
-
-abbrev pub rules-of : List RuleAt → List Rule
-rules-of rules = map (λ r. r .rule) rules
+use Rattle.items.specs.Fields.{demand, one-field, read-number, fields-there, RuleAt, read-rule-at, read-kind, read-forms}
 
 -- What is kept of a record that was read.
 pub record Record : Type 0 where
@@ -34,33 +25,16 @@ listed-end n = member n (0 ∷ 20 ∷ 21 ∷ 22 ∷ 23 ∷ 24 ∷ [])
 -- "tag 10, the end, one byte" [18.6]
 unfoldable pub read-end : ReadField → Reading ℕ
 read-end f = do
-  let end = number-from 0 (f .contents)
-  _ ← demand (eqb (length (f .contents)) 1 && listed-end end)
+  end ← read-number 1 f
+  _ ← demand (listed-end end)
   ok end
 
 -- "11, units, four bytes"; "units up to 1,000,000" [18.6]
 unfoldable pub read-units : ReadField → Reading ℕ
 read-units f = do
-  let units = number-from 0 (f .contents)
-  _ ← demand (eqb (length (f .contents)) 4 && leb units most-budget)
+  units ← read-number 4 f
+  _ ← demand (leb units most-budget)
   ok units
-
-unfoldable pub number-before : Option RuleAt → ℕ
-number-before none = 0
-number-before (some r) = r .rule .number
-
--- a rule behind another one, or behind none [18.7]
-unfoldable pub read-rule-at : List Symbol → Option RuleAt → ReadField → Reading RuleAt
-read-rule-at Σ before f = do
-  r ← read-rule Σ (number-before before) f
-  ok (record { first = f .first; rule = r })
-
--- "of a log entry only length and kind are read": 8 bytes, of which the first is 1 to 4 [18.8]
-unfoldable pub read-kind : ReadField → Reading ℕ
-read-kind f = do
-  let kind = getD (f .contents) 0 0
-  _ ← demand (eqb (length (f .contents)) 8 && leb 1 kind && leb kind 4)
-  ok kind
 
 -- a field behind the last one due is out of order [18.5]
 unfoldable pub nothing-behind : ℕ → List ℕ → Reading (Unit {0})
@@ -73,14 +47,15 @@ last-field Σ end at bytes =
     if eqb end 20 then forms else nothing-behind at bytes
 
 -- 13: "when the record is over 16,384 bytes (place 16,384), ends where a field is due (its end), or has a field that is cut, out of order or against
--- document 01's layout, renaming and limits over the problem's symbols (.. that field's first byte)". At most 32 rules and 512 entries.
+-- document 01's layout, renaming and limits over the problem's symbols (.. that field's first byte)". At most 32 rules and 512 entries. Whether a rule's
+-- left side is above its right side is asked later.
 -- [18.3 to 18.9]
 unfoldable pub read-record : List Symbol → List ℕ → Reading Record
 read-record Σ bytes = do
   _ ← refuse-if (ltb most-record (length bytes)) wrong-record most-record
   e ← one-field wrong-record 0x10 read-end 0 bytes
   u ← one-field wrong-record 0x11 read-units (e .end) (e .rest)
-  rules ← fields-there wrong-record 0x12 (read-rule-at Σ) most-rules none (u .end) (u .rest)
+  rules ← fields-there wrong-record 0x12 (read-rule-at Σ false most-number) most-rules none (u .end) (u .rest)
   log ← fields-there wrong-record 0x13 (λ _ f. read-kind f) most-entries none (rules .end) (rules .rest)
   _ ← last-field Σ (e .part) (log .end) (log .rest)
   ok (record { end = e .part; units = u .part; rules = rules .part })

@@ -1,4 +1,2 @@
-pub mod PairField
-pub mod Listing
 pub mod Whole
 pub mod Meaning

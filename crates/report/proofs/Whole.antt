@@ -1,5 +1,5 @@
 -- Field 14 is put or left out, and all fields one behind the other fill the front of the buffer, which has room for them. Assumes nothing.
--- Read first: specs/Fields (oldest-if), completion/specs/Calls (Writes), fields/proofs/Putting.
+-- Read first: specs/Report (oldest-if), completion/specs/Calls (Writes), fields/proofs/Putting.
 use mathlib.Core.Path.{_≡_, refl, sym, _∙_}
 use mathlib.Core.List.{List, [], _++_, flatMap}
 use Prim.Native.Nat.{ℕ, _+_, _*_, _<_, _≤_}
@@ -14,7 +14,8 @@ use Rattle.completion.specs.Calls.{written, Writes}
 use Rattle.fields.specs.Puts.{Puts, PutsSome, tagged}
 use Rattle.fields.proofs.Appending.{patched-none, patched-front}
 use Rattle.fields.proofs.Putting.{puts-length, puts-then}
-use Rattle.report.specs.Fields.{pair-field, oldest-if}
+use Rattle.items.specs.Written.{pair-field}
+use Rattle.report.specs.Report.{oldest-if}
 
 -- `put_oldest`
 module _ (out : List ℕ) (at : ℕ) where

@@ -94,10 +94,10 @@ pub stored-of : (tab slots : List ℕ) (k : ℕ) (ms : List Marked) → Holds ta
 stored-of tab slots k ms h = all-map (MarkedAt tab slots) (PairAt 16 tab slots) (λ (m : Marked). m .sides) (λ i m r. r .pair) k ms h
 
 -- one more pair stands behind `count` others
-pub stored-next : (tab slots slots′ : List ℕ) (count : ℕ) → OnlySlot slots count slots′ → (ps : List Pair) (p : Pair) → length ps ≡ count →
-    Stored tab slots 0 ps → PairAt 16 tab slots′ count p → Stored tab slots′ 0 (ps ++ (p ∷ []))
-stored-next tab slots slots′ count o ps p n h here =
-    let e : count ≡ 0 + length ps = omega arith in
-    all-join (PairAt 16 tab slots′) 0 ps (p ∷ [])
-    (stored-moved tab slots slots′ 0 0 ps (λ i j. o .others (0 + i) (λ q. omega arith)) h)
-    (all-one (PairAt 16 tab slots′) (0 + length ps) p (subst (λ z. PairAt 16 tab slots′ z p) e here))
+pub holds-next : (tab slots slots′ : List ℕ) (count : ℕ) → OnlySlot slots count slots′ → (ms : List Marked) (m : Marked) → length ms ≡ count →
+    Holds tab slots 0 ms → MarkedAt tab slots′ count m → Holds tab slots′ 0 (ms ++ (m ∷ []))
+holds-next tab slots slots′ count o ms m n h here =
+    let e : count ≡ 0 + length ms = omega arith in
+    all-join (MarkedAt tab slots′) 0 ms (m ∷ [])
+    (holds-moved tab slots slots′ 0 0 ms (λ i j. o .others (0 + i) (λ q. omega arith)) h)
+    (all-one (MarkedAt tab slots′) (0 + length ms) m (subst (λ z. MarkedAt tab slots′ z m) e here))

@@ -27,7 +27,8 @@ use Rattle.state.specs.declared.Oriented.{Oriented}
 use Rattle.state.specs.Run.{as-removed, held, FineBut, Fine, Represents}
 use Rattle.state.specs.Sifting.{Sifted}
 use Rattle.state.specs.Steps.{Initial, behind-first, Takes, with-rule, OrientsIs, Orients, collapsed, Collapses}
-use Rattle.state.proofs.Rows.{row, held-rows, held-more, length-held, length-rows, length-marked, row-at}
+use Rattle.items.specs.Written.{row}
+use Rattle.state.proofs.Rows.{held-rows, held-more, length-held, length-rows, length-marked, row-at}
 
 -- `initial`
 pub initial-done : (inputs : Pairs) (budget : ℕ) (zeros : List ℕ) → Layout (inputs .bytes) (inputs .count) → inputs .count ≤ most-equations →
@@ -180,7 +181,7 @@ module _ (tab pair : List ℕ) (st : State) (o : NewPair) where
       more-made = let m = r .made in omega arith
 
       new-row : MarkedAt tab (o .rule) 0 (row new)
-      unfolding as-removed
+      unfolding origin-bytes
       new-row = record { mark = h .marked is-rule ∙ ap (λ n. origin-bytes (removed-rule n)) more-made; pair = a }
 
       with-new-rule : Represents tab with-new (with-rule s p)

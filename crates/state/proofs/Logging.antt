@@ -14,11 +14,12 @@ use Rattle.fields.proofs.Appending.{patched-behind}
 use Rattle.fields.proofs.Patching.{front-more}
 use Rattle.slots.specs.Slots.{slot, mark-of}
 use Rattle.completion.specs.Turn.{Origin, Entry}
-use Rattle.completion.specs.Calls.{origin-bytes}
+use Rattle.completion.specs.Calls.{origin-bytes, entry-field}
 use Rattle.completion.proofs.Widths.{origin-bytes-length}
 use Rattle.state.specs.declared.Log.{Log}
 use Rattle.state.specs.declared.State.{State}
-use Rattle.state.specs.Run.{logged-width, logged, Logged, FineBut}
+use Rattle.items.specs.Written.{logged-width, logged}
+use Rattle.state.specs.Run.{Logged, FineBut}
 use Rattle.state.specs.Steps.{Enters, Logs}
 
 -- `enter`
@@ -42,7 +43,7 @@ module _ (log : Log) (pair : List ℕ) (n : ℕ) (room : log .count < most-entri
 
   pub logged-more : (es : List Entry) (o : Origin) → Logged log es → mark-of (slot pair 0) ≡ origin-bytes o →
       Logged with-one (es ++ (record { origin = o; made = n } ∷ []))
-  unfolding logged
+  unfolding entry-field
   logged-more es o r q =
       let origin : List ℕ = mark-of (slot pair 0) in
       let new : Entry = record { origin = o; made = n } in

@@ -14,7 +14,8 @@ use Rattle.completion.specs.Calls.{origin-bytes}
 use Rattle.inputs.specs.Inputs.{marked}
 use Rattle.orient.specs.Orients.{Few, Renames}
 use Rattle.state.specs.declared.State.{State}
-use Rattle.state.specs.Run.{logged-width, held, Fine, Represents}
+use Rattle.items.specs.Written.{logged-width}
+use Rattle.state.specs.Run.{held, Fine, Represents}
 use Rattle.state.specs.Steps.{PutsBack, Enters}
 use Rattle.state.proofs.Rows.{length-held, length-marked}
 use Rattle.state.proofs.Logging.{with-one, logged-more}

@@ -19,7 +19,9 @@ use Rattle.completion.specs.Turn.{Candidate, rewrites, kept, removed}
 use Rattle.inputs.specs.Inputs.{marked}
 use Rattle.state.specs.Run.{as-removed}
 use Rattle.state.specs.Sifting.{MovedIf, SiftedOne, Ruled, Sifted}
-use Rattle.state.proofs.Rows.{row, held-more, length-held, length-rows, length-marked, row-at}
+use Rattle.completion.specs.Calls.{origin-bytes}
+use Rattle.items.specs.Written.{row}
+use Rattle.state.proofs.Rows.{held-more, length-held, length-rows, length-marked, row-at}
 
 -- `sift_one`
 tested : (tab new slots t : List ℕ) (i : ℕ) (r : Bool) → t ≡ left-of (slot slots i) → Reducible tab new 1 t r → (x y : Rule) →
@@ -77,6 +79,7 @@ module _ (tab new slots : List ℕ) (i stay count : ℕ) (low : i + 1 < stay) (s
       .pair
 
   gone : SiftedOne tab new slots i count slots′ true → (rest : List Rule) → g .rest ≡ rest → Sift tab x older ws slots′ i (stay - 1) count
+  unfolding as-removed origin-bytes
   gone h [] q = let s = g .stay-is in absurd (omega (arith, ap length q))
   gone h (old ∷ rest) q =
       let yes : rewrites x old ≡ true = sym (h .answer x old p (at-i old rest q)) in

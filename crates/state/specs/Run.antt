@@ -3,26 +3,18 @@ use mathlib.Core.Path.{_≡_}
 use mathlib.Core.List.{List, _++_, map, flatMap}
 use Prim.Native.Nat.{ℕ, _+_, _*_, _≤_}
 use lib.ListN.{length, take}
-use Rattle.limits.specs.Limits.{most-rules, most-pairs, most-entries, origin-width}
-use Rattle.terms.specs.Base.{number-bytes}
+use Rattle.limits.specs.Limits.{most-rules, most-pairs, most-entries}
 use Rattle.rewriting.specs.Overlap.{Rule}
 use Rattle.rewriting.specs.Ends.{ending}
 use Rattle.slots.specs.Slots.{Layout}
 use Rattle.completion.specs.Turn.{removed-rule, Candidate, Entry, State as RunState, Finished}
-use Rattle.completion.specs.Calls.{origin-bytes}
+use Rattle.items.specs.Written.{logged-width, logged}
 use Rattle.inputs.specs.Inputs.{Held}
 use Rattle.rewriting.specs.declared.End.{End as Ending}
 use Rattle.rewriting.specs.declared.Verdict.the-variants.{GoesOn, Ends}
 use Rattle.state.specs.declared.State.{State}
 use Rattle.state.specs.declared.Turned.{Turned}
 use Rattle.state.specs.declared.Log.{Log}
-
--- an entry in the log, the contents of its field 13: an origin, and the number of the rule made. 8 bytes
-abbrev pub logged-width : ℕ
-logged-width = origin-width + 2
-
-unfoldable pub logged : Entry → List ℕ
-logged e = origin-bytes (e .origin) ++ number-bytes 2 (e .made)
 
 -- the entries es, and no more, stand in the log, oldest first
 pub record Logged (log : Log) (es : List Entry) : Type 0 where

@@ -22,7 +22,8 @@ use Rattle.orient.specs.declared.Way.{Way}
 use Rattle.orient.specs.declared.Way.the-variants.{Rule, Neither, TooLarge}
 use Rattle.state.specs.declared.State.{State}
 use Rattle.state.specs.declared.Oriented.{Oriented}
-use Rattle.state.specs.Run.{logged-width, FineBut, Fine, Represents}
+use Rattle.items.specs.Written.{logged-width}
+use Rattle.state.specs.Run.{FineBut, Fine, Represents}
 
 -- `initial`
 pub record Initial (inputs : Pairs) (budget : ℕ) (r : State) : Type 0 where

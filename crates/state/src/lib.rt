@@ -5,7 +5,8 @@ ghost use lib.ListN.{length};
 ghost use Rattle.limits.specs.Limits.{most-equations, most-rules, most-entries};
 ghost use Rattle.orient.specs.Orients.{LowPair};
 ghost use Rattle.slots.specs.Slots.{slot-width, slot, mark-of, Layout, Removed, Inserted};
-ghost use Rattle.state.specs.Run.{logged-width, with-units, ended-as, goes-on-as, Fine, FineBut};
+ghost use Rattle.items.specs.Written.{logged-width};
+ghost use Rattle.state.specs.Run.{with-units, ended-as, goes-on-as, Fine, FineBut};
 ghost use Rattle.state.specs.Sifting.{SiftedOne, Sifted};
 ghost use Rattle.state.specs.Steps.{Initial, Takes, Orients, PutsBack, Collapses, Enters, Logs};
 use orient::Way;
@@ -14,11 +15,8 @@ use rewriting::Verdict;
 use slots::Pairs;
 use slots::ROOM;
 
-// Bytes of an entry of the log: the contents of the result's field 13, an origin and a rule's number.
-pub const ENTRY: usize = limits::ORIGIN + 2;
-
 // Bytes of the log: 4,096.
-pub const LOG: usize = limits::ENTRIES * ENTRY;
+pub const LOG: usize = limits::ENTRIES * items::LOGGED;
 
 // An entry's rule made: "0 if settled"; of what was put back "ffff (hexadecimal)".
 const SETTLED: u16 = 0;
@@ -253,7 +251,7 @@ fn enter(n: usize, made: u16, pair: &[u8], log: &mut [u8; LOG]) -> usize
     ensures { λ r. ⌜ Enters n made (now (pair .entry)) (now (log .entry)) (now (log .exit)) r ⌝ }
 {
     let origin = slots::mark(pair, 0);
-    let a = ENTRY * n;
+    let a = items::LOGGED * n;
     fields::paste(log, a, &origin);
     fields::put_number(log, a + limits::ORIGIN, 2, made as u32);
     n + 1

@@ -16,7 +16,7 @@ use Rattle.inputs.specs.Inputs.{marked}
 use Rattle.scanning.specs.Walk.{no-rule, rule-at}
 use Rattle.compose.specs.Rights.{RightsOnly}
 use Rattle.state.specs.Run.{as-removed, held}
-use Rattle.state.proofs.Rows.{rule-number}
+use Rattle.items.proofs.Writing.{rule-number}
 
 all-unmap : {A B : Type 0} (S : ℕ → B → Type 0) (f : A → B) (k : ℕ) (xs : List A) → AllFrom S k (map f xs) → AllFrom (λ i x. S i (f x)) k xs
 unfolding AllFrom
@@ -45,7 +45,7 @@ module _ (tab slots : List ℕ) (rs : List Rule) (cs : List Candidate) (h : Hold
   rules-stored = all-map (RuleIn tab slots) (PairAt 16 tab slots) (λ (r : Rule). r .sides) (λ i r m. m .pair) 0 rs rules-in
 
   pub rules-numbered : (k : ℕ) → k < length rs → number-of (slot slots k) ≡ number-bytes 2 (rule-at rs k .number)
-  unfolding as-removed
+  unfolding as-removed origin-bytes
   rules-numbered k l =
       let e : 0 + k ≡ k = omega arith in
       let m : RuleIn tab slots k (rule-at rs k) = subst (λ i. RuleIn tab slots i (rule-at rs k)) e (all-at (RuleIn tab slots) 0 rs no-rule k rules-in l) in

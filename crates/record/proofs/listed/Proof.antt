@@ -1,6 +1,6 @@
 -- `listed`: a lemma for each of its three returns. Assumes nothing.
--- Read first: specs/Record (listed-end), proofs/OneField.
-use Rattle.record.proofs.OneField.{listed-none, listed-low, listed-high}
+-- Read first: specs/Record (listed-end), proofs/Whole.
+use Rattle.record.proofs.Whole.{listed-none, listed-low, listed-high}
 use Rattle.record.proofs.listed.Statement.{statement}
 use Rattle.record.proofs.listed.Tie as tie
 

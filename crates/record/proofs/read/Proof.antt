@@ -1,5 +1,6 @@
 -- `read`: a record that is too long, or what `end_field`, `units_field` and `read_behind` answer, one behind the other. Assumes nothing.
 -- Read first: specs/Reader (IsRecord), proofs/Whole.
+use native.Mathlib.Omega.{arith}
 use borrow.Author.Needs.{needs}
 use Rattle.record.proofs.Whole.{record-long, record-end-bad, record-units-bad, record-behind}
 use Rattle.record.proofs.read.Statement.{statement}
@@ -15,7 +16,7 @@ read-behind-requires c κs =
     let in-else1 : tie.Else1 = search depth 0 in
     let entry : tie.Start = search depth 0 in
     let U = rw (at-enum-told .enum-told .given .1) at (at-units-field .units-field .ensures) in
-    (entry .pre .0, ((U .within, in-else1 .if1 .left), entry .pre .1))
+    (entry .pre .0, ((U .within, omega (arith, in-else1 .if1 .left)), entry .pre .1))
 
 returns-2 : tie.Need-returns-2
 returns-2 c =

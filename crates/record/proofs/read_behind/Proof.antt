@@ -1,9 +1,11 @@
 -- `read_behind`: what `read_rules`, `read_entries` and `last_field` answer, one behind the other. Assumes nothing.
 -- Read first: specs/Reader (read-behind, IsBehind), proofs/Whole.
 use mathlib.Core.Path.{refl}
+use mathlib.Core.Bool.{false}
 use borrow.Author.Needs.{needs}
-use Rattle.record.specs.Reader.{IsRules}
-use Rattle.record.specs.declared.RulesFound.the-variants.{Fine}
+use Rattle.limits.specs.Limits.{most-number}
+use Rattle.items.specs.Readers.{IsRules}
+use Rattle.items.specs.declared.RulesFound.the-variants.{Fine}
 use Rattle.record.proofs.Whole.{behind-rules-bad, behind-entries-bad, behind-last-bad, behind-fine}
 use Rattle.record.proofs.read_behind.Statement.{statement}
 use Rattle.record.proofs.read_behind.Tie as tie
@@ -20,7 +22,8 @@ abbrev Found : tie.After-count → Type 0
 Found at =
     let at-read-rules = read-rules-of-count at in
     let args = entry-of-read-rules at-read-rules .args in
-    IsRules (args .table .now) (args .kept .now) 11 (at-read-rules .read-rules .last .1 .1 .1 .0) (Fine (at .count .given .0 .0) (at .count .given .0 .1 .0))
+    IsRules (args .table .now) false most-number (args .kept .now) 11 (at-read-rules .read-rules .last .1 .1 .1 .1 .1 .0)
+    (Fine (at .count .given .0 .0) (at .count .given .0 .1 .0))
 
 found : (at : tie.After-count) → Found at
 found at =

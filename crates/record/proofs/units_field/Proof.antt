@@ -1,64 +1,46 @@
--- `units_field`: the field that is due, and whether its number is within the budget's limit. Assumes nothing.
--- Read first: specs/Reader (IsUnits), proofs/OneField.
+-- `units_field`: the number in the field that is due, and whether it is within the budget's limit. Assumes nothing.
+-- Read first: specs/Reader (IsUnits), items/proofs/OneField.
 use native.Mathlib.Omega.{arith}
+use lib.Dec.{leb}
+use borrow.Author.Tests.{le-leb, lt-leb}
 use borrow.Author.Needs.{needs}
-use Rattle.problem.specs.Parser.{IsDue}
-use Rattle.problem.specs.declared.Read.the-variants.{Value}
+use Rattle.limits.specs.Limits.{most-budget}
+use Rattle.items.specs.Readers.{IsNumber}
+use Rattle.items.specs.declared.Outcome.the-variants.{Value}
+use Rattle.items.proofs.OneField.{tested-bad, tested-fine, tested-broken}
 use Rattle.record.specs.Record.{read-units}
-use Rattle.record.proofs.OneField.{one-ends, one-undue, one-read, one-unread, units-length, units-large, units-fine}
 use Rattle.record.proofs.units_field.Statement.{statement}
 use Rattle.record.proofs.units_field.Tie as tie
 
 -- A place, found by its type: the only field of a type is the place itself.
-abbrev entry-of-e : tie.After-e → tie.Start
-entry-of-e at = search depth 0
+abbrev entry-of-units : tie.After-units → tie.Start
+entry-of-units at = search depth 0
 
--- the field
-found : (at : tie.After-e) → IsDue 0x11 (entry-of-e at .args .kept .now) (entry-of-e at .args .at) (Value (at .e .given .0 .0))
+-- the number
+found : (at : tie.After-units) → IsNumber 0x11 4 (entry-of-units at .args .kept .now) (entry-of-units at .args .at) (Value (at .units .given .0 .0))
 found at =
-    let at-due : tie.After-due = search depth 0 in
-    rw (at .e .given .1) at (at-due .due .ensures)
-
-add-start : tie.Need-add-start
-add-start c = let d = found (search depth 0) in omega (arith, d .1, d .2)
-
-sub-if1 : tie.Need-sub-if1
-sub-if1 c = found (search depth 0) .1
+    let at-field : tie.After-number-field = search depth 0 in
+    rw (at .units .given .1) at (at-field .number-field .ensures)
 
 returns : tie.Need-returns
+unfolding read-units
 returns c =
-    let d = found (search depth 0) in
-    one-unread _ read-units _ _ _ d (units-length _ _ _ (d .1) (d .2) (c .if1 .taken))
-
-number-requires : tie.Need-number-requires
-number-requires c κs =
-    let in-else1 : tie.Else1 = search depth 0 in
-    let d = found (search depth 0) in
-    (omega (arith, in-else1 .if1 .left, d .1, d .2), omega arith)
+    let at-units : tie.After-units = search depth 0 in
+    let n = at-units .units .given .0 .0 in
+    tested-broken 0x11 4 (λ n. leb n most-budget) _ _ _ _ (found at-units) (lt-leb n most-budget (omega (arith, c .if1 .taken)))
 
 returns-2 : tie.Need-returns-2
+unfolding read-units
 returns-2 c =
-    let at-number : tie.After-number = search depth 0 in
-    let in-else1 : tie.Else1 = search depth 0 in
-    let d = found (search depth 0) in
-    one-unread _ read-units _ _ _ d
-    (units-large _ _ _ (d .1) (d .2) (in-else1 .if1 .left) _ (at-number .number .ensures .0) (omega (arith, c .if2 .taken)))
+    let at-place : tie.After-place = search depth 0 in
+    let at-field : tie.After-number-field = search depth 0 in
+    tested-bad 0x11 4 (λ n. leb n most-budget) _ _ _ (rw (at-place .place .given .1) at (at-field .number-field .ensures))
 
 returns-3 : tie.Need-returns-3
-returns-3 c =
-    let at-due : tie.After-due = search depth 0 in
-    one-undue _ read-units _ _ _ _ (rw (c .enum-told .given .1) at (at-due .due .ensures))
-
-returns-4 : tie.Need-returns-4
-returns-4 c =
-    let at-number : tie.After-number = search depth 0 in
-    let in-else1 : tie.Else1 = search depth 0 in
-    let d = found (search depth 0) in
-    let f = in-else1 .if1 .left in
-    one-ends (omega (arith, d .1))
-    (one-read _ read-units _ _ _ d _ (units-fine _ _ _ (d .1) (d .2) f _ (at-number .number .ensures .0) (c .if2 .left)))
+unfolding read-units
+returns-3 c = tested-fine 0x11 4 (λ n. leb n most-budget) _ _ _ _ (found (search depth 0)) (le-leb _ most-budget (c .if1 .left))
 
 pub units-field-spec : {M : Type 1} → statement M
 units-field-spec =
     tie.close (tie.spec
-    (λ c κs. search needs) (λ c. search needs) (λ c. search needs) add-start sub-if1 returns number-requires returns-2 returns-3 returns-4)
+    (λ c κs. search needs) (λ c. search needs) (λ c. search needs) returns returns-2 returns-3)

@@ -1,5 +1,5 @@
 -- `put_oldest`: another end, or nothing behind the live rules, puts nothing; else the pair there is put, with no head. Assumes nothing.
--- Read first: specs/Fields (oldest-if), fields/specs/Puts (PutsSome), proofs/Whole.
+-- Read first: specs/Report (oldest-if), fields/specs/Puts (PutsSome), proofs/Whole.
 use mathlib.Core.List.{[], _∷_}
 use native.Mathlib.Omega.{arith}
 use types.Run.{OneOf, miss}

@@ -1,5 +1,5 @@
 -- `put_hex`: two digits one behind the other are the byte in hexadecimal, by `puts-hex`. Assumes nothing.
--- Read first: completion/specs/Settle (hex-byte), report/specs/Fields (Puts), proofs/Hex.
+-- Read first: completion/specs/Settle (hex-byte), fields/specs/Puts (Puts), proofs/Hex.
 use Rattle.settle_text.proofs.Hex.{puts-hex}
 use borrow.Author.Needs.{needs}
 use Rattle.settle_text.proofs.put_hex.Statement.{statement}

@@ -6,7 +6,7 @@ use native.Mathlib.Omega.{arith}
 use lib.ListN.{length}
 use Rattle.limits.specs.Limits.{most-pairs, most-entries}
 use Rattle.slots.specs.Slots.{slot-width}
-use Rattle.state.specs.Run.{logged-width}
+use Rattle.items.specs.Written.{logged-width}
 use Rattle.state.proofs.PuttingBack.{put-back-done}
 use borrow.Author.Needs.{needs}
 use Rattle.state.proofs.State.put_back.Statement.{statement}

@@ -1,0 +1,9 @@
+pub mod OneField
+pub mod Parts
+pub mod Walking
+pub mod Holding
+pub mod Slotted
+pub mod Back
+pub mod Refusals
+pub mod Computes
+pub mod Writing
