@@ -1,6 +1,6 @@
 -- What a record's readers come to: refusal 13 at places of at most 16,384, and where the rules' fields begin. A caller's number is the caller's.
 -- Assumes nothing.
--- Read first: reading/proofs/Refusals (Within, Behind), problem/proofs/Refusals, specs/Record.
+-- Read first: reading/proofs/Refusals (Within, Behind), items/proofs/Refusals, specs/Record.
 use mathlib.Core.Path.{refl}
 use mathlib.Core.Bool.{Bool, true, false}
 use mathlib.Core.List.{List}

@@ -1,6 +1,6 @@
 -- A result that keeps the limits is read back as what was written: its end, its units, and its rules with the places of their fields. So 13 is not
 -- given for it. Assumes nothing.
--- Read first: specs/Record, specs/Reader (rules-at), completion/specs/Keeps, items/proofs/Back.
+-- Read first: specs/Record, items/specs/Readers (rules-at), completion/specs/Keeps, items/proofs/Back.
 use mathlib.Core.Path.{_≡_, refl, ap, _∙_}
 use mathlib.Core.Bool.{false, true}
 use mathlib.Core.List.{List, [], _∷_, _++_, map, flatMap, append-assoc}
