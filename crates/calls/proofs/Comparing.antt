@@ -3,8 +3,6 @@
 use mathlib.Core.Path.{_≡_, ap, sym, _∙_}
 use mathlib.Core.List.{List}
 use Prim.Native.Nat.{ℕ, _≤_}
-use native.Mathlib.Omega.{arith}
-use lib.ListN.{length, length-drop}
 use Rattle.terms.proofs.Starts.{from, from-drop}
 use Rattle.order.specs.Order.{comparison}
 use Rattle.order.specs.Walk.{rank, IsCompared}
@@ -34,9 +32,6 @@ named-identical n h = ap ok (sym h)
 pub named-neither : (n : ℕ) → n ≡ 4 → compared-told Neither ≡ ok n
 unfolding compared-told
 named-neither n h = ap ok (sym h)
-
-pub part-small : (l : List ℕ) (a : ℕ) → length l ≤ 8192 → length (from l a) ≤ 65536
-part-small l a h = omega (arith, ap length (from-drop l a), length-drop a l)
 
 module _ (l : List ℕ) where
   pub compare-unread : (n p : ℕ) → parse-single l ≡ refused n p → compared-told (Unread n p) ≡ compare-call l

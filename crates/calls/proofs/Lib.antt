@@ -1,4 +1,3 @@
 pub mod Comparing
 pub mod Unifying
 pub mod Parts
-mod Sides

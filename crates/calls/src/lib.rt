@@ -3,9 +3,12 @@ ghost use mathlib.Core.Path.{_≡_};
 ghost use Prim.Native.Nat.{_≤_};
 ghost use lib.Dec.{eqb};
 ghost use lib.ListN.{length};
+ghost use Rattle.limits.specs.Limits.{field-head, least-buffer, most-problem};
 ghost use Rattle.problem.specs.Problem.{ok};
 ghost use Rattle.completion.specs.Calls.{compare-call, subterm-part, subterm-call, unify-call};
+ghost use Rattle.only_equation.specs.Places.{Found, Stands};
 ghost use Rattle.calls.specs.Answers.{compared-told, found-told, unified-told, Unifies, PartAt, IsPart, subterm-refused};
+use limits::FIELD_HEAD;
 
 pub enum Compared {
     LeftAbove,
@@ -32,6 +35,16 @@ fn named(n: u8) -> Compared
     Compared::Neither
 }
 
+// Which of the two sides that stand here is above the other.
+fn compare_sides(problem: &[u8], table_end: usize, left: usize, right: usize) -> Compared
+    requires { ⌜ (field-head ≤ «table_end») × («table_end» ≤ length (now problem)) × (left ≤ length (now problem)) × (right ≤ length (now problem)) ⌝ }
+    requires { ⌜ Stands (now problem) «table_end» left right ⌝ }
+    ensures { λ r. ⌜ compared-told r ≡ compare-call (now (problem .entry)) ⌝ }
+{
+    let table = &problem[FIELD_HEAD..table_end];
+    named(order::comparison(&problem[left..], &problem[right..], table))
+}
+
 // Which side of the problem's one equation is above the other.
 pub fn compare(problem: &[u8]) -> Compared
     ensures { λ r. ⌜ compared-told r ≡ compare-call (now (problem .entry)) ⌝ }
@@ -44,7 +57,7 @@ pub fn compare(problem: &[u8]) -> Compared
             right,
             end: _,
             budget: _,
-        } => named(order::comparison(&problem[left..], &problem[right..], &problem[3..table_end])),
+        } => compare_sides(problem, table_end, left, right),
     }
 }
 
@@ -69,6 +82,23 @@ fn answer(found: instances::Found) -> Unified
     }
 }
 
+// The most general common instance of the two sides that stand here, as a field of the result.
+fn unify_sides(
+    problem: &[u8],
+    table_end: usize,
+    left: usize,
+    right: usize,
+    end: usize,
+    result: &mut [u8],
+) -> Unified
+    requires { ⌜ (field-head ≤ «table_end») × («table_end» ≤ length (now problem)) × (left ≤ right) × (right ≤ end) × (end ≤ length (now problem)) ⌝ }
+    requires { ⌜ Found (now problem) «table_end» left right end × (least-buffer ≤ length (now result)) ⌝ }
+    ensures { λ r. ⌜ Unifies (unify-call (now (problem .entry)) (length (now (result .entry)))) r (now (result .entry)) (now (result .exit)) ⌝ }
+{
+    let table = &problem[FIELD_HEAD..table_end];
+    answer(instances::common_instance(&problem[left..end], table, right - left, result))
+}
+
 // The most general common instance of the two sides of the problem's one equation, as a field of the result.
 pub fn unify(problem: &[u8], result: &mut [u8]) -> Unified
     ensures { λ r. ⌜ Unifies (unify-call (now (problem .entry)) (length (now (result .entry)))) r (now (result .entry)) (now (result .exit)) ⌝ }
@@ -87,18 +117,27 @@ pub fn unify(problem: &[u8], result: &mut [u8]) -> Unified
             right,
             end,
             budget: _,
-        } => answer(instances::common_instance(
-            &problem[left..end],
-            &problem[3..table_end],
-            right - left,
-            result,
-        )),
+        } => unify_sides(problem, table_end, left, right, end, result),
     }
 }
 
 pub struct Bounds {
     pub start: usize,
     pub end: usize,
+}
+
+// The bounds of the subterm at a position of the left side that stands here.
+fn bounds_in(problem: &[u8], table_end: usize, left: usize, right: usize, position: usize) -> Bounds
+    requires { ⌜ (field-head ≤ «table_end») × («table_end» ≤ length (now problem)) × (length (now problem) ≤ most-problem) ⌝ }
+    requires { ⌜ (left ≤ right) × (right ≤ length (now problem)) × Stands (now problem) «table_end» left right ⌝ }
+    ensures { λ r. ⌜ PartAt (now (problem .entry)) position (r .start) (r .end) ⌝ }
+{
+    if position >= right - left {
+        return Bounds { start: 0, end: 0 };
+    }
+    let s = left + position;
+    let n = terms::term_end(problem, &problem[FIELD_HEAD..table_end], s);
+    Bounds { start: s, end: n }
 }
 
 // The bounds of the subterm at a position of the left side; no byte where it is refused.
@@ -116,14 +155,7 @@ pub fn subterm_bounds(problem: &[u8], position: usize) -> Bounds
             right,
             end: _,
             budget: _,
-        } => {
-            if position >= right - left {
-                return Bounds { start: 0, end: 0 };
-            }
-            let s = left + position;
-            let n = terms::term_end(problem, &problem[3..table_end], s);
-            Bounds { start: s, end: n }
-        }
+        } => bounds_in(problem, table_end, left, right, position),
     }
 }
 

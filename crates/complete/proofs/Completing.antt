@@ -88,4 +88,4 @@ module _ (problem before : List ℕ) where
       (ap ok (w .count)) (w .bytes)
 
   pub delivers : (after : List ℕ) (r : Completed) → Answered problem before after r → Delivery problem after r
-  delivers after r a = delivery problem before after r (a .answer) (a .bytes)
+  delivers after r a = delivery problem before after (a .bytes) r (a .answer)

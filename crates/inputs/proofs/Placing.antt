@@ -15,9 +15,9 @@ use Rattle.naming.proofs.Few.{names-few}
 use Rattle.naming.proofs.Pairs.{wf-low, left-cut, right-cut, wf-few, renamed-left-wf, renamed-right-wf}
 use Rattle.slots.specs.Slots.{Sides, PutSides, PutMark, numbered-bytes}
 use Rattle.slots.proofs.Layouts.{pair-put}
-use Rattle.problem.specs.Problem.{ok, refused, ReadField, due}
-use Rattle.problem.specs.Parser.{field-at}
-use Rattle.problem.proofs.Reading.{no-ok, ok-injective}
+use Rattle.reading.specs.Forms.{ok, refused, ReadField, due}
+use Rattle.reading.specs.Answers.{field-at}
+use Rattle.reading.proofs.Reading.{no-ok, ok-injective}
 use Rattle.inputs.specs.Inputs.{KnownBytes, SidesAt, SideEnd, PutsSides, PutsEquation}
 
 -- `put_sides`: the two sides, from `at` to m and from m to e, are copied to the front of a buffer, then h₁

@@ -9,8 +9,8 @@ use Rattle.terms.specs.Term.{Term, Pair, term-bytes, size, renamed}
 use Rattle.terms.specs.Flat.{Wf}
 use Rattle.slots.specs.Slots.{slot, mark-of, Short, PairAt, Marked, Holds, Layout, OnlySlot, numbered-bytes}
 use Rattle.slots.specs.declared.Pairs.{Pairs}
-use Rattle.problem.specs.Problem.{ok, due}
-use Rattle.problem.specs.Parser.{field-at}
+use Rattle.reading.specs.Forms.{ok, due}
+use Rattle.reading.specs.Answers.{field-at}
 use Rattle.completion.specs.Turn.{waiting-input, Candidate, candidates}
 use Rattle.completion.specs.Calls.{origin-bytes}
 

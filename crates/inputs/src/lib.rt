@@ -9,9 +9,6 @@ use limits::NODES;
 use slots::Pairs;
 use slots::origins;
 
-// The tag of an equation's field.
-const EQUATION: u8 = 3;
-
 // The end of the side that starts at `at`; at the latest it ends before a byte above the last variable's, and after 120 bytes.
 fn side_end(source: &[u8], table: &[u8], at: usize) -> usize
     requires { ⌜ (at ≤ length (now source)) × (length (now source) ≤ two-byte-values) ⌝ }
@@ -56,12 +53,10 @@ fn put_equation(source: &[u8], table: &[u8], at: usize, slots: &mut [u8], k: usi
 {
     let mark = origins::numbered(origins::WAITING_INPUT, (k + 1) as u16);
     slots::put_mark(slots, k, &mark);
-    match problem::due(source, at, EQUATION) {
-        problem::Read::Refused {
-            number: _,
-            place: _,
-        } => at,
-        problem::Read::Value(e) => {
+    match reading::due(source, at, problem::EQUATION_TAG) {
+        reading::DueField::Cut => at,
+        reading::DueField::Other => at,
+        reading::DueField::At(e) => {
             put_sides(source, table, at + FIELD_HEAD, slots, k);
             e
         }

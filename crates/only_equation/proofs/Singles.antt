@@ -1,6 +1,6 @@
 -- A problem with one equation: a lemma for each return of `sides`. Assumes nothing.
 -- Read first: specs/Places (SidesAt), problem/proofs/Laid, terms/specs/Flat (Starts).
-use mathlib.Core.Path.{_≡_, refl, ap, sym, _∙_}
+use mathlib.Core.Path.{_≡_, refl, ap, sym, subst, _∙_}
 use mathlib.Core.List.{List, [], _∷_}
 use Prim.Native.Nat.{ℕ, _+_, _<_, _≤_}
 use native.Mathlib.Omega.{arith}
@@ -11,10 +11,12 @@ use Rattle.reading.specs.Answers.{WholeAt}
 use Rattle.reading.proofs.Reading.{no-ok, ok-injective, bind-ok, bind-refused}
 use Rattle.problem.specs.Problem.{ok, refused, _>>=_, ReadField, read-field, due, Equation, Problem, parse, only-equation}
 use Rattle.problem.specs.Parser.{field-at, ParsedAt}
-use Rattle.problem.proofs.Fields.{due-read}
+use Rattle.reading.proofs.Fields.{due-read}
 use Rattle.problem.proofs.Laid.{Laid, parsed-laid}
 use Rattle.completion.specs.Calls.{Single, parse-single}
-use Rattle.only_equation.specs.Places.{table, SidesAt}
+use Rattle.only_equation.specs.Places.{table, SidesAt, Found, IsSides}
+use Rattle.only_equation.specs.declared.Equation.{Equation as Sides}
+use Rattle.only_equation.specs.declared.Equation.the-variants.{At}
 
 module _ (l : List ℕ) where
   single-is : (P : Problem) → parse l ≡ ok P →
@@ -92,7 +94,13 @@ module _ (l : List ℕ) where
                 A .budget-is,
               )
 
-pub in-order : (l : List ℕ) (e a b c : ℕ) (S : Single) → SidesAt l e a b c S →
-    (3 ≤ e) × (e ≤ length l) × (a ≤ b) × (b ≤ c) × (c ≤ length l) × (length l ≤ 8192)
-in-order l e a b c S A =
-    (omega (arith, A .low), A .table-within, omega (arith, A .right-is), omega (arith, A .end-is), A .within, A .small)
+-- what `sides` found where it refuses nothing
+pub found : (l : List ℕ) (r : Sides) (e a b c u : ℕ) → IsSides l r → r ≡ At e a b c u → Found l e a b c
+found l r e a b c u h q =
+    let A = subst (IsSides l) q h in
+    let P = A .1 in
+    record {
+      single = A .0;
+      stand = P;
+      order = (omega (arith, P .low), P .table-within, omega (arith, P .right-is), omega (arith, P .end-is), P .within, P .small);
+    }

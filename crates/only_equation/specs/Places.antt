@@ -37,6 +37,16 @@ pub record SidesAt (l : List ℕ) (e a b c : ℕ) (S : Single) : Type 0 where
   pub left : Starts (table l e) (drop a l) (left-side S)
   pub right : Starts (table l e) (drop b l) (right-side S)
 
+-- what is found where nothing is refused: the equation, and its places in order
+pub record Found (l : List ℕ) (e a b c : ℕ) : Type 0 where
+  pub single : Single
+  pub stand : SidesAt l e a b c single
+  pub order : (field-head ≤ e) × (e ≤ length l) × (a ≤ b) × (b ≤ c) × (c ≤ length l) × (length l ≤ most-problem)
+
+-- the same of the table and of where the sides begin
+abbrev pub Stands : List ℕ → ℕ → ℕ → ℕ → Type 0
+Stands l e a b = (c : ℕ) × Found l e a b c
+
 abbrev pub IsSides : List ℕ → Equation → Type 0
 IsSides l (At e a b c u) = (S : Single) × SidesAt l e a b c S × (S .budget ≡ u)
 IsSides l (Refused n p) = parse-single l ≡ refused n p

@@ -1,63 +1,23 @@
--- The parser's fields: a lemma for each place where `due`, `symbols` and `budget` return. Assumes nothing.
+-- The parser's fields: a lemma for each place where `symbols` and `budget` return. Assumes nothing.
 -- Read first: specs/Problem, specs/Parser, reading/specs/Answers.
 use mathlib.Core.Path.{_≡_, refl, ap, sym, _∙_}
-use mathlib.Core.Bool.{true, not}
-use mathlib.Core.List.{List, [], _∷_}
+use mathlib.Core.Bool.{true}
+use mathlib.Core.List.{List}
 use Prim.Native.Nat.{ℕ, _+_, _-_, _<_, _≤_}
 use native.Mathlib.Omega.{arith}
-use lib.Dec.{eqb, ltb}
-use lib.ListN.{length, take, drop, length-take, length-drop, drop-of-length-le}
-use borrow.Author.Tests.{lt-ltb, le-ltb, eq-eqb, ne-eqb, eqb-true, not-false}
+use lib.Dec.{ltb}
+use lib.ListN.{length, take, drop, length-take, length-drop}
+use borrow.Author.Tests.{lt-ltb, le-ltb, eq-eqb, ne-eqb}
 use Rattle.terms.proofs.Lists.{take-drop}
 use Rattle.terms.specs.Base.{number-from}
-use Rattle.reading.specs.Answers.{WholeAt, wrong-length, SymbolsAre}
-use Rattle.reading.proofs.Reading.{from-bind, passed, no-ok, ok-injective, bind-ok, bind-refused}
-use Rattle.problem.specs.Problem.{ok, refused, _>>=_, refuse-if, ReadField, read-field, due, read-symbols, symbol-field, budget-field}
+use Rattle.reading.specs.Answers.{DueTo, wrong-length, SymbolsAre}
+use Rattle.reading.proofs.Reading.{bind-ok}
+pub use Rattle.reading.proofs.Fields.{contents-length, due-read}
+use Rattle.problem.specs.Problem.{ok, refused, _>>=_, refuse-if, due, read-symbols, symbol-field, budget-field}
 use Rattle.problem.specs.Parser.{field-at, symbols-of, SymbolsAt}
 
--- where a byte is left, a field is read before its tag is tested
-due-some : (tag at : ℕ) (m : List ℕ) → (length m ≡ 0 → ⊥) → due tag at m ≡ (read-field at m >>= λ f. refuse-if (not (eqb (f .tag) tag)) 4 at >>= λ _. ok f)
-unfolding due
-due-some tag at [] h = absurd (h refl)
-due-some tag at (b ∷ m) h = refl
-
--- a field that was due is read, and has the tag
-pub due-read : (tag at : ℕ) (m : List ℕ) (f : ReadField) → due tag at m ≡ ok f → (read-field at m ≡ ok f) × (f .tag ≡ tag)
-unfolding due
-due-read tag at [] f h = absurd (no-ok h)
-due-read tag at (b ∷ m) f h =
-    from-bind _ _ f h λ g e₁ k.
-    from-bind _ _ f k λ u e₂ e₃.
-    let q : g ≡ f = ok-injective e₃ in
-    (e₁ ∙ e₃, sym (ap (λ (f : ReadField). f .tag) q) ∙ eqb-true _ _ (not-false _ (passed _ 4 at u e₂)))
-
-module _ (tag : ℕ) (l : List ℕ) (at : ℕ) where
-  pub due-ended : length l ≤ at → due tag at (drop at l) ≡ refused 4 at
-  unfolding due
-  due-ended h = rw (drop-of-length-le l h) refl
-
-  module _ (h : at < length l) where
-    due-is : due tag at (drop at l) ≡ (read-field at (drop at l) >>= λ f. refuse-if (not (eqb (f .tag) tag)) 4 at >>= λ _. ok f)
-    due-is = due-some tag at (drop at l) (λ e. omega (arith, length-drop at l))
-
-    pub due-cut : read-field at (drop at l) ≡ refused 3 at → due tag at (drop at l) ≡ refused 3 at
-    due-cut e = due-is ∙ bind-refused _ e
-
-    module _ (found start e : ℕ) (F : WholeAt l at found start e) where
-      pub due-other-tag : (found ≡ tag → ⊥) → due tag at (drop at l) ≡ refused 4 at
-      unfolding field-at _>>=_ refuse-if
-      due-other-tag t = due-is ∙ bind-ok _ (F .read) ∙ rw (ne-eqb found tag t) refl
-
-      pub due-fine : found ≡ tag → (due tag at (drop at l) ≡ ok (field-at tag l at e)) × (at + 3 ≤ e) × (e ≤ length l)
-      unfolding field-at _>>=_ refuse-if
-      due-fine t = (due-is ∙ bind-ok _ (F .read) ∙ rw (t, eq-eqb tag tag refl) refl, omega (arith, F .starts, F .low), F .within)
-
-pub contents-length : (tag : ℕ) (l : List ℕ) (at e : ℕ) → e ≤ length l → length (field-at tag l at e .contents) ≡ e - (at + 3)
-unfolding field-at
-contents-length tag l at e h = length-drop (at + 3) (take e l) ∙ omega (arith, length-take e l)
-
 -- `symbols`
-module _ (l : List ℕ) (e : ℕ) (d : (due 0x01 0 l ≡ ok (field-at 0x01 l 0 e)) × (0 + 3 ≤ e) × (e ≤ length l)) where
+module _ (l : List ℕ) (e : ℕ) (d : DueTo 0x01 l 0 e) where
   abbrev tab : List ℕ
   tab = take (e - 3) (drop 3 l)
 
@@ -110,6 +70,6 @@ module _ (l : List ℕ) (at e : ℕ) (low : at + 3 ≤ e) (within : e ≤ length
     unfolding _>>=_ refuse-if
     budget-large k = budget-is ∙ rw (lt-ltb 1_000_000 n k) refl
 
-    pub budget-fine : n ≤ 1_000_000 → (budget-field (field-at 0x02 l at e) ≡ ok n) × (e ≡ at + 7)
+    pub budget-fine : n ≤ 1_000_000 → budget-field (field-at 0x02 l at e) ≡ ok n
     unfolding _>>=_ refuse-if
-    budget-fine k = (budget-is ∙ rw (le-ltb 1_000_000 n k) refl, omega arith)
+    budget-fine k = budget-is ∙ rw (le-ltb 1_000_000 n k) refl

@@ -8,24 +8,8 @@ use lib.ListN.{length, take, drop, length-drop}
 use Rattle.problem.specs.Problem.{ok, ReadField, due, Equation, equation-field, equation-fields, Problem}
 use Rattle.problem.specs.Parser.{field-at, symbols-of, Table, ParsedAt}
 use Rattle.reading.proofs.Reading.{from-bind, no-ok, ok-injective}
-use Rattle.reading.proofs.Fields.{field-is}
-use Rattle.problem.proofs.Fields.{due-read}
+pub use Rattle.reading.proofs.Fields.{due-at}
 use Rattle.problem.proofs.Sides.{Both, both-sides, first-of}
-
--- A field that is due and read is the field of its bytes from its first place to its end.
-pub record DueAt (tag : ℕ) (l : List ℕ) (at : ℕ) (f : ReadField) : Type 0 where
-  pub end : ℕ
-  pub is : f ≡ field-at tag l at end
-  pub low : at + 3 ≤ end
-  pub within : end ≤ length l
-
-pub due-at : (tag : ℕ) (l : List ℕ) (at : ℕ) (f : ReadField) → due tag at (drop at l) ≡ ok f → DueAt tag l at f
-unfolding field-at
-due-at tag l at f h =
-    let r = due-read tag at (drop at l) f h in
-    let G = field-is l at f (r .0) in
-    let t : G .tag ≡ tag = sym (ap (λ (f : ReadField). f .tag) (G .is)) ∙ r .1 in
-    record { end = G .end; is = G .is ∙ ap (λ n. field-at n l at (G .end)) t; low = G .low; within = G .within }
 
 module _ (tab : List ℕ) (T : Table tab) (l : List ℕ) where
   -- The equations from `at` on: each field starts where the one before it ends.

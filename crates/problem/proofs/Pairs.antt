@@ -7,9 +7,9 @@ use native.Mathlib.Omega.{arith}
 use lib.ListN.{length, drop, length-drop}
 use Rattle.terms.specs.Term.{Pair}
 use Rattle.reading.specs.Forms.{read-pair}
-use Rattle.reading.specs.Answers.{between, PairAt}
+use Rattle.reading.specs.Answers.{DueTo, between, PairAt}
 use Rattle.reading.proofs.Reading.{bind-ok, bind-refused}
-use Rattle.problem.specs.Problem.{Reading, ok, refused, _>>=_, ReadField, due, Symbol, equation-field, equation-fields}
+use Rattle.problem.specs.Problem.{ok, refused, _>>=_, ReadField, due, Symbol, equation-field, equation-fields}
 use Rattle.problem.specs.Parser.{field-at, symbols-of, FieldAt}
 
 pub equation-is : (Σ : List Symbol) (l : List ℕ) (at e : ℕ) →
@@ -43,7 +43,7 @@ module _ (tab l : List ℕ) (at count : ℕ) (h : at < length l) where
   pub equation-not-due : (n p : ℕ) → due 0x03 at (drop at l) ≡ refused n p → equation-fields (symbols-of tab) (16 - count) at (drop at l) ≡ refused n p
   equation-not-due n p e = due-fails (symbols-of tab) at (16 - count) (drop at l) n p some-left e
 
-  module _ (e : ℕ) (d : (due 0x03 at (drop at l) ≡ ok (field-at 0x03 l at e)) × (at + 3 ≤ e) × (e ≤ length l)) where
+  module _ (e : ℕ) (d : DueTo 0x03 l at e) where
     pub equation-seventeenth : count ≡ 16 → equation-fields (symbols-of tab) (16 - count) at (drop at l) ≡ refused 9 at
     equation-seventeenth k = let z : 16 - count ≡ 0 = omega arith in rw z (seventeenth (symbols-of tab) at (drop at l) (field-at 0x03 l at e) some-left (d .0))
 

@@ -1,5 +1,5 @@
 -- The loop over equation fields, and the problem as a whole: a lemma for each step and each return. Assumes nothing.
--- Read first: specs/Parser, proofs/Fields, proofs/Pairs.
+-- Read first: specs/Parser, proofs/Fields, proofs/Pairs, proofs/Laid.
 use mathlib.Core.Path.{_≡_, refl, ap, sym, _∙_}
 use mathlib.Core.List.{List, [], _∷_, _++_, append-assoc, append-nil}
 use Prim.Native.Nat.{ℕ, zero, suc, _+_, _-_, _<_, _≤_}
@@ -8,11 +8,13 @@ use lib.ListN.{length, take, drop, length-append, length-drop, length-take, drop
 use borrow.Author.Tests.{lt-ltb, le-ltb}
 use Rattle.problem.specs.Problem.{Reading, ok, refused, _>>=_, refuse-if, due, Symbol, symbol-field, budget-field, Equation, equation-fields, Problem}
 use Rattle.problem.specs.Problem.{parse}
-use Rattle.problem.specs.Parser.{field-at, symbols-of, SymbolsAt, FieldAt, parse-rest, RestAt, IsParsed, parsed-of}
+use Rattle.problem.specs.Parser.{field-at, symbols-of, Table, SymbolsAt, FieldAt, parse-rest, RestAt, IsParsed, begins-at, parsed-of}
 use Rattle.problem.specs.declared.Input.{Input}
 use Rattle.problem.specs.declared.Input.the-variants.{Fine, Refused as Bad}
+use Rattle.reading.specs.Answers.{DueTo}
 use Rattle.reading.proofs.Reading.{bind-ok, bind-refused}
 use Rattle.problem.proofs.Pairs.{one-more}
+use Rattle.problem.proofs.Laid.{Laid, laid}
 
 unfoldable pub prepend : List Equation → Reading (List Equation) → Reading (List Equation)
 prepend done (ok es) = ok (done ++ es)
@@ -73,35 +75,41 @@ module _ (tab l : List ℕ) (at : ℕ) where
   unfolding parse-rest
   rest-not-due n p h = bind-refused _ h
 
-  module _ (e : ℕ) (d : (due 0x02 at (drop at l) ≡ ok (field-at 0x02 l at e)) × (at + 3 ≤ e) × (e ≤ length l)) where
+  module _ (e : ℕ) (d : DueTo 0x02 l at e) where
     pub rest-budget-refused : (n p : ℕ) → budget-field (field-at 0x02 l at e) ≡ refused n p → parse-rest (symbols-of tab) at (drop at l) ≡ refused n p
     unfolding parse-rest
     rest-budget-refused n p h = bind-ok _ (d .0) ∙ bind-refused _ h
 
-    module _ (b : ℕ) (B : (budget-field (field-at 0x02 l at e) ≡ ok b) × (e ≡ at + 7)) where
+    module _ (b : ℕ) (B : budget-field (field-at 0x02 l at e) ≡ ok b) where
       behind : parse-rest (symbols-of tab) at (drop at l) ≡
           (equation-fields (symbols-of tab) 16 e (drop e l) >>= λ es. ok (record { symbols = symbols-of tab; budget = b; equations = es }))
       unfolding parse-rest field-at
-      behind = bind-ok _ (d .0) ∙ bind-ok _ (B .0)
+      behind = bind-ok _ (d .0) ∙ bind-ok _ B
 
       pub rest-equations-refused : (n p : ℕ) → equation-fields (symbols-of tab) 16 e (drop e l) ≡ refused n p →
           parse-rest (symbols-of tab) at (drop at l) ≡ refused n p
       rest-equations-refused n p q = behind ∙ bind-refused _ q
 
       pub rest-fine : (n : ℕ) → ((es : List Equation) × (equation-fields (symbols-of tab) 16 e (drop e l) ≡ ok es) × (length es ≡ n)) →
-          (P : Problem) × RestAt tab l at b (at + 7) n P
-      rest-fine n q = rw (← B .1) (
+          (P : Problem) × RestAt tab l at b e n P
+      rest-fine n q = (
         record { symbols = symbols-of tab; budget = b; equations = q .0 },
         record {
           is = behind ∙ bind-ok _ (q .1);
           symbols-are = refl;
           budget-is = refl;
-          begins = B .1;
+          field = d .0;
           within = d .2;
           equations-are = q .1;
           number = q .2;
         },
       )
+
+-- where the equations begin
+begins-there : (tab : List ℕ) (T : Table tab) (l : List ℕ) (at : ℕ) → at ≤ length l → (qs : List Equation) → Laid tab T l at qs → begins-at (length l) qs ≡ at
+unfolding Laid begins-at
+begins-there tab T l at h [] L = omega arith
+begins-there tab T l at h (q ∷ qs) L = L .4 .first-is
 
 -- the problem
 bind-both : {A B C : Type 0} (m : Reading A) (f : A → Reading B) (g : A → B → Reading C) (n p : ℕ) → (m >>= f) ≡ refused n p →
@@ -110,12 +118,12 @@ unfolding _>>=_
 bind-both (ok a) f g n p h = rw h refl
 bind-both (refused k q) f g n p h = cc
 
-equal-bad : (l : List ℕ) (n p : ℕ) → parse l ≡ refused n p → Bad n p ≡ parsed-of (parse l)
+equal-bad : (l : List ℕ) (n p : ℕ) → parse l ≡ refused n p → Bad n p ≡ parsed-of (length l) (parse l)
 unfolding parsed-of
 equal-bad l n p h = rw h refl
 
 abbrev Answer : List ℕ → Input → Type 0
-Answer l r = (r ≡ parsed-of (parse l)) × IsParsed l r
+Answer l r = (r ≡ parsed-of (length l) (parse l)) × IsParsed l r
 
 module _ (l : List ℕ) where
   answer-bad : (n p : ℕ) → parse l ≡ refused n p → Answer l (Bad n p)
@@ -151,8 +159,8 @@ module _ (l : List ℕ) where
           let z : 3 + (length (P .symbols) + length (P .symbols)) ≡ e =
           ap (λ (Σ : List Symbol). 3 + (length Σ + length Σ)) (R .symbols-are)
           ∙ omega (arith, S .table .even, length-take (e - 3) (drop 3 l), length-drop 3 l, S .low, S .within) in
-          let w : e + 7 ≡ at = sym (R .begins) in (
-            sym (ap parsed-of is ∙ rw (z, R .budget-is, w, R .number) refl),
+          let w = begins-there tab (S .table) l at (R .within) (P .equations) (laid tab (S .table) l 16 at (P .equations) (R .equations-are)) in (
+            sym (ap (parsed-of (length l)) is ∙ rw (z, R .budget-is, w, R .number) refl),
             (
               P,
               record {

@@ -10,17 +10,11 @@ use borrow.Author.Tests.{ltb-false}
 use Rattle.limits.specs.Limits.{most-problem, most-equations}
 use Rattle.terms.specs.Base.{Every, of-none, of-cons}
 use Rattle.terms.proofs.Every.{every-head, every-tail}
-use Rattle.reading.specs.Stops.{long-problem, wrong-tag, wrong-symbol-field, wrong-budget, many-equations, large-side, not-one-equation}
-use Rattle.reading.proofs.Refusals.{Within, reads, refuses, within-bind, within-test, FieldWithin, field-within, symbols-within, pair-within}
-use Rattle.problem.specs.Problem.{ReadField, due, Symbol, symbol-field, budget-field, Equation, equation-field, equation-fields, Problem, parse}
+use Rattle.reading.specs.Stops.{long-problem, wrong-symbol-field, wrong-budget, many-equations, large-side, not-one-equation}
+use Rattle.reading.proofs.Refusals.{Within, reads, refuses, within-bind, within-test, symbols-within, pair-within}
+pub use Rattle.reading.proofs.Refusals.{due-within}
+use Rattle.problem.specs.Problem.{ReadField, Symbol, symbol-field, budget-field, Equation, equation-field, equation-fields, Problem, parse}
 use Rattle.problem.specs.Problem.{only-equation}
-
-pub due-within : {e : ℕ} (tag at : ℕ) (bytes : List ℕ) → at ≤ e → Within large-side e (FieldWithin at bytes) (due tag at bytes)
-unfolding due
-due-within tag at [] h = refuses wrong-tag at refl h
-due-within tag at (b ∷ bytes) h =
-    within-bind _ _ (field-within at (b ∷ bytes) h) λ f w.
-    within-bind _ _ (within-test _ wrong-tag at refl h) λ _ _. reads w
 
 pub symbol-field-within : {e : ℕ} (f : ReadField) → f .first + 3 + length (f .contents) ≤ e → Within large-side e (λ _. Unit {0}) (symbol-field f)
 unfolding symbol-field

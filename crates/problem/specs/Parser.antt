@@ -1,10 +1,10 @@
 -- What each function of the parser answers, said by `parse` of Problem and its parts. Assumes nothing.
 -- Read first: Problem, reading/specs/Answers (field-at, symbols-of, Table).
 use mathlib.Core.Path.{_≡_}
-use mathlib.Core.List.{List}
+use mathlib.Core.List.{List, [], _∷_}
 use Prim.Native.Nat.{ℕ, _+_, _-_, _≤_}
 use lib.ListN.{length, take, drop}
-use Rattle.limits.specs.Limits.{most-equations, most-problem}
+use Rattle.limits.specs.Limits.{field-head, most-equations, most-problem}
 use Rattle.problem.specs.Problem.{Reading, ok, refused, _>>=_, due, Symbol, symbol-field, budget-field, Equation, equation-field, equation-fields}
 use Rattle.problem.specs.Problem.{Problem, parse}
 use Rattle.problem.specs.declared.Input.{Input}
@@ -13,11 +13,12 @@ use Rattle.problem.specs.declared.Rest.{Rest}
 use Rattle.problem.specs.declared.Rest.the-variants.{Fine as Fine-rest, Refused as Bad-rest}
 use Rattle.problem.specs.declared.Read.{Read}
 use Rattle.problem.specs.declared.Read.the-variants.{Value, Refused}
+use Rattle.reading.specs.Answers.{DueTo}
 unfoldable pub use Rattle.reading.specs.Answers.{field-at, symbols-of}
 pub use Rattle.reading.specs.Answers.{Table}
 
 abbrev pub IsDue : ℕ → List ℕ → ℕ → Read → Type 0
-IsDue tag l at (Value e) = (due tag at (drop at l) ≡ ok (field-at tag l at e)) × (at + 3 ≤ e) × (e ≤ length l)
+IsDue tag l at (Value e) = DueTo tag l at e
 IsDue tag l at (Refused n p) = due tag at (drop at l) ≡ refused n p
 
 pub record SymbolsAt (l : List ℕ) (e : ℕ) : Type 0 where
@@ -33,7 +34,7 @@ IsSymbols l (Value e) = SymbolsAt l e
 IsSymbols l (Refused n p) = (due 0x01 0 l >>= symbol-field) ≡ refused n p
 
 abbrev pub IsBudget : List ℕ → ℕ → ℕ → Read → Type 0
-IsBudget l at e (Value b) = (budget-field (field-at 0x02 l at e) ≡ ok b) × (e ≡ at + 7)
+IsBudget l at e (Value b) = budget-field (field-at 0x02 l at e) ≡ ok b
 IsBudget l at e (Refused n p) = budget-field (field-at 0x02 l at e) ≡ refused n p
 
 -- one more equation field, at `at`, behind so many others
@@ -61,12 +62,12 @@ parse-rest Σ at bytes = do
   es ← equation-fields Σ most-equations (b .end) (b .rest)
   ok (record { symbols = Σ; budget = budget; equations = es })
 
--- the rest of a problem from `at` on: its budget, and n equations from e on
+-- the rest of a problem from `at` on: its budget field, which ends at e, its budget, and n equations from e on
 pub record RestAt (tab l : List ℕ) (at b e n : ℕ) (P : Problem) : Type 0 where
   pub is : parse-rest (symbols-of tab) at (drop at l) ≡ ok P
   pub symbols-are : P .symbols ≡ symbols-of tab
   pub budget-is : P .budget ≡ b
-  pub begins : e ≡ at + 7
+  pub field : due 0x02 at (drop at l) ≡ ok (field-at 0x02 l at e)
   pub within : e ≤ length l
   pub equations-are : equation-fields (symbols-of tab) most-equations e (drop e l) ≡ ok (P .equations)
   pub number : length (P .equations) ≡ n
@@ -90,9 +91,12 @@ abbrev pub IsParsed : List ℕ → Input → Type 0
 IsParsed l (Fine e b at n) = (P : Problem) × ParsedAt l e b at n P
 IsParsed l (Bad n p) = parse l ≡ refused n p
 
--- the same in one equation: the symbol field has 3 bytes and 2 a symbol, the budget field has 7
-unfoldable pub parsed-of : Reading Problem → Input
-parsed-of (ok P) =
-    let table-end : ℕ = 3 + (length (P .symbols) + length (P .symbols)) in
-    Fine table-end (P .budget) (table-end + 7) (length (P .equations))
-parsed-of (refused n p) = Bad n p
+-- where the equations of a problem begin: at the first one's field, or at the problem's end
+unfoldable pub begins-at : ℕ → List Equation → ℕ
+begins-at end [] = end
+begins-at end (q ∷ qs) = q .first
+
+-- the same in one equation, of a problem with so many bytes: the symbol field has its head and 2 bytes a symbol
+unfoldable pub parsed-of : ℕ → Reading Problem → Input
+parsed-of end (ok P) = Fine (field-head + (length (P .symbols) + length (P .symbols))) (P .budget) (begins-at end (P .equations)) (length (P .equations))
+parsed-of end (refused n p) = Bad n p

@@ -1,5 +1,5 @@
 -- Document 01, "The problem's fields" and "Stops and what they leave", 2 to 12: a problem's bytes read front to back. Assumes nothing.
--- Read first: reading/specs/Forms (a field, symbols, a term, a side, a pair).
+-- Read first: reading/specs/Forms (a field, a field that is due, symbols, a term, a side, a pair).
 use mathlib.Core.Bool.{not, _||_}
 use mathlib.Core.List.{List, [], _∷_, map}
 use Prim.Native.Nat.{ℕ, zero, suc, _+_, _%_, _*_}
@@ -8,17 +8,10 @@ use lib.ListN.{length}
 use Rattle.limits.specs.Limits.{most-symbols, most-budget, most-problem, most-equations}
 use Rattle.terms.specs.Base.{number-from}
 use Rattle.terms.specs.Term.{Pair}
-use Rattle.reading.specs.Stops.{long-problem, wrong-tag, wrong-symbol-field, wrong-budget, many-equations, not-one-equation}
+use Rattle.reading.specs.Stops.{long-problem, wrong-symbol-field, wrong-budget, many-equations, not-one-equation}
 pub use Rattle.reading.specs.Forms.{Reading, ok, refused, ReadField, Symbol, Has, Byte, symbol, variable, neither, ReadPart}
-unfoldable pub use Rattle.reading.specs.Forms.{_>>=_, refuse-if, read-field, has, arity-of, rank-of, read-symbols, byte-of, read-terms, read-term, read-side, read-pair}
-
--- 4: "tag not the one due, or the problem ends where tag 01 or 02 is due", at the "field's first byte or the end" [4.4, 4.16]
-unfoldable pub due : ℕ → ℕ → List ℕ → Reading ReadField
-due tag at [] = refused wrong-tag at
-due tag at (b ∷ bytes) = do
-  f ← read-field at (b ∷ bytes)
-  _ ← refuse-if (not (eqb (f .tag) tag)) wrong-tag at
-  ok f
+unfoldable pub use Rattle.reading.specs.Forms.{_>>=_, refuse-if, read-field, due, has, arity-of, rank-of, read-symbols}
+unfoldable pub use Rattle.reading.specs.Forms.{byte-of, read-terms, read-term, read-side, read-pair}
 
 -- 5: "symbol field's length 0, odd or over 32", at the "field's first byte" [3.4, 4.5]
 unfoldable pub symbol-field : ReadField → Reading (List Symbol)

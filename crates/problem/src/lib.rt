@@ -2,10 +2,22 @@
 ghost use mathlib.Core.Path.{_≡_};
 ghost use Prim.Native.Nat.{_+_, _<_, _≤_};
 ghost use lib.ListN.{length};
-ghost use Rattle.limits.specs.Limits.{most-problem, most-equations};
+ghost use Rattle.limits.specs.Limits.{field-head, most-problem, most-equations};
 ghost use Rattle.reading.specs.Answers.{Table};
 ghost use Rattle.problem.specs.Parser.{IsDue, IsSymbols, IsBudget, IsEquation, IsEquations, IsRest, IsParsed, parsed-of};
 ghost use Rattle.problem.specs.Problem.{parse};
+use limits::FIELD_HEAD;
+
+// The tags of a problem's fields.
+
+// The symbols: an arity and a rank each.
+pub const SYMBOLS_TAG: u8 = 0x01;
+
+// The budget.
+pub const BUDGET_TAG: u8 = 0x02;
+
+// An equation: its left side, then its right side.
+pub const EQUATION_TAG: u8 = 0x03;
 
 // The numbers of document 01's refusals, as specs/Stops names them.
 
@@ -52,40 +64,26 @@ pub enum Read {
 pub fn due(problem: &[u8], at: usize, tag: u8) -> Read
     ensures { λ r. ⌜ IsDue tag (now (problem .entry)) at r ⌝ }
 {
-    if at >= problem.len() {
-        return Read::Refused {
-            number: WRONG_TAG,
-            place: at,
-        };
-    }
-    match reading::field_at(problem, at) {
-        reading::Field::Cut => Read::Refused {
+    match reading::due(problem, at, tag) {
+        reading::DueField::At(end) => Read::Value(end),
+        reading::DueField::Cut => Read::Refused {
             number: CUT_FIELD,
             place: at,
         },
-        reading::Field::At {
-            tag: found,
-            start: _,
-            end,
-        } => {
-            if found != tag {
-                return Read::Refused {
-                    number: WRONG_TAG,
-                    place: at,
-                };
-            }
-            Read::Value(end)
-        }
+        reading::DueField::Other => Read::Refused {
+            number: WRONG_TAG,
+            place: at,
+        },
     }
 }
 
-// The symbol field: the place behind it. The table is the bytes from place 3 to there.
+// The symbol field: the place behind it. The table is the bytes from the field's head to there.
 pub fn symbols(problem: &[u8]) -> Read
     ensures { λ r. ⌜ IsSymbols (now (problem .entry)) r ⌝ }
 {
-    match due(problem, 0, 0x01) {
+    match due(problem, 0, SYMBOLS_TAG) {
         Read::Refused { number, place } => Read::Refused { number, place },
-        Read::Value(e) => match reading::check_symbols(&problem[3..e]) {
+        Read::Value(e) => match reading::check_symbols(&problem[FIELD_HEAD..e]) {
             reading::Symbols::Fine => Read::Value(e),
             reading::Symbols::WrongLength => Read::Refused {
                 number: WRONG_SYMBOL_FIELD,
@@ -93,7 +91,7 @@ pub fn symbols(problem: &[u8]) -> Read
             },
             reading::Symbols::WrongByte(place) => Read::Refused {
                 number: WRONG_ARITY_OR_RANK,
-                place: 3 + place,
+                place: FIELD_HEAD + place,
             },
         },
     }
@@ -101,10 +99,10 @@ pub fn symbols(problem: &[u8]) -> Read
 
 // The budget field from `at` to `end`: the budget.
 fn budget(problem: &[u8], at: usize, end: usize) -> Read
-    requires { ⌜ (at + 3 ≤ end) × (end ≤ length (now problem)) ⌝ }
+    requires { ⌜ (at + field-head ≤ end) × (end ≤ length (now problem)) ⌝ }
     ensures { λ r. ⌜ IsBudget (now (problem .entry)) at end r ⌝ }
 {
-    let start = at + 3;
+    let start = at + FIELD_HEAD;
     if end - start != 4 {
         return Read::Refused {
             number: WRONG_BUDGET,
@@ -127,7 +125,7 @@ fn equation(problem: &[u8], table: &[u8], at: usize, count: usize) -> Read
     requires { ⌜ (at < length (now problem)) × (length (now problem) ≤ most-problem) × (count ≤ most-equations) ⌝ }
     ensures { λ r. ⌜ IsEquation (now (table .entry)) (now (problem .entry)) at count r ⌝ }
 {
-    match due(problem, at, 0x03) {
+    match due(problem, at, EQUATION_TAG) {
         Read::Refused { number, place } => Read::Refused { number, place },
         Read::Value(end) => {
             if count == limits::EQUATIONS {
@@ -136,7 +134,7 @@ fn equation(problem: &[u8], table: &[u8], at: usize, count: usize) -> Read
                     place: at,
                 };
             }
-            match reading::pair_at(problem, table, at + 3, end) {
+            match reading::pair_at(problem, table, at + FIELD_HEAD, end) {
                 reading::Pair::Wrong(place) => Read::Refused {
                     number: WRONG_TERM,
                     place,
@@ -173,9 +171,6 @@ fn equations(problem: &[u8], table: &[u8], at: usize) -> Read
     Read::Value(count)
 }
 
-// The budget field: its head, and four bytes.
-const BUDGET_FIELD: usize = limits::FIELD_HEAD + 4;
-
 pub enum Rest {
     // `count` equation fields, the first at `equations`.
     Fine {
@@ -195,16 +190,15 @@ pub fn parse_rest(problem: &[u8], table: &[u8], at: usize) -> Rest
     requires { ⌜ length (now problem) ≤ most-problem ⌝ }
     ensures { λ r. ⌜ IsRest (now (table .entry)) (now (problem .entry)) at r ⌝ }
 {
-    match due(problem, at, 0x02) {
+    match due(problem, at, BUDGET_TAG) {
         Read::Refused { number, place } => Rest::Refused { number, place },
         Read::Value(end) => match budget(problem, at, end) {
             Read::Refused { number, place } => Rest::Refused { number, place },
             Read::Value(amount) => match equations(problem, table, end) {
                 Read::Refused { number, place } => Rest::Refused { number, place },
-                // `end`, which is not kept through the equations: the walk over them has no register to spare.
                 Read::Value(count) => Rest::Fine {
                     budget: amount,
-                    equations: at + BUDGET_FIELD,
+                    equations: end,
                     count,
                 },
             },
@@ -213,7 +207,7 @@ pub fn parse_rest(problem: &[u8], table: &[u8], at: usize) -> Rest
 }
 
 pub enum Input {
-    // The table is the bytes from place 3 to `table_end`; `count` equation fields start at `equations`.
+    // The table is the bytes from the symbol field's head to `table_end`; `count` equation fields start at `equations`.
     Fine {
         table_end: usize,
         budget: usize,
@@ -227,7 +221,7 @@ pub enum Input {
 }
 
 pub fn parse(problem: &[u8]) -> Input
-    ensures { λ r. ⌜ (r ≡ parsed-of (parse (now (problem .entry)))) × IsParsed (now (problem .entry)) r ⌝ }
+    ensures { λ r. ⌜ (r ≡ parsed-of (length (now (problem .entry))) (parse (now (problem .entry)))) × IsParsed (now (problem .entry)) r ⌝ }
 {
     if problem.len() > limits::PROBLEM {
         return Input::Refused {
@@ -237,7 +231,7 @@ pub fn parse(problem: &[u8]) -> Input
     }
     match symbols(problem) {
         Read::Refused { number, place } => Input::Refused { number, place },
-        Read::Value(e) => match parse_rest(problem, &problem[3..e], e) {
+        Read::Value(e) => match parse_rest(problem, &problem[FIELD_HEAD..e], e) {
             Rest::Refused { number, place } => Input::Refused { number, place },
             Rest::Fine {
                 budget,

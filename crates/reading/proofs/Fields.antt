@@ -1,20 +1,22 @@
--- A field at a place: a lemma for each return of `field_at`; a field that is read is the field of its bytes; a field that is written is read back.
--- Assumes nothing.
--- Read first: specs/Forms (read-field), specs/Answers (field-at, IsField), terms/proofs/Numerals (number-back).
+-- A field at a place: a lemma for each return of `field_at` and of `due`; a field that is read is the field of its bytes; a field that is written is
+-- read back. Assumes nothing.
+-- Read first: specs/Forms (read-field, due), specs/Answers (field-at, IsField, IsDue), terms/proofs/Numerals (number-back).
 use mathlib.Core.Path.{_≡_, refl, ap, sym, _∙_}
+use mathlib.Core.Bool.{not}
 use mathlib.Core.List.{List, [], _∷_, _++_}
 use Prim.Native.Nat.{ℕ, _+_, _-_, _<_, _≤_}
 use native.Mathlib.Omega.{arith}
 use native.Mathlib.Nat.{add-zero}
-use lib.ListN.{length, take, drop, getD, length-drop, length-append}
+use lib.Dec.{eqb}
+use lib.ListN.{length, take, drop, getD, length-take, length-drop, length-append, drop-of-length-le}
 use lib.Seq.{take-at, drop-at, drop-drop, getD-drop}
-use borrow.Author.Tests.{lt-ltb, le-ltb, ltb-false}
+use borrow.Author.Tests.{lt-ltb, le-ltb, ltb-false, eq-eqb, ne-eqb, eqb-true, not-false}
 use Rattle.terms.specs.Base.{number-bytes, number-from, Field, field-bytes}
 use Rattle.terms.proofs.Lists.{take-drop}
 use Rattle.terms.proofs.Numerals.{number-back}
-use Rattle.reading.specs.Forms.{ok, refused, _>>=_, refuse-if, ReadField, read-field}
-use Rattle.reading.specs.Answers.{field-at, WholeAt}
-use Rattle.reading.proofs.Reading.{from-bind, passed, no-ok, ok-injective}
+use Rattle.reading.specs.Forms.{ok, refused, _>>=_, refuse-if, ReadField, read-field, due}
+use Rattle.reading.specs.Answers.{field-at, WholeAt, DueTo}
+use Rattle.reading.proofs.Reading.{from-bind, passed, no-ok, ok-injective, bind-ok, bind-refused}
 
 -- the length that the header says: m is what is left at `at`
 abbrev said : List ℕ → ℕ
@@ -94,6 +96,63 @@ field-is l at f h = go (drop at l) refl h
         let i : n ≡ number-from 0 (take 2 (drop (at + 1) l)) = sym (ap (λ (z : List ℕ). number-from 0 (take 2 z)) (sym (drop-drop 1 at l) ∙ ap (drop 1) e)) in
         let w = reads l at n (omega (arith, length-drop at l)) i (omega (arith, length-drop at l)) in
         record { tag = getD l at 0; end = at + 3 + n; is = ok-injective (sym h ∙ w); low = omega arith; within = omega (arith, length-drop at l) }
+
+pub contents-length : (tag : ℕ) (l : List ℕ) (at e : ℕ) → e ≤ length l → length (field-at tag l at e .contents) ≡ e - (at + 3)
+unfolding field-at
+contents-length tag l at e h = length-drop (at + 3) (take e l) ∙ omega (arith, length-take e l)
+
+-- where a byte is left, a field is read before its tag is tested
+due-some : (tag at : ℕ) (m : List ℕ) → (length m ≡ 0 → ⊥) → due tag at m ≡ (read-field at m >>= λ f. refuse-if (not (eqb (f .tag) tag)) 4 at >>= λ _. ok f)
+unfolding due
+due-some tag at [] h = absurd (h refl)
+due-some tag at (b ∷ m) h = refl
+
+-- a field that was due is read, and has the tag
+pub due-read : (tag at : ℕ) (m : List ℕ) (f : ReadField) → due tag at m ≡ ok f → (read-field at m ≡ ok f) × (f .tag ≡ tag)
+unfolding due
+due-read tag at [] f h = absurd (no-ok h)
+due-read tag at (b ∷ m) f h =
+    from-bind _ _ f h λ g e₁ k.
+    from-bind _ _ f k λ u e₂ e₃.
+    let q : g ≡ f = ok-injective e₃ in
+    (e₁ ∙ e₃, sym (ap (λ (f : ReadField). f .tag) q) ∙ eqb-true _ _ (not-false _ (passed _ 4 at u e₂)))
+
+-- it is the field of the bytes from its first place to its end
+pub record DueAt (tag : ℕ) (l : List ℕ) (at : ℕ) (f : ReadField) : Type 0 where
+  pub end : ℕ
+  pub is : f ≡ field-at tag l at end
+  pub low : at + 3 ≤ end
+  pub within : end ≤ length l
+
+pub due-at : (tag : ℕ) (l : List ℕ) (at : ℕ) (f : ReadField) → due tag at (drop at l) ≡ ok f → DueAt tag l at f
+unfolding field-at
+due-at tag l at f h =
+    let r = due-read tag at (drop at l) f h in
+    let G = field-is l at f (r .0) in
+    let t : G .tag ≡ tag = sym (ap (λ (f : ReadField). f .tag) (G .is)) ∙ r .1 in
+    record { end = G .end; is = G .is ∙ ap (λ n. field-at n l at (G .end)) t; low = G .low; within = G .within }
+
+-- `due` returns
+module _ (tag : ℕ) (l : List ℕ) (at : ℕ) where
+  pub due-ended : length l ≤ at → due tag at (drop at l) ≡ refused 4 at
+  unfolding due
+  due-ended h = rw (drop-of-length-le l h) refl
+
+  module _ (h : at < length l) where
+    due-is : due tag at (drop at l) ≡ (read-field at (drop at l) >>= λ f. refuse-if (not (eqb (f .tag) tag)) 4 at >>= λ _. ok f)
+    due-is = due-some tag at (drop at l) (λ e. omega (arith, length-drop at l))
+
+    pub due-cut : read-field at (drop at l) ≡ refused 3 at → due tag at (drop at l) ≡ refused 3 at
+    due-cut e = due-is ∙ bind-refused _ e
+
+    module _ (found start e : ℕ) (F : WholeAt l at found start e) where
+      pub due-other-tag : (found ≡ tag → ⊥) → due tag at (drop at l) ≡ refused 4 at
+      unfolding field-at _>>=_ refuse-if
+      due-other-tag t = due-is ∙ bind-ok _ (F .read) ∙ rw (ne-eqb found tag t) refl
+
+      pub due-fine : found ≡ tag → DueTo tag l at e
+      unfolding field-at _>>=_ refuse-if
+      due-fine t = (due-is ∙ bind-ok _ (F .read) ∙ rw (t, eq-eqb tag tag refl) refl, omega (arith, F .starts, F .low), F .within)
 
 -- a field that is written is read back, whatever stands behind it
 pub field-back : (at : ℕ) (f : Field) (more : List ℕ) → length (f .contents) < 65_536 →

@@ -11,6 +11,7 @@ use lib.Dec.{eqb, ltb}
 use lib.ListN.{length, take, getD, length-append, length-take, drop-of-length-le}
 use lib.Seq.{drop-cons, getD-take}
 use borrow.Author.Tests.{lt-ltb, le-ltb, ltb-true, ltb-false, eqb-true, eqb-false, eq-eqb, ne-eqb}
+use Rattle.limits.specs.Limits.{byte-values}
 use Rattle.terms.specs.Base.{if_then_else_, place-in, Every, of-none, of-cons}
 use Rattle.terms.specs.Term.{term-bytes, Pair, renamed}
 use Rattle.terms.specs.Flat.{Wf}
@@ -182,7 +183,7 @@ after-other next b e = rw (ne-eqb b next e) refl
 pub record Walked (l : List ℕ) (at end next i : ℕ) : Type 0 where
   pub low : at ≤ i
   pub high : i ≤ end
-  pub small : next ≤ 128 + i
+  pub small : next ≤ byte-values
   pub same : ordered next (between l i end) ≡ ordered 128 (between l at end)
 
 pub walk-start : (l : List ℕ) (at end : ℕ) → at ≤ end → Walked l at end 128 at
@@ -198,20 +199,21 @@ module _ (l : List ℕ) (at end next i : ℕ) (inside : end ≤ length l) (W : W
     walk-wrong k n tab p v w f =
         renamed-or-not n tab (between l at end) p v w f false (sym (sym (W .same) ∙ rw (rest-is, lt-ltb next b k) refl))
 
-    after-small : next-after next b ≤ next + 1
+    -- the next variable's byte grows only where a byte equals it
+    after-small : b < byte-values → next-after next b ≤ byte-values
     unfolding next-after if_then_else_
-    after-small = go (eqb b next)
+    after-small s = go (eqb b next) refl
       where
-        go : (t : Bool) → (if t then suc next else next) ≤ next + 1
-        go true = omega arith
-        go false = omega arith
+        go : (t : Bool) → eqb b next ≡ t → (if t then suc next else next) ≤ byte-values
+        go true q = omega (arith, eqb-true b next q)
+        go false q = W .small
 
-    pub walk-more : b ≤ next → (m : ℕ) → m ≡ next-after next b → Walked l at end m (i + 1)
+    pub walk-more : b < byte-values → b ≤ next → (m : ℕ) → m ≡ next-after next b → Walked l at end m (i + 1)
     unfolding ordered if_then_else_
-    walk-more k m q = record {
+    walk-more s k m q = record {
       low = omega (arith, W .low);
       high = omega arith;
-      small = omega (arith, after-small, W .small);
+      small = omega (arith, after-small s);
       same = rw (add-one i, q) (sym (rw (rest-is, le-ltb next b k) refl) ∙ W .same);
     }
 

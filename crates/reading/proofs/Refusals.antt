@@ -12,8 +12,8 @@ use borrow.Author.Tests.{ltb-false, leb-true, le-leb}
 use Rattle.terms.specs.Base.{number-from}
 use Rattle.terms.specs.Term.{Term}
 use Rattle.terms.proofs.Shape.{both-true, zero≢one}
-use Rattle.reading.specs.Stops.{cut-field, wrong-arity-or-rank, wrong-term, large-side}
-use Rattle.reading.specs.Forms.{Reading, ok, refused, _>>=_, refuse-if, ReadField, read-field, Symbol, arity-of, read-symbols}
+use Rattle.reading.specs.Stops.{cut-field, wrong-tag, wrong-arity-or-rank, wrong-term, large-side}
+use Rattle.reading.specs.Forms.{Reading, ok, refused, _>>=_, refuse-if, ReadField, read-field, due, Symbol, arity-of, read-symbols}
 use Rattle.reading.specs.Forms.{Byte, symbol, variable, neither, byte-of, ReadPart, read-terms, read-term, read-side, read-pair}
 use Rattle.reading.proofs.Reading.{no-ok, ok-injective}
 
@@ -81,6 +81,13 @@ field-within at (t ∷ a ∷ b ∷ bytes) h =
     within-bind _ _ (within-test (ltb (length bytes) n) cut-field at refl h) λ _ q.
     let few : n ≤ length bytes = ltb-false (length bytes) n q in
     reads (record { first = refl; contents = omega (arith, length-take n bytes); rest = omega (arith, length-drop n bytes) })
+
+pub due-within : {e : ℕ} (tag at : ℕ) (bytes : List ℕ) → at ≤ e → Within large-side e (FieldWithin at bytes) (due tag at bytes)
+unfolding due
+due-within tag at [] h = refuses wrong-tag at refl h
+due-within tag at (b ∷ bytes) h =
+    within-bind _ _ (field-within at (b ∷ bytes) h) λ f w.
+    within-bind _ _ (within-test _ wrong-tag at refl h) λ _ _. reads w
 
 pub symbols-within : {e : ℕ} (at : ℕ) (bytes : List ℕ) → at + length bytes ≤ e → Within large-side e (λ _. Unit {0}) (read-symbols at bytes)
 unfolding read-symbols

@@ -11,10 +11,12 @@ use Rattle.terms.specs.Term.{Term, size, term-bytes, Pair, renamed}
 use Rattle.terms.specs.Flat.{Wf}
 use Rattle.terms.specs.declared.Ends.{Ends}
 use Rattle.terms.specs.declared.Ends.the-variants.{At as Ends-at, Bad}
-use Rattle.reading.specs.Stops.{cut-field, wrong-arity-or-rank, wrong-term, large-side}
-use Rattle.reading.specs.Forms.{Reading, ok, refused, _>>=_, refuse-if, ReadField, read-field, Symbol, read-symbols, read-term, read-side, read-pair}
+use Rattle.reading.specs.Stops.{cut-field, wrong-tag, wrong-arity-or-rank, wrong-term, large-side}
+use Rattle.reading.specs.Forms.{Reading, ok, refused, _>>=_, refuse-if, ReadField, read-field, due, Symbol, read-symbols, read-term, read-side, read-pair}
 use Rattle.reading.specs.declared.Field.{Field}
 use Rattle.reading.specs.declared.Field.the-variants.{Cut, At as Field-at}
+use Rattle.reading.specs.declared.DueField.{DueField}
+use Rattle.reading.specs.declared.DueField.the-variants.{At as Due-at, Cut as Due-cut, Other}
 use Rattle.reading.specs.declared.Symbols.{Symbols}
 use Rattle.reading.specs.declared.Symbols.the-variants.{Fine, WrongLength, WrongByte}
 use Rattle.reading.specs.declared.Side.{Side}
@@ -37,6 +39,15 @@ pub record WholeAt (l : List ℕ) (at tag start e : ℕ) : Type 0 where
 abbrev pub IsField : List ℕ → ℕ → Field → Type 0
 IsField l at Cut = read-field at (drop at l) ≡ refused cut-field at
 IsField l at (Field-at tag start e) = WholeAt l at tag start e
+
+-- the field that is due at `at` ends at e
+abbrev pub DueTo : ℕ → List ℕ → ℕ → ℕ → Type 0
+DueTo tag l at e = (due tag at (drop at l) ≡ ok (field-at tag l at e)) × (at + 3 ≤ e) × (e ≤ length l)
+
+abbrev pub IsDue : ℕ → List ℕ → ℕ → DueField → Type 0
+IsDue tag l at (Due-at e) = DueTo tag l at e
+IsDue tag l at Due-cut = due tag at (drop at l) ≡ refused cut-field at
+IsDue tag l at Other = due tag at (drop at l) ≡ refused wrong-tag at
 
 -- a table: two bytes a symbol, its arity and its rank
 unfoldable pub symbols-of : List ℕ → List Symbol

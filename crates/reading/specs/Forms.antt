@@ -1,15 +1,15 @@
--- Document 01, "Terms" and "The problem's fields": what is read from bytes, wherever it stands: a field, symbols, a term, a side, a pair. A refusal has its
--- number of "Stops and what they leave" and its place. Assumes nothing.
+-- Document 01, "Terms" and "The problem's fields": what is read from bytes, wherever it stands: a field, one whose tag is due, symbols, a term, a side, a
+-- pair. A refusal has its number of "Stops and what they leave" and its place. Assumes nothing.
 use mathlib.Core.Path.{_≡_}
-use mathlib.Core.Bool.{Bool, true, false, _&&_}
+use mathlib.Core.Bool.{Bool, true, false, not, _&&_}
 use mathlib.Core.List.{List, [], _∷_}
 use Prim.Native.Nat.{ℕ, zero, suc, _+_, _-_}
-use lib.Dec.{ltb, leb}
+use lib.Dec.{eqb, ltb, leb}
 use lib.ListN.{length, take, drop, getD}
 use Rattle.limits.specs.Limits.{most-arity, most-rank, most-nodes}
 use Rattle.terms.specs.Base.{if_then_else_, number-from}
 use Rattle.terms.specs.Term.{Term, var, node, Terms, nil, cons, size, Pair}
-use Rattle.reading.specs.Stops.{cut-field, wrong-arity-or-rank, wrong-term, large-side}
+use Rattle.reading.specs.Stops.{cut-field, wrong-tag, wrong-arity-or-rank, wrong-term, large-side}
 
 -- What was read, or the refusal's number and place [4.13].
 pub data Reading (A : Type 0) : Type 0 where
@@ -43,6 +43,14 @@ read-field at (tag ∷ high ∷ low ∷ bytes) = do
   let n = number-from 0 (high ∷ low ∷ [])
   _ ← refuse-if (ltb (length bytes) n) cut-field at
   ok (record { first = at; tag = tag; contents = take n bytes; end = at + 3 + n; rest = drop n bytes })
+
+-- 4: "tag not the one due, or the problem ends where tag 01 or 02 is due", at the "field's first byte or the end" [4.4, 4.16]
+unfoldable pub due : ℕ → ℕ → List ℕ → Reading ReadField
+due tag at [] = refused wrong-tag at
+due tag at (b ∷ bytes) = do
+  f ← read-field at (b ∷ bytes)
+  _ ← refuse-if (not (eqb (f .tag) tag)) wrong-tag at
+  ok f
 
 -- "arity 0 to 4 then rank 0 to 15 .. numbered by place" [3.3, 3.4]
 pub record Symbol : Type 0 where

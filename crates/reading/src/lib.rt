@@ -1,11 +1,12 @@
-// Bytes read at a place: a number, a field, symbols, a term, a side, a pair, and whether a pair is renamed. No
-// answer has a refusal's number: each caller gives its own.
+// Bytes read at a place: a number, a field, a field whose tag is due, symbols, a term, a side, a pair, and whether a
+// pair is renamed. No answer has a refusal's number: each caller gives its own.
 ghost use mathlib.Core.Path.{_≡_};
 ghost use Prim.Native.Nat.{_+_, _^_, _<_, _≤_, _*_};
 ghost use lib.ListN.{length, take, drop};
-ghost use Rattle.limits.specs.Limits.{most-symbols, two-byte-values};
+ghost use Rattle.limits.specs.Limits.{most-symbols, byte-values, two-byte-values};
 ghost use Rattle.terms.specs.Base.{number-from};
-ghost use Rattle.reading.specs.Answers.{IsField, IsRanked, IsSymbols, Table, IsTerm, IsSide, IsPair, next-after, IsRenamed};
+ghost use Rattle.reading.specs.Answers.{IsField, IsDue, IsRanked, IsSymbols, Table, IsTerm, IsSide, IsPair, next-after, IsRenamed};
+use limits::FIELD_HEAD;
 
 // The number of so many bytes, high byte first, at a place.
 pub fn number(t: &[u8], at: usize, width: usize) -> usize
@@ -35,17 +36,48 @@ pub fn field_at(t: &[u8], at: usize) -> Field
     ensures { λ r. ⌜ IsField (now (t .entry)) at r ⌝ }
 {
     let left = t.len() - at;
-    if left < 3 {
+    if left < FIELD_HEAD {
         return Field::Cut;
     }
     let n = number(t, at + 1, 2);
-    if left - 3 < n {
+    if left - FIELD_HEAD < n {
         return Field::Cut;
     }
     Field::At {
         tag: t[at],
-        start: at + 3,
-        end: at + 3 + n,
+        start: at + FIELD_HEAD,
+        end: at + FIELD_HEAD + n,
+    }
+}
+
+pub enum DueField {
+    // The place behind it.
+    At(usize),
+    // Its header or its contents pass the end.
+    Cut,
+    // It has another tag, or no byte is left.
+    Other,
+}
+
+// The field at a place, whose tag is to be `tag`.
+pub fn due(t: &[u8], at: usize, tag: u8) -> DueField
+    ensures { λ r. ⌜ IsDue tag (now (t .entry)) at r ⌝ }
+{
+    if at >= t.len() {
+        return DueField::Other;
+    }
+    match field_at(t, at) {
+        Field::Cut => DueField::Cut,
+        Field::At {
+            tag: found,
+            start: _,
+            end,
+        } => {
+            if found != tag {
+                return DueField::Other;
+            }
+            DueField::At(end)
+        }
     }
 }
 
@@ -160,7 +192,7 @@ pub fn pair_at(t: &[u8], table: &[u8], at: usize, end: usize) -> Pair
 
 // The byte of the next variable, behind this one.
 fn next_after(next: usize, b: usize) -> usize
-    requires { ⌜ next ≤ two-byte-values ⌝ }
+    requires { ⌜ next ≤ byte-values ⌝ }
     ensures { λ r. ⌜ r ≡ next-after next b ⌝ }
 {
     if b == next {
@@ -171,7 +203,7 @@ fn next_after(next: usize, b: usize) -> usize
 
 // Whether the pair that fills the bytes from a place to an end is renamed: its variables are 0, 1, 2 .. in order of first occurrence.
 pub fn is_renamed(t: &[u8], at: usize, end: usize) -> bool
-    requires { ⌜ (at ≤ end) × (end ≤ length (now t)) × (length (now t) ≤ 32768) ⌝ }
+    requires { ⌜ (at ≤ end) × (end ≤ length (now t)) × (length (now t) ≤ two-byte-values) ⌝ }
     ensures { λ r. ⌜ IsRenamed (now (t .entry)) at end r ⌝ }
 {
     let mut next: usize = limits::FIRST_VARIABLE;

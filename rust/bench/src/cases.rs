@@ -2,45 +2,29 @@
 //! terms of lower stand apart.
 
 use crate::{decisions, pairs};
-use kb_engine::full_log;
-use kb_engine::notation::Theory;
-use kb_engine::pairs::Pair;
-use kb_engine::put_back::rounds::ladder;
-use kb_engine::put_back::simplified::groups_with_unit;
-use kb_engine::theories::{self, monoid, power, PAPERS};
+use kb_cases::full_log;
+use kb_cases::notation::Theory;
+use kb_cases::put_back::rounds::ladder;
+use kb_cases::put_back::simplified::groups_with_unit;
+use kb_cases::theories::{self, monoid, power, PAPERS};
+use kb_compare::call::{Bytes, Call};
 
-/// Which call is timed.
-#[derive(Clone, Copy, Debug, PartialEq, Eq)]
-pub enum Call {
-    Complete,
-    Compare,
-    Unify,
-    Subterm(usize),
-    Decide,
-    Lower,
-}
-
-/// A named call on a problem, or on a pair of terms.
+/// A named call.
 pub struct Case {
     pub name: String,
-    pub call: Call,
-    pub problem: Vec<u8>,
-    /// What decide is asked of.
-    pub record: Vec<u8>,
-    /// What lower is asked of.
-    pub pair: Pair,
+    pub call: Call<'static>,
 }
 
 const BUDGET: u32 = 1_000_000;
 
-pub fn case(name: &str, call: Call, theory: Theory) -> Case {
-    Case {
-        name: name.to_string(),
-        call,
-        problem: theory.problem(BUDGET),
-        record: Vec::new(),
-        pair: Pair::default(),
-    }
+/// A call on the problem of a theory.
+pub fn case(name: &str, call: fn(Bytes<'static>) -> Call<'static>, theory: Theory) -> Case {
+    made(name, call(theory.problem(BUDGET).into()))
+}
+
+pub fn made(name: &str, call: Call<'static>) -> Case {
+    let name = name.to_string();
+    Case { name, call }
 }
 
 /// All cases in the order of the table.
@@ -157,7 +141,11 @@ fn unified() -> Vec<Case> {
 fn read() -> Vec<Case> {
     let chains = chains(&power("i", 119, "x"), &power("j", 119, "y"));
     vec![
-        case("subterm of i^119(x) at 60", Call::Subterm(60), chains),
+        case(
+            "subterm of i^119(x) at 60",
+            |p| Call::Subterm(p, 60),
+            chains,
+        ),
         case("read 16 equations of 240", Call::Compare, sixteen_long()),
     ]
 }

@@ -1,14 +1,14 @@
 //! The questions of the benchmark: some rewriting; a record that is long to
 //! read, refused behind it or with its rules compared; and much rewriting.
 
-use crate::cases::{case, Call, Case};
-use kb_compare::engines::result_of;
+use crate::cases::{made, Case};
+use kb_cases::kept::Kept;
+use kb_cases::notation::Theory;
+use kb_cases::questions::counted;
+use kb_cases::theories::{countdown, group_rules, GROUP};
+use kb_compare::call::{result_of, Call};
 use kb_compare::RustEngine;
-use kb_engine::kept::Kept;
-use kb_engine::notation::Theory;
-use kb_engine::questions::counted;
 use kb_engine::run::END_COMPLETE;
-use kb_engine::theories::{countdown, group_rules, GROUP};
 use kb_engine::{MAX_BUDGET, MAX_LOG, MAX_RULES};
 
 /// Two products with one normal form, 26 steps away.
@@ -41,10 +41,8 @@ pub fn all() -> Vec<Case> {
 }
 
 fn asked(name: &str, theory: Theory, record: Vec<u8>) -> Case {
-    Case {
-        record,
-        ..case(name, Call::Decide, theory)
-    }
+    let problem = theory.problem(MAX_BUDGET);
+    made(name, Call::Decide(problem.into(), record.into()))
 }
 
 /// The result of completing 002's ten rules.

@@ -12,8 +12,8 @@ mod decisions;
 mod pairs;
 mod provers;
 
-use cases::{Call, Case};
-use kb_compare::engines::decode;
+use cases::Case;
+use kb_compare::call::{decode, Call};
 use kb_compare::{Engine, ProvedEngine, RustEngine};
 use kb_engine::fields::{split_fields, TAG_RULE};
 use kb_engine::MIN_RESULT;
@@ -23,18 +23,7 @@ const SAMPLES: usize = 9;
 const SAMPLE_SECONDS: f64 = 0.008;
 
 fn call(engine: &dyn Engine, case: &Case, result: &mut [u8]) -> u64 {
-    let problem = black_box(case.problem.as_slice());
-    match case.call {
-        Call::Complete => engine.complete(problem, result),
-        Call::Compare => engine.compare(problem),
-        Call::Unify => engine.unify(problem, result),
-        Call::Subterm(position) => engine.subterm(problem, position),
-        Call::Decide => engine.decide(problem, black_box(case.record.as_slice())),
-        Call::Lower => {
-            let pair = black_box(&case.pair);
-            engine.lower(&pair.symbols, &pair.first, &pair.second)
-        }
-    }
+    engine.run(black_box(&case.call), [result, &mut []])
 }
 
 /// Seconds a call, over so many calls.
@@ -55,21 +44,21 @@ fn calls_for(engine: &dyn Engine, case: &Case, result: &mut [u8]) -> u32 {
 /// What a call answered, in words.
 fn answer_text(case: &Case, answer: u64, result: &[u8]) -> String {
     let (kind, number, low) = decode(answer);
-    match (case.call, kind) {
-        (Call::Subterm(_), _) => format!("{} bytes", low),
-        (Call::Lower, _) => ["refused", "first", "second"][low as usize].to_string(),
+    match (&case.call, kind) {
+        (Call::Subterm(..), _) => format!("{} bytes", low),
+        (Call::Lower(..), _) => ["refused", "first", "second"][low as usize].to_string(),
         (_, 0) => format!("refused {number}"),
-        (Call::Compare, _) => format!("answer {low}"),
-        (Call::Complete, _) => {
+        (Call::Compare(..), _) => format!("answer {low}"),
+        (Call::Complete(..), _) => {
             let units = result[7..11].iter().fold(0, |n, b| n << 8 | *b as u32);
             let rules = rule_count(&result[..low as usize]);
             format!("end {}, {units} units, {rules} rules", result[3])
         }
-        (Call::Unify, 1) => format!("{} nodes", low - 3),
-        (Call::Unify, 2) => "none".to_string(),
-        (Call::Decide, 1) if low == 1 => "same".to_string(),
-        (Call::Decide, 1) => "different".to_string(),
-        (Call::Unify | Call::Decide, _) => format!("number {number}"),
+        (Call::Unify(..), 1) => format!("{} nodes", low - 3),
+        (Call::Unify(..), 2) => "none".to_string(),
+        (Call::Decide(..), 1) if low == 1 => "same".to_string(),
+        (Call::Decide(..), 1) => "different".to_string(),
+        (Call::Unify(..) | Call::Decide(..), _) => format!("number {number}"),
     }
 }
 

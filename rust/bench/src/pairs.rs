@@ -2,9 +2,9 @@
 //! way down, trees that agree up to the last leaf, and a comb each leaf of
 //! which is compared with every node of a chain.
 
-use crate::cases::{tree, Call, Case};
-use kb_engine::pairs::{product, Pair};
-use kb_engine::theories::power;
+use crate::cases::{made, tree, Case};
+use kb_cases::pairs::{product, Pair};
+use kb_cases::theories::power;
 
 pub fn all() -> Vec<Case> {
     let [i, j] = ["i", "j"].map(|symbol| power(symbol, 119, "x"));
@@ -18,13 +18,7 @@ pub fn all() -> Vec<Case> {
 }
 
 fn lower(name: &str, pair: Pair) -> Case {
-    Case {
-        name: name.to_string(),
-        call: Call::Lower,
-        problem: Vec::new(),
-        record: Vec::new(),
-        pair,
-    }
+    made(name, pair.into())
 }
 
 /// Balanced trees of 60 leaves under one more symbol.

@@ -1,7 +1,7 @@
 //! Whole-process times of settle on the ten rules and the axioms of groups, of a
 //! process that does nothing, and of other provers on the axioms.
 
-use kb_engine::theories;
+use kb_cases::theories;
 use std::env;
 use std::fs::{self, File};
 use std::path::{Path, PathBuf};

@@ -1,20 +1,8 @@
-//! An engine held to the answers that the fixed problems, questions and pairs
-//! of terms must get.
+//! An engine held to the answers that the fixed problems must get.
 
-use crate::check::part;
-use crate::engines::{chosen, compared, decided, decode, handed_back, refused, unified, Engine};
-use kb_engine::fixed::Case;
-use kb_engine::{pairs, questions, MIN_RESULT};
-
-/// The answer that a fixed question must get.
-pub fn due(case: &questions::Case) -> u64 {
-    decided(case.answer)
-}
-
-/// The answer that a fixed pair of terms must get.
-pub fn due_of_pair(case: &pairs::Case) -> u64 {
-    chosen(case.answer)
-}
+use crate::call::{compared, decode, handed_back, refused, unified, Engine};
+use kb_cases::fixed::Case;
+use kb_engine::MIN_RESULT;
 
 /// The calls whose answer to a case is not what it must be, with that answer.
 pub fn faults(engine: &dyn Engine, case: &Case) -> Vec<(String, u64)> {
@@ -39,7 +27,7 @@ pub fn faults(engine: &dyn Engine, case: &Case) -> Vec<(String, u64)> {
         answers.push(("decide".to_string(), decide, decide == refused(refusal)));
     }
     for (position, range) in &case.parts {
-        let subterm = part(engine.subterm(problem, *position));
+        let subterm = engine.subterm(problem, *position);
         let right = subterm == handed_back(range.start, range.len());
         answers.push((format!("subterm at {position}"), subterm, right));
     }

@@ -1,6 +1,6 @@
 //! The three slices of a pair of terms, lent from one buffer.
 
-use kb_engine::pairs::Pair;
+use kb_cases::pairs::Pair;
 use kb_engine::MAX_NODES;
 use std::ops::Range;
 

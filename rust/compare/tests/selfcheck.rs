@@ -1,13 +1,14 @@
 //! The comparison finds differences. Runs with the feature `selfcheck`.
 #![cfg(feature = "selfcheck")]
 
-use kb_compare::check::{Checker, Setting};
-use kb_compare::engines::{encode, result_of};
-use kb_compare::fixed::{due, faults};
+use kb_cases::fixed::{self, Case};
+use kb_cases::generate::records::{self, exhaustive};
+use kb_cases::{chains, generate, questions};
+use kb_compare::call::{decided, encode, result_of, Call};
+use kb_compare::check::Checker;
+use kb_compare::fixed::faults;
+use kb_compare::inputs::Input;
 use kb_compare::{Engine, RustEngine};
-use kb_engine::fixed::{self, Case};
-use kb_engine::generate::records::{self, exhaustive};
-use kb_engine::{chains, generate, questions};
 
 /// Call, answer and result to the answer given instead.
 type Fault = fn(&str, u64, &mut [u8]) -> u64;
@@ -16,31 +17,9 @@ type Fault = fn(&str, u64, &mut [u8]) -> u64;
 struct Faulty(Fault);
 
 impl Engine for Faulty {
-    fn complete(&self, problem: &[u8], result: &mut [u8]) -> u64 {
-        let answer = RustEngine.complete(problem, result);
-        self.0("complete", answer, result)
-    }
-
-    fn unify(&self, problem: &[u8], result: &mut [u8]) -> u64 {
-        let answer = RustEngine.unify(problem, result);
-        self.0("unify", answer, result)
-    }
-
-    fn compare(&self, problem: &[u8]) -> u64 {
-        self.0("compare", RustEngine.compare(problem), &mut [])
-    }
-
-    fn subterm(&self, problem: &[u8], position: usize) -> u64 {
-        self.0("subterm", RustEngine.subterm(problem, position), &mut [])
-    }
-
-    fn decide(&self, problem: &[u8], record: &[u8]) -> u64 {
-        self.0("decide", RustEngine.decide(problem, record), &mut [])
-    }
-
-    fn lower(&self, symbols: &[u8], first: &[u8], second: &[u8]) -> u64 {
-        let answer = RustEngine.lower(symbols, first, second);
-        self.0("lower", answer, &mut [])
+    fn run(&self, call: &Call, [first, second]: [&mut [u8]; 2]) -> u64 {
+        let answer = RustEngine.run(call, [first, second]);
+        self.0(call.name(), answer, first)
     }
 }
 
@@ -48,28 +27,31 @@ fn differences(fault: Fault) -> usize {
     let faulty = Faulty(fault);
     let mut checker = Checker::new(&faulty, &RustEngine);
     let problems = (0..600).map(|index| (index, generate::problem(5, index)));
-    problems
-        .filter(|(i, p)| checker.problem(p, &Setting::varied(*i)).is_err())
-        .count()
+    let inputs = problems.map(|(number, problem)| (number, Input::Problem(problem)));
+    let different = inputs.filter(|(number, input)| checker.run(input, *number).is_err());
+    different.count()
 }
 
 /// Questions on which the answers differ: generated, and of damaged records.
 fn different_decisions(fault: Fault) -> [usize; 2] {
     let faulty = Faulty(fault);
-    let checker = Checker::new(&faulty, &RustEngine);
+    let mut checker = Checker::new(&faulty, &RustEngine);
+    let mut differs = |question| checker.run(&Input::Question(question), 0).is_err();
     let complete = |problem: &[u8]| result_of(&RustEngine, problem);
     let generated = (0..1000).map(|index| records::question(5, index, &complete));
-    let generated = generated.filter(|question| checker.question(question).is_err());
+    let generated = generated
+        .filter(|question| differs(question.clone()))
+        .count();
     let damaged = exhaustive::all().step_by(7);
-    let damaged = damaged.filter(|question| checker.question(question).is_err());
-    [generated.count(), damaged.count()]
+    let damaged = damaged.filter(|question| differs(question.clone())).count();
+    [generated, damaged]
 }
 
 /// Fixed questions with a wrong answer.
 fn wrong_decisions(cases: &[questions::Case], fault: Fault) -> usize {
     let wrong = cases.iter().filter(|case| {
         let question = &case.question;
-        Faulty(fault).decide(&question.problem, &question.record) != due(case)
+        Faulty(fault).decide(&question.problem, &question.record) != decided(case.answer)
     });
     wrong.count()
 }

@@ -4,17 +4,24 @@
 
 mod common;
 
-use common::{Lower, Other, RIGHT};
+use common::Other;
+use kb_cases::generate::pairs::{exhaustive, pair};
+use kb_cases::{chains, pairs};
+use kb_compare::call::{chosen, Call};
 use kb_compare::check::Checker;
-use kb_compare::fixed::due_of_pair;
+use kb_compare::inputs::Input;
 use kb_compare::lent::{Lent, LAYOUTS};
 use kb_compare::{Engine, RustEngine};
-use kb_engine::generate::pairs::{exhaustive, pair};
-use kb_engine::{chains, pairs};
+
+/// The slices of lower to an answer.
+type Lower = fn(&[u8], &[u8], &[u8]) -> u64;
 
 /// The Rust engine with another lower.
-fn with_lower(lower: Lower) -> Other {
-    Other { lower, ..RIGHT }
+fn with_lower(lower: Lower) -> impl Engine {
+    Other(move |call: &Call, _: &mut [u8]| match call {
+        Call::Lower(symbols, first, second) => Some(lower(symbols, first, second)),
+        _ => None,
+    })
 }
 
 /// The Rust engine's answer.
@@ -105,19 +112,20 @@ fn one_node_more(symbols: &[u8], first: &[u8], second: &[u8]) -> u64 {
 /// Pairs on which the answers differ: generated, and damaged.
 fn different_pairs(lower: Lower) -> [usize; 2] {
     let faulty = with_lower(lower);
-    let checker = Checker::new(&faulty, &RustEngine);
+    let mut checker = Checker::new(&faulty, &RustEngine);
+    let mut differs = |(number, pair)| checker.run(&Input::Pair(pair), number).is_err();
     let generated = (0..6400).map(|index| (index, pair(5, index)));
-    let generated = generated.filter(|(i, pair)| checker.pair(pair, *i).is_err());
+    let generated = generated.filter(|case| differs(case.clone())).count();
     let damaged = (0..).zip(exhaustive::all());
-    let damaged = damaged.filter(|(i, pair)| checker.pair(pair, *i).is_err());
-    [generated.count(), damaged.count()]
+    let damaged = damaged.filter(|case| differs(case.clone())).count();
+    [generated, damaged]
 }
 
 /// Fixed pairs with a wrong answer.
 fn wrong_pairs(cases: &[pairs::Case], lower: Lower) -> usize {
     let wrong = cases.iter().filter(|case| {
         let pair = &case.pair;
-        lower(&pair.symbols, &pair.first, &pair.second) != due_of_pair(case)
+        lower(&pair.symbols, &pair.first, &pair.second) != chosen(case.answer)
     });
     wrong.count()
 }

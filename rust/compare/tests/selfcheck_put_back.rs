@@ -3,20 +3,21 @@
 #![cfg(feature = "selfcheck")]
 
 mod common;
-#[path = "../../tests/common/mod.rs"]
+#[path = "../../cases/tests/common/mod.rs"]
 mod definitions;
 
-use common::{Complete, Other, RIGHT};
+use common::Other;
 use definitions::literal_run::{run_with, Rounds, Taken, Waiting, ROUNDS};
-use kb_compare::check::{Checker, Setting};
-use kb_compare::engines::{encode, result_of};
+use kb_cases::generate;
+use kb_cases::kept::Kept;
+use kb_cases::put_back;
+use kb_compare::call::{encode, result_of, Call};
+use kb_compare::check::Checker;
 use kb_compare::fixed::faults;
+use kb_compare::inputs::Input;
 use kb_compare::summary::Summary;
 use kb_compare::{Engine, RustEngine};
-use kb_engine::generate;
-use kb_engine::kept::Kept;
 use kb_engine::problem::Problem;
-use kb_engine::put_back;
 use kb_engine::{MAX_LOG, MIN_RESULT};
 
 const SEED: u64 = 5;
@@ -25,9 +26,15 @@ const COUNT: u64 = 50 * generate::FAMILY_COUNT;
 /// Longer runs are left to the Rust engine: the definitions are slow.
 const MOST_UNITS: u32 = 60;
 
+/// The slices of complete to an answer.
+type Complete = fn(&[u8], &mut [u8]) -> u64;
+
 /// The Rust engine with another complete.
-fn with_complete(complete: Complete) -> Other {
-    Other { complete, ..RIGHT }
+fn with_complete(complete: Complete) -> impl Engine {
+    Other(move |call: &Call, result: &mut [u8]| match call {
+        Call::Complete(problem) => Some(complete(problem, result)),
+        _ => None,
+    })
 }
 
 /// The fields that the Rust engine writes, none if it refuses.
@@ -226,9 +233,9 @@ fn differences(complete: Complete) -> usize {
     let engine = with_complete(complete);
     let mut checker = Checker::new(&engine, &RustEngine);
     let problems = (0..COUNT).map(|index| (index, generate::problem(SEED, index)));
-    problems
-        .filter(|(i, p)| checker.problem(p, &Setting::varied(*i)).is_err())
-        .count()
+    let inputs = problems.map(|(number, problem)| (number, Input::Problem(problem)));
+    let different = inputs.filter(|(number, input)| checker.run(input, *number).is_err());
+    different.count()
 }
 
 #[test]
@@ -276,8 +283,8 @@ fn the_summary_counts_equations_put_back() {
     let mut summary = Summary::new("problems");
     for index in 0..COUNT {
         let problem = generate::problem(SEED, index);
-        let answers = checker.problem(&problem, &Setting::varied(index));
-        summary.note_problem(&problem, &answers.expect("equal engines agree"));
+        let notes = checker.run(&Input::Problem(problem), index);
+        summary.note(notes.expect("equal engines agree"));
     }
     let least = [
         ("complete: end 20", 300),

@@ -4,7 +4,8 @@
 
 mod common;
 
-use common::{Lower, Other, RIGHT};
+use common::Other;
+use kb_compare::call::Call;
 use kb_compare::stack::cases::{cases, Case, Kind};
 use kb_compare::stack::table::{Row, LIMIT, NODES};
 use kb_compare::stack::{Stack, STACK};
@@ -75,9 +76,19 @@ fn every_written_byte_counts() {
 }
 
 /// Subterm, which goes down a frame for each byte before.
-fn recursing_subterm(problem: &[u8], position: usize) -> u64 {
-    assert_eq!(recursing(problem.len()), problem.len());
-    RustEngine.subterm(problem, position)
+fn recursing_subterm(call: &Call, _: &mut [u8]) -> Option<u64> {
+    if let Call::Subterm(problem, _) = call {
+        assert_eq!(recursing(problem.len()), problem.len());
+    }
+    None
+}
+
+/// Lower, with the other term.
+fn other_term(call: &Call, _: &mut [u8]) -> Option<u64> {
+    match call {
+        Call::Lower(..) => Some(RustEngine.run(call, Default::default()) ^ 3),
+        _ => None,
+    }
 }
 
 fn rows(engine: &(dyn Engine + Sync)) -> Vec<Row> {
@@ -100,8 +111,7 @@ fn the_rust_engine_walks_in_loops() {
 
 #[test]
 fn a_recursive_walk_is_found() {
-    let subterm = recursing_subterm;
-    for row in rows(&Other { subterm, ..RIGHT }) {
+    for row in rows(&Other(recursing_subterm)) {
         assert!(row.wrong.is_empty(), "{row}");
         if row.name.starts_with("subterm") {
             let faults = row.faults();
@@ -112,8 +122,7 @@ fn a_recursive_walk_is_found() {
 
 #[test]
 fn wrong_answers_are_found() {
-    let lower: Lower = |symbols, first, second| RustEngine.lower(symbols, first, second) ^ 3;
-    for row in rows(&Other { lower, ..RIGHT }) {
+    for row in rows(&Other(other_term)) {
         let wrong = match row.name.starts_with("lower") {
             true => NODES.len(),
             false => 0,
@@ -144,5 +153,5 @@ fn unequal_and_large_figures_are_faults() {
     assert_eq!(count(Kind::Deep, [300, 301, LIMIT]), 0);
     assert_eq!(count(Kind::Deep, [300, 301, LIMIT + 1]), 1);
     assert_eq!(count(Kind::Walk, [LIMIT, LIMIT, LIMIT + 1]), 2);
-    assert!(LIMIT < STACK);
+    const { assert!(LIMIT < STACK) };
 }

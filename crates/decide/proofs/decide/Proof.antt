@@ -6,7 +6,7 @@ use native.Mathlib.Omega.{arith}
 use lib.ListN.{length}
 use Rattle.only_equation.specs.Places.{IsSides}
 use Rattle.only_equation.specs.declared.Equation.the-variants.{At}
-use Rattle.only_equation.proofs.Singles.{in-order}
+use Rattle.only_equation.proofs.Singles.{found as places-found}
 use Rattle.decide.specs.Answers.{decided-told}
 use Rattle.decide.proofs.Questions.{problem-refused, lent-small, decided}
 use Rattle.decide.proofs.Answering.{laws}
@@ -41,7 +41,8 @@ found at = subst (IsSides _) (at .table-end .given .1) (sides-of-table-end at .s
 -- the parts that are lent stand in the problem, one behind the other
 order : (at : tie.After-table-end) → (3 ≤ table-end at) × (table-end at ≤ length (entry-of-sides (sides-of-table-end at) .args .problem .now))
     × (left at ≤ right at) × (right at ≤ end at) × (end at ≤ length (entry-of-sides (sides-of-table-end at) .args .problem .now))
-order at = let o = in-order _ _ _ _ _ _ (found at .1) in (o .0, o .1, o .2, o .3, o .4)
+order at =
+    let o = places-found _ _ _ _ _ _ _ (sides-of-table-end at .sides .ensures) (at .table-end .given .1) .order in (o .0, o .1, o .2, o .3, o .4)
 
 cast-ask : tie.Need-cast-ask
 cast-ask c =

@@ -42,6 +42,13 @@ returns c =
 
 returns-2 : tie.Need-returns-2
 returns-2 c =
+    let at-due : tie.After-due = search depth 0 in
+    let at-put-mark = put-mark-of-due at-due in
+    field-none _ _ _ _ _ _ _ (numbered-of-put-mark at-put-mark .numbered .ensures) (at-put-mark .put-mark .ensures) _ _
+    (rw (c .enum-told2 .given .1) at (at-due .due .ensures))
+
+returns-3 : tie.Need-returns-3
+returns-3 c =
     let at-put-sides : tie.After-put-sides = search depth 0 in
     let at-e : tie.After-e = search depth 0 in
     let at-due : tie.After-due = search depth 0 in
@@ -54,4 +61,5 @@ pub put-equation-spec : {M : Type 1} → statement M
 put-equation-spec =
     tie.close (tie.spec
     (λ c. search needs) (λ c. search needs) (λ c κs. search needs) (λ c. search needs) (λ c κs. search needs) (λ c κs. search needs) (λ c. search needs)
-    (λ c. search needs) add-put-sides put-sides-requires (λ c. search needs) returns (λ c. search needs) returns-2)
+    (λ c. search needs) (λ c. search needs) add-put-sides put-sides-requires (λ c. search needs) returns (λ c. search needs) returns-2
+    (λ c. search needs) returns-3)

@@ -1,6 +1,5 @@
 -- `parse_rest`: what `due`, `budget` and `equations` answer, one behind the other. Assumes nothing.
 -- Read first: specs/Parser (IsRest, RestAt), proofs/Parses.
-use native.Mathlib.Omega.{arith}
 use Rattle.problem.proofs.Parses.{rest-not-due, rest-budget-refused, rest-equations-refused, rest-fine}
 use borrow.Author.Needs.{needs}
 use Rattle.problem.proofs.parse_rest.Statement.{statement}
@@ -18,15 +17,6 @@ equations-requires c κs =
     let at-due : tie.After-due = search depth 0 in
     let entry : tie.Start = search depth 0 in
     let d = rw (at-end .end .given .1) at (at-due .due .ensures) in (entry .pre .0, (d .2, entry .pre .1))
-
-add-t19 : tie.Need-add-t19
-add-t19 c =
-    let at-amount : tie.After-amount = search depth 0 in
-    let at-budget : tie.After-budget = search depth 0 in
-    let at-end : tie.After-end = search depth 0 in
-    let at-due : tie.After-due = search depth 0 in
-    let B = rw (at-amount .amount .given .1) at (at-budget .budget .ensures) in
-    let d = rw (at-end .end .given .1) at (at-due .due .ensures) in omega (arith, B .1, d .2)
 
 returns : tie.Need-returns
 returns c =
@@ -70,4 +60,4 @@ pub parse-rest-spec : {M : Type 1} → statement M
 parse-rest-spec =
     tie.close (tie.spec
     (λ c κs. search needs) (λ c. search needs) (λ c. search needs) budget-requires (λ c. search needs) (λ c. search needs) equations-requires
-    (λ c. search needs) (λ c. search needs) add-t19 returns returns-2 returns-3 returns-4)
+    (λ c. search needs) (λ c. search needs) returns returns-2 returns-3 returns-4)

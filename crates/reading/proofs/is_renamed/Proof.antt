@@ -1,7 +1,6 @@
 -- `is_renamed`: the invariant is that the bytes from i on are in order where all are; the bytes to come fall. Assumes nothing.
 -- Read first: specs/Answers (ordered, IsRenamed), proofs/Ordered (Walked).
 use Prim.Native.Nat.{_-_}
-use native.Mathlib.Omega.{arith}
 use Rattle.reading.proofs.Ordered.{Walked, walk-start, walk-wrong, walk-more, walk-end}
 use borrow.Author.Needs.{needs}
 use Rattle.reading.proofs.is_renamed.Statement.{statement}
@@ -29,8 +28,7 @@ returns c =
 next-after-requires : tie.Need-next-after-requires Inv-loop μ-loop
 next-after-requires c κs =
     let at-loop : tie.At-loop Inv-loop μ-loop = search depth 0 in
-    let entry : tie.Start Inv-loop μ-loop = search depth 0 in
-    let W = at-loop .loop .inv in omega (arith, W .small, W .high, entry .pre .1, entry .pre .2)
+    at-loop .loop .inv .small
 
 loop-again : tie.Need-loop-again Inv-loop μ-loop
 loop-again c =
@@ -40,7 +38,7 @@ loop-again c =
     let at-loop : tie.At-loop Inv-loop μ-loop = search depth 0 in
     let entry : tie.Start Inv-loop μ-loop = search depth 0 in
     walk-more _ _ _ _ _ (entry .pre .1) (at-loop .loop .inv) (in-loop .loop-test .taken) _ (at-wide .wide .ensures .0)
-    (in-else1 .if1 .left) _ (c .next-after .ensures)
+    (at-wide .wide .ensures .1) (in-else1 .if1 .left) _ (c .next-after .ensures)
 
 returns-2 : tie.Need-returns-2 Inv-loop μ-loop
 returns-2 c =

@@ -3,13 +3,13 @@
 //! A chain of n nodes is a unary symbol n - 1 times over a leaf. Each case is
 //! given for any n from 2 to 120, with the answer due.
 
-use crate::engines::{chosen, compared, decided, encode, handed_back, refused, result_of, unified};
-use crate::engines::{Engine, RustEngine};
-use kb_engine::kept::Kept;
-use kb_engine::notation::Theory;
-use kb_engine::pairs::Pair;
-use kb_engine::questions::Question;
-use kb_engine::theories::power;
+use crate::call::{chosen, compared, decided, encode, handed_back, refused, result_of, unified};
+use crate::call::{Bytes, Call, RustEngine};
+use kb_cases::kept::Kept;
+use kb_cases::notation::Theory;
+use kb_cases::pairs::Pair;
+use kb_cases::questions::Question;
+use kb_cases::theories::power;
 use kb_engine::{CompareAnswer, DecideAnswer, Order, Refusal, UnifyAnswer, Which};
 
 /// i is above j and below k, and has one rank with l.
@@ -24,32 +24,8 @@ const BUDGET: u32 = 1000;
 /// About as many nodes as a problem has room for.
 const LONG: usize = 8000;
 
-/// What a call is lent.
-pub enum Input {
-    Subterm(Vec<u8>, usize),
-    Compare(Vec<u8>),
-    Unify(Vec<u8>),
-    Complete(Vec<u8>),
-    Decide(Question),
-    Lower(Pair),
-}
-
-impl Input {
-    /// The call's answer as one number.
-    pub fn run(&self, engine: &dyn Engine, result: &mut [u8]) -> u64 {
-        match self {
-            Input::Subterm(problem, position) => engine.subterm(problem, *position),
-            Input::Compare(problem) => engine.compare(problem),
-            Input::Unify(problem) => engine.unify(problem, result),
-            Input::Complete(problem) => engine.complete(problem, result),
-            Input::Decide(question) => engine.decide(&question.problem, &question.record),
-            Input::Lower(pair) => engine.lower(&pair.symbols, &pair.first, &pair.second),
-        }
-    }
-}
-
 /// A call on chains of so many nodes, and its answer.
-type Prepared = fn(usize) -> (Input, u64);
+type Prepared = fn(usize) -> (Call<'static>, u64);
 
 /// What a case does with its chains.
 #[derive(Clone, Copy, Debug, PartialEq)]
@@ -115,19 +91,19 @@ fn alone(n: usize) -> String {
 }
 
 /// The problem of these equations.
-fn problem(equations: &[[&str; 2]]) -> Vec<u8> {
+fn problem(equations: &[[&str; 2]]) -> Bytes<'static> {
     let texts = equations.iter().map(|sides| sides.join(" = "));
     let theory = Theory::new(SYMBOLS);
     let theory = texts.fold(theory, |theory, text| theory.equation(&text));
-    theory.problem(BUDGET)
+    theory.problem(BUDGET).into()
 }
 
 /// Both sides are walked to their ends, then the part to its own.
 fn subterms() -> Vec<Case> {
-    fn part(n: usize, position: usize) -> (Input, u64) {
+    fn part(n: usize, position: usize) -> (Call<'static>, u64) {
         let lent = problem(&[[&chain("i", n, "x"), "x"]]);
         let answer = handed_back(LEFT + position, n - position);
-        (Input::Subterm(lent, position), answer)
+        (Call::Subterm(lent, position), answer)
     }
     vec![
         walk("subterm at a chain's root", |n| part(n, 0)),
@@ -136,70 +112,74 @@ fn subterms() -> Vec<Case> {
         walk("subterm behind a chain", |n| part(n, n)),
         walk("subterm beside a right chain", |n| {
             let lent = problem(&[["x", &chain("i", n, "x")]]);
-            (Input::Subterm(lent, 0), handed_back(LEFT, 1))
+            (Call::Subterm(lent, 0), handed_back(LEFT, 1))
         }),
     ]
 }
 
 /// A problem whose equation has these nodes, and its refusal.
-fn bad(nodes: Vec<u8>, number: u8, place: usize) -> (Vec<u8>, u64) {
+fn bad(nodes: Vec<u8>, number: u8, place: usize) -> (Bytes<'static>, u64) {
     let theory = Theory::new(SYMBOLS).raw_equation(nodes);
-    (theory.problem(BUDGET), refused(Refusal { number, place }))
+    (
+        theory.problem(BUDGET).into(),
+        refused(Refusal { number, place }),
+    )
 }
 
 /// The left chain is cut: the walk ends with the field, a subterm owed.
-fn cut(n: usize) -> (Vec<u8>, u64) {
+fn cut(n: usize) -> (Bytes<'static>, u64) {
     bad(vec![I; n], 10, LEFT + n)
 }
 
 /// Each call reads a problem by walking to the ends of its terms.
 fn readings() -> Vec<Case> {
-    fn of(call: fn(Vec<u8>) -> Input, (problem, answer): (Vec<u8>, u64)) -> (Input, u64) {
+    type Made = fn(Bytes<'static>) -> Call<'static>;
+    fn of(call: Made, (problem, answer): (Bytes<'static>, u64)) -> (Call<'static>, u64) {
         (call(problem), answer)
     }
     vec![
         walk("subterm, left chain cut", |n| {
-            (Input::Subterm(cut(n).0, 0), handed_back(0, 0))
+            (Call::Subterm(cut(n).0, 0), handed_back(0, 0))
         }),
-        walk("compare, left chain cut", |n| of(Input::Compare, cut(n))),
+        walk("compare, left chain cut", |n| of(Call::Compare, cut(n))),
         walk("compare, right chain cut", |n| {
             let sides = [vec![I; n - 1], vec![X], vec![I; n]].concat();
-            of(Input::Compare, bad(sides, 10, LEFT + 2 * n))
+            of(Call::Compare, bad(sides, 10, LEFT + 2 * n))
         }),
         walk("compare, a chain 8,000 longer", |n| {
             let side = [vec![I; LONG + n - 1], vec![X]].concat();
-            of(Input::Compare, bad(side, 11, LEFT))
+            of(Call::Compare, bad(side, 11, LEFT))
         }),
-        walk("unify, left chain cut", |n| of(Input::Unify, cut(n))),
-        walk("complete, left chain cut", |n| of(Input::Complete, cut(n))),
+        walk("unify, left chain cut", |n| of(Call::Unify, cut(n))),
+        walk("complete, left chain cut", |n| of(Call::Complete, cut(n))),
         walk("decide, left chain cut", |n| {
             let (problem, answer) = cut(n);
-            let record = Vec::new();
-            (Input::Decide(Question { problem, record }), answer)
+            let record = Vec::new().into();
+            (Call::Decide(problem, record), answer)
         }),
     ]
 }
 
 /// Terms that stand in a record, and by themselves.
 fn other_readings() -> Vec<Case> {
-    fn lower(first: Vec<u8>, second: Vec<u8>) -> (Input, u64) {
+    fn lower(first: Vec<u8>, second: Vec<u8>) -> (Call<'static>, u64) {
         let symbols = Theory::new(SYMBOLS).symbol_field();
         let pair = Pair {
             symbols,
             first,
             second,
         };
-        (Input::Lower(pair), chosen(Which::Refused))
+        (Call::from(pair), chosen(Which::Refused))
     }
     vec![
         walk("decide, a rule's chain cut", |n| {
             let question = Question {
-                problem: problem(&[["x", "x"]]),
+                problem: problem(&[["x", "x"]]).into_owned(),
                 record: Kept::complete(vec![vec![I; n]]).bytes(),
             };
             // The rule's field is behind those of the end and the units.
             let (number, place) = (13, 11);
-            (Input::Decide(question), refused(Refusal { number, place }))
+            (Call::from(question), refused(Refusal { number, place }))
         }),
         walk("lower, first chain cut", |n| lower(vec![I; n], vec![X])),
         walk("lower, second chain cut", |n| lower(vec![X], vec![I; n])),
@@ -222,14 +202,15 @@ fn texts(n: usize, chains: Chains) -> [String; 2] {
 }
 
 /// Equal chains are walked over in step. The path order goes down both chains
-/// at once where the symbols are the same, and down one of them where they have one rank. Where that of the
-/// first is higher it goes down the second and then, at the leaf, down the
-/// first: the deepest, in one direction or the other.
+/// at once where the symbols are the same, and down one of them where they have
+/// one rank. Where that of the first is higher it goes down the second and
+/// then, at the leaf, down the first: the deepest, in one direction or the
+/// other.
 fn comparisons() -> Vec<Case> {
-    fn compare(n: usize, chains: Chains, order: Order) -> (Input, u64) {
+    fn compare(n: usize, chains: Chains, order: Order) -> (Call<'static>, u64) {
         let [left, right] = texts(n, chains);
         let answer = compared(CompareAnswer::Compared(order));
-        (Input::Compare(problem(&[[&left, &right]])), answer)
+        (Call::Compare(problem(&[[&left, &right]])), answer)
     }
     vec![
         looped("compare i..i(x), i..i(x)", |n| {
@@ -252,10 +233,10 @@ fn comparisons() -> Vec<Case> {
 
 /// As compare, in one direction: the deepest has the higher symbol first.
 fn lowers() -> Vec<Case> {
-    fn lower(n: usize, chains: Chains, which: Which) -> (Input, u64) {
+    fn lower(n: usize, chains: Chains, which: Which) -> (Call<'static>, u64) {
         let [first, second] = texts(n, chains);
         let pair = Pair::of_texts(SYMBOLS, [&first, &second]);
-        (Input::Lower(pair), chosen(which))
+        (Call::from(pair), chosen(which))
     }
     vec![
         deep("lower of i..i(x), i..i(y)", |n| {
@@ -276,8 +257,8 @@ fn lowers() -> Vec<Case> {
 /// The instance is written by a loop, whether its nodes come from a side or
 /// from the term of a variable.
 fn unifiers() -> Vec<Case> {
-    fn unify(left: &str, right: &str, answer: UnifyAnswer) -> (Input, u64) {
-        (Input::Unify(problem(&[[left, right]])), unified(answer))
+    fn unify(left: &str, right: &str, answer: UnifyAnswer) -> (Call<'static>, u64) {
+        (Call::Unify(problem(&[[left, right]])), unified(answer))
     }
     /// A field of so many nodes.
     fn written(n: usize) -> UnifyAnswer {
@@ -302,10 +283,12 @@ fn unifiers() -> Vec<Case> {
 /// Normalising goes down the chain asked about; the order test of a rule goes
 /// down its right side and then its left side, which is deepest.
 fn decisions() -> Vec<Case> {
-    fn decide(rule: [&str; 2], sides: [&str; 2], answer: DecideAnswer) -> (Input, u64) {
-        let record = result_of(&RustEngine, &problem(&[rule])).expect("accepted");
+    fn decide(rule: [&str; 2], sides: [&str; 2], answer: DecideAnswer) -> (Call<'static>, u64) {
+        let record = result_of(&RustEngine, &problem(&[rule]))
+            .expect("accepted")
+            .into();
         let problem = problem(&[sides]);
-        (Input::Decide(Question { problem, record }), decided(answer))
+        (Call::Decide(problem, record), decided(answer))
     }
     vec![
         deep("decide, a step at each node", |n| {
@@ -341,23 +324,23 @@ fn completions() -> Vec<Case> {
         deep("complete, no orientation", |n| {
             let sides = [&*chain("i", n, "x"), &*chain("j", n, "y")];
             let pair = 3 + 2 * n;
-            (Input::Complete(problem(&[sides])), written(&[ENTRY, pair]))
+            (Call::Complete(problem(&[sides])), written(&[ENTRY, pair]))
         }),
         deep("complete, a rule of two chains", |n| {
             let sides = [&*alone(n), &*chain("j", n, "x")];
             let fields = [rule(2 * n), ENTRY];
-            (Input::Complete(problem(&[sides])), written(&fields))
+            (Call::Complete(problem(&[sides])), written(&fields))
         }),
         deep("complete, a step at each node", |n| {
             let sides = [&*chain("i", n, "x"), &*chain("j", n, "x")];
             let fields = [rule(4), ENTRY, ENTRY];
             let lent = problem(&[["i(x)", "j(x)"], sides]);
-            (Input::Complete(lent), written(&fields))
+            (Call::Complete(lent), written(&fields))
         }),
         deep("complete, a chain as peak", |n| {
             let left = chain("i", n / 2 + 1, "x");
             let fields = [rule(n / 2 + 2), ENTRY];
-            (Input::Complete(problem(&[[&left, "x"]])), written(&fields))
+            (Call::Complete(problem(&[[&left, "x"]])), written(&fields))
         }),
     ]
 }

@@ -2,7 +2,7 @@
 
 use super::cases::{Case, Kind};
 use super::Stack;
-use crate::engines::{decode, Engine};
+use crate::call::{decode, Engine};
 use kb_engine::MIN_RESULT;
 use std::fmt;
 
@@ -27,9 +27,9 @@ impl Row {
         let mut result = vec![0; MIN_RESULT];
         let mut wrong = Vec::new();
         let taken = NODES.map(|nodes| {
-            let (input, due) = (case.prepared)(nodes);
+            let (call, due) = (case.prepared)(nodes);
             let mut answer = 0;
-            let taken = stack.taken(|| answer = input.run(engine, &mut result));
+            let taken = stack.taken(|| answer = engine.run(&call, [&mut result, &mut []]));
             if answer != due {
                 wrong.push((nodes, answer));
             }

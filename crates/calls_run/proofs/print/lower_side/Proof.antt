@@ -1,6 +1,6 @@
 -- `lower_side`: the sides stand in the problem, one behind the other. Assumes nothing.
 -- Read first: only_equation/specs/Places (IsSides).
-use Rattle.only_equation.proofs.Singles.{in-order}
+use Rattle.only_equation.proofs.Singles.{found}
 use borrow.Author.Needs.{needs}
 use Rattle.calls_run.proofs.print.lower_side.Statement.{statement}
 use Rattle.calls_run.proofs.print.lower_side.Tie as tie
@@ -9,8 +9,7 @@ lower-at-requires : tie.Need-lower-at-requires
 lower-at-requires c κs =
     let at-table-end : tie.After-table-end = search depth 0 in
     let at-sides : tie.After-sides = search depth 0 in
-    let A = rw (at-table-end .table-end .given .1) at (at-sides .sides .ensures) in
-    let o = in-order _ _ _ _ _ _ (A .1) in
+    let o = found _ _ _ _ _ _ _ (at-sides .sides .ensures) (at-table-end .table-end .given .1) .order in
     (o .1, o .2, o .3, o .4)
 
 pub lower-side-spec : {M : Type 1} → statement M

@@ -1,0 +1,101 @@
+//! The kinds of input, as kb_compare runs them, find faults in each call: of
+//! one engine as differences, of both as wrong answers where these are known.
+//! Runs with the feature `selfcheck`.
+#![cfg(feature = "selfcheck")]
+
+mod common;
+
+use common::Other;
+use kb_compare::call::{decode, Call};
+use kb_compare::check::Checker;
+use kb_compare::comparison::compare;
+use kb_compare::inputs::{Plan, KINDS};
+use kb_compare::{Engine, RustEngine};
+
+/// The calls, and the kinds of input on which each is made.
+const CALLS: [(&str, &[&str]); 6] = [
+    ("complete", &["problems"]),
+    ("unify", &["problems"]),
+    ("compare", &["problems"]),
+    ("subterm", &["problems"]),
+    ("decide", &["problems", "questions"]),
+    ("lower", &["pairs of terms"]),
+];
+
+const PLAN: Plan = Plan {
+    seed: 5,
+    first: 0,
+    count: 0,
+};
+
+/// The differences and the wrong answers on the inputs of a kind.
+fn found(kind: &str, left: &dyn Engine, right: &dyn Engine) -> [usize; 2] {
+    let kind = KINDS.iter().find(|known| known.name == kind);
+    let kind = kind.expect("a kind of this name");
+    let summary = compare(&mut Checker::new(left, right), kind, PLAN, false);
+    [summary.differences, summary.wrong]
+}
+
+/// The last byte of a result's units.
+const UNITS_END: usize = 10;
+
+/// The Rust engine with one wrong call: complete writes other units, and the
+/// others answer another number.
+fn faulty(wrong: &'static str) -> impl Engine {
+    Other(move |call: &Call, result: &mut [u8]| {
+        if call.name() != wrong {
+            return None;
+        }
+        let answer = RustEngine.run(call, [result, &mut []]);
+        match (call, decode(answer)) {
+            (Call::Complete(_), (1, ..)) => result[UNITS_END] ^= 1,
+            _ => return Some(answer ^ 1),
+        }
+        Some(answer)
+    })
+}
+
+#[test]
+fn a_fault_of_one_engine_is_a_difference() {
+    for (call, kinds) in CALLS {
+        for kind in kinds {
+            let [differences, _] = found(kind, &faulty(call), &RustEngine);
+            assert!(differences > 0, "{call} of {kind}");
+        }
+    }
+}
+
+#[test]
+fn a_fault_of_both_engines_is_a_wrong_answer() {
+    for (call, kinds) in CALLS {
+        for kind in kinds {
+            let [differences, wrong] = found(kind, &faulty(call), &faulty(call));
+            assert_eq!(differences, 0, "{call} of {kind}");
+            assert!(wrong > 0, "{call} of {kind}");
+        }
+    }
+}
+
+/// Whether one of two slices stands in the other.
+fn shared(a: &[u8], b: &[u8]) -> bool {
+    let (a, b) = (a.as_ptr_range(), b.as_ptr_range());
+    a.start < b.end && b.start < a.end
+}
+
+/// Lower that exchanges terms of which one is lent as a part of the other.
+fn wrong_where_shared(call: &Call, _: &mut [u8]) -> Option<u64> {
+    match call {
+        Call::Lower(_, first, second) if shared(first, second) => {
+            Some(RustEngine.run(call, Default::default()) ^ 3)
+        }
+        _ => None,
+    }
+}
+
+#[test]
+fn a_known_answer_is_due_however_a_pair_is_lent() {
+    let engine = Other(wrong_where_shared);
+    let [differences, wrong] = found("pairs of terms", &engine, &engine);
+    assert_eq!(differences, 0);
+    assert!(wrong > 0);
+}
