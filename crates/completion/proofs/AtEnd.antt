@@ -2,7 +2,7 @@
 -- Read first: specs/Decides, proofs/Ends (what each end says), proofs/Invariant (what rules keep), proofs/Certificate.
 use mathlib.Core.Path.{_≡_, refl, subst₂}
 use mathlib.Core.List.{List, [], _∷_}
-use Prim.Native.Nat.{ℕ, zero, suc, _<_}
+use Prim.Native.Nat.{ℕ, zero, suc, _<_, _-_}
 use native.Mathlib.Omega.{arith}
 use lib.ListN.{length}
 use Rattle.terms.specs.Term.{Pair, renamed}
@@ -19,7 +19,7 @@ use Rattle.rewriting.proofs.Covers.{sides-at, all-places-cover}
 use Rattle.rewriting.proofs.Holds.{reached-star}
 use Rattle.problem.specs.Problem.{Theory}
 use Rattle.rewriting.specs.Rewrite.{End, complete, Paid, done, stop}
-use Rattle.completion.specs.Turn.{Origin, scanned-input, candidates, State, turn, turns}
+use Rattle.completion.specs.Turn.{Origin, scanned-input, candidates, State, Finished, turn, turns}
 use Rattle.completion.specs.Decides.{Decides}
 use Rattle.completion.proofs.Ends.{SameForm, SameAt, OverlapsSame, SameCandidate, Certified, Because}
 use Rattle.completion.proofs.Reachable.{Reachable, by-turn, after}
@@ -74,19 +74,23 @@ stop-delivered T given s r left left′ e q d =
 
 -- The delivery theorem of the turns, from any state of a run: where they end with 0, the rules that they leave decide the equations.
 module _ (T : Theory) (given : OverEquations (T .symbols) (T .equations)) (budget : ℕ) where
+  -- what is behind a turn that came to this
+  abbrev behind : ℕ → State → Paid State → Finished
+  behind n s p =
+      elim p [
+        | done s′ left′ ↦ turns n T budget s′ left′
+        | stop e left′ ↦ record { end = e; units = budget - left′; state = s }
+      ]
+
   pub turns-delivered : (n : ℕ) (s : State) (left : ℕ) → Reachable T s → turns n T budget s left .end ≡ complete →
       Decides (T .symbols) (T .equations) (turns n T budget s left .state .rules)
   unfolding turns
   turns-delivered zero s left r e = absurd (zero≢one (cc))
   turns-delivered (suc n) s left r e = go (turn T s left) refl e (λ s′ left′ r′ e′. turns-delivered n s′ left′ r′ e′)
     where
-      go : (p : Paid State) → turn T s left ≡ p → turns (suc n) T budget s left .end ≡ complete →
+      go : (p : Paid State) → turn T s left ≡ p → behind n s p .end ≡ complete →
           ((s′ : State) (left′ : ℕ) → Reachable T s′ → turns n T budget s′ left′ .end ≡ complete →
           Decides (T .symbols) (T .equations) (turns n T budget s′ left′ .state .rules)) →
-          Decides (T .symbols) (T .equations) (turns (suc n) T budget s left .state .rules)
-      go (done s′ left′) q e ih =
-          let e′ : turns n T budget s′ left′ .end ≡ complete = rw (q, turns) at e in
-          rw (q, turns) (ih s′ left′ (by-turn left r q) e′)
-      go (stop end left′) q e ih =
-          let e′ : end ≡ complete = rw (q, turns) at e in
-          rw (q, turns) (stop-delivered T given s r left left′ end q e′)
+          Decides (T .symbols) (T .equations) (behind n s p .state .rules)
+      go (done s′ left′) q e ih = ih s′ left′ (by-turn left r q) e
+      go (stop end left′) q e ih = stop-delivered T given s r left left′ end q e

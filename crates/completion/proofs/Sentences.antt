@@ -31,8 +31,11 @@ turn-unpaid T s = refl
 pub scan-pays-input : (rules : List Rule) (c : Candidate) (cs : List Candidate) (forms : Pair) (units left : ℕ) →
     normalise-pair rules (c .sides) units ≡ done forms left →
     same (forms .left) (forms .right) ≡ true → scan rules (c ∷ cs) [] units ≡ scan rules cs [] left
-unfolding scan scan-inputs _>>=_ and-then if-different if_then_else_
-scan-pays-input rules c cs forms units left h d = rw (h, d) refl
+unfolding scan
+scan-pays-input rules c cs forms units left h d = pays
+  where
+    pays : scan-inputs rules (c ∷ cs) units ≡ scan-inputs rules cs left
+    pays = unfold scan-inputs _>>=_ and-then if-different if_then_else_ in rw (h, d) refl
 
 -- and "The first with two different normal forms is taken, as these forms."
 pub scan-takes-input : (rules : List Rule) (c : Candidate) (cs : List Candidate) (forms : Pair) (units left : ℕ) →
@@ -40,6 +43,20 @@ pub scan-takes-input : (rules : List Rule) (c : Candidate) (cs : List Candidate)
     same (forms .left) (forms .right) ≡ false → scan rules (c ∷ cs) [] units ≡ done (record { origin = c .origin; sides = forms }) left
 unfolding scan scan-inputs _>>=_ and-then if-different if_then_else_ return
 scan-takes-input rules c cs forms units left h d = rw (h, d) refl
+
+-- An end that is due is given, one that is not due is not,
+ends : (b : Bool) (e : End) (units : ℕ) → b ≡ true → end-if b e units ≡ stop e units
+unfolding end-if end-with
+ends b e units h = ap (λ (b : Bool). end-if b e units) h
+
+goes-on : (b : Bool) (e : End) (units : ℕ) → b ≡ false → end-if b e units ≡ done tt units
+unfolding end-if return
+goes-on b e units h = ap (λ (b : Bool). end-if b e units) h
+
+-- and what is behind it is not reached.
+ends-all : {A : Type 0} (b : Bool) (e : End) (units : ℕ) (next : Unit {0} → Paying A) → b ≡ true → and-then (end-if b e units) next ≡ stop e units
+unfolding and-then
+ends-all b e units next h = ap (λ p. and-then p next) (ends b e units h)
 
 -- Behind its unit: not every one waiting has been put back, and a pair is taken.
 abbrev pub taking : Theory → State → Paying Taken
@@ -56,9 +73,7 @@ taking-on T s units h = ap (λ p. and-then p (λ _. take-pair T (s .rules) (s .w
     go : (cs : List Candidate) → (length cs ≡ 0) ⊎ (s .put-back < length cs) → end-if-all-put-back cs (s .put-back) units ≡ done tt units
     go [] h = unfold end-if-all-put-back return in refl
     go (c ∷ cs) (inl h) = absurd (omega arith)
-    go (c ∷ cs) (inr h) =
-        unfold end-if-all-put-back in
-        ap (λ (b : Bool). end-if b neither-above units) (lt-leb _ (s .put-back) (omega arith)) ∙ unfold end-if return in refl
+    go (c ∷ cs) (inr h) = unfold end-if-all-put-back in goes-on _ _ _ (lt-leb _ (s .put-back) (omega arith))
 
 -- "End 20 is given .. when some equation waits and every one waiting has been put back": as many as wait. "This is tested at the start of the next
 -- turn, after its unit is paid."
@@ -72,9 +87,7 @@ taking-ends T s units h = ap (λ p. and-then p (λ _. take-pair T (s .rules) (s 
   where
     go : (cs : List Candidate) → 0 < length cs → length cs ≤ s .put-back → end-if-all-put-back cs (s .put-back) units ≡ stop neither-above units
     go [] h k = absurd (omega arith)
-    go (c ∷ cs) h k =
-        unfold end-if-all-put-back in
-        ap (λ (b : Bool). end-if b neither-above units) (le-leb _ (s .put-back) (omega arith)) ∙ unfold end-if end-with in refl
+    go (c ∷ cs) h k = unfold end-if-all-put-back in ends _ _ _ (le-leb _ (s .put-back) (omega arith))
 
 -- the rest of a turn
 abbrev pub behind-taking : Theory → State → Taken → Paying State
@@ -92,7 +105,7 @@ pub turn-log-full : (T : Theory) (s : State) (units : ℕ) (t : Taken) (left : �
 turn-log-full T s units t left h full = turn-takes T s units ∙ ap (λ p. and-then p (behind-taking T s)) h ∙ full-there
   where
     full-there : and-then (done t left) (behind-taking T s) ≡ stop log-full left
-    full-there = unfold and-then _>>=_ end-if end-with in rw (le-leb 512 (length (s .log)) full) refl
+    full-there = unfold and-then _>>=_ in ends-all _ _ _ _ (le-leb _ _ full)
 
 -- 4. "An equation with neither side above now goes to the end of the waiting list"
 pub orient-neither : (T : Theory) (e : Pair) → above (rank-of (T .symbols)) (e .left) (e .right) ≡ false →
@@ -135,8 +148,8 @@ module _ (T : Theory) (s : State) (t : Taken) (units : ℕ) where
 
   -- 4. "The taken pair has at most 16 different variables, else 22."
   pub make-many-variables : 16 < variables → make-rule T s t units ≡ stop too-large units
-  unfolding make-rule _>>=_ and-then end-if end-with
-  make-many-variables many = rw (lt-ltb 16 variables many) refl
+  unfolding make-rule _>>=_
+  make-many-variables many = ends-all _ _ _ _ (lt-ltb _ _ many)
 
   -- then by the new rule's sides, if there are such
   pub make-oriented : variables ≤ 16 → make-rule T s t units ≡ if-oriented s t (orient T (t .pair .sides)) units
@@ -153,7 +166,7 @@ module _ (T : Theory) (s : State) (t : Taken) (units : ℕ) where
   make-many-rules few sides h many = make-oriented few ∙ ap (λ o. if-oriented s t o units) h ∙ full
     where
       full : if-oriented s t (some sides) units ≡ stop rules-full units
-      full = unfold if-oriented _>>=_ and-then end-if end-with in rw (lt-ltb 32 (suc (length (kept (new-rule s sides) (s .rules)))) many) refl
+      full = unfold if-oriented _>>=_ in ends-all _ _ _ _ (lt-ltb _ _ many)
 
 -- what joins the waiting list joins it behind those that wait, so that the oldest is taken first: 6. "its two sides join the waiting list"; 4. "goes to
 -- the end of the waiting list"

@@ -41,7 +41,11 @@ pub fn sides(problem: &[u8]) -> Equation
                         place: end,
                     };
                 }
-                let right = terms::term_end(problem, &problem[limits::FIELD_HEAD..table_end], start);
+                let right = terms::term_end(
+                    problem,
+                    &problem[limits::FIELD_HEAD..table_end],
+                    start,
+                );
                 Equation::At {
                     table_end,
                     left: start,

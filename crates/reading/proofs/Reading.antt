@@ -38,7 +38,11 @@ pub bind-refused : {A B : Type 0} {m : Reading A} {n p : ℕ} (f : A → Reading
 unfolding _>>=_
 bind-refused f e = rw e refl
 
--- What was not refused.
+-- What is refused, and what was not.
+pub refuses : {A : Type 0} (b : Bool) (n p : ℕ) (f : Unit {0} → Reading A) → b ≡ true → (refuse-if b n p >>= f) ≡ refused n p
+unfolding _>>=_ refuse-if
+refuses b n p f e = rw e refl
+
 pub passed : (b : Bool) (n at : ℕ) (u : Unit {0}) → refuse-if b n at ≡ ok u → b ≡ false
 unfolding refuse-if
 passed true n at u e = absurd (no-ok e)

@@ -22,7 +22,7 @@ use Rattle.terms.proofs.Scans.{owes-symbol, owes-other, scan-none}
 use Rattle.reading.specs.Forms.{Reading, ok, refused, _>>=_, refuse-if, Symbol, has, arity-of, rank-of, Byte, symbol, variable, neither, byte-of, ReadPart}
 use Rattle.reading.specs.Forms.{read-term, read-terms, read-side, read-pair}
 use Rattle.reading.specs.Answers.{symbols-of, Table, between, TermAt, IsTerm, SideAt, PairAt}
-use Rattle.reading.proofs.Reading.{has-below, not-has, reads, bind-ok, bind-refused}
+use Rattle.reading.proofs.Reading.{has-below, not-has, reads, bind-ok, bind-refused, refuses}
 
 -- the symbols of a table, by number
 module _ (default : Symbol) where
@@ -195,8 +195,8 @@ module _ (tab : List ℕ) (T : Table tab) where
 
     module _ (e : ℕ) (x : Term) (X : TermAt tab l at end e x) where
       pub side-large : 120 < e - at → read-side (symbols-of tab) at (between l at end) ≡ refused 11 at
-      unfolding read-side _>>=_ refuse-if
-      side-large h = bind-ok _ (X .read) ∙ rw (lt-ltb 120 (size x) (omega (arith, X .ends))) refl
+      unfolding read-side
+      side-large h = bind-ok _ (X .read) ∙ refuses _ _ _ _ (lt-ltb _ (size x) (omega (arith, X .ends)))
 
       pub side-fine : e - at ≤ 120 → (x : Term) × SideAt tab l at end e x
       unfolding read-side _>>=_ refuse-if

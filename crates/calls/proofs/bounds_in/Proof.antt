@@ -1,6 +1,7 @@
 -- `bounds_in`: a position past the left side (`bounds-past`), or the subterm there, whose end `term_end` finds (`bounds-inside`). Assumes nothing.
 -- Read first: specs/Answers (PartAt), only_equation/specs/Places (Stands), proofs/Parts.
 use Rattle.calls.proofs.Parts.{bounds-past, bounds-inside}
+use native.Mathlib.Omega.{arith}
 use borrow.Author.Needs.{needs}
 use Rattle.calls.proofs.bounds_in.Statement.{statement}
 use Rattle.calls.proofs.bounds_in.Tie as tie
@@ -8,7 +9,7 @@ use Rattle.calls.proofs.bounds_in.Tie as tie
 returns : tie.Need-returns
 returns c =
     let entry : tie.Start = search depth 0 in
-    bounds-past _ _ _ _ _ _ _ (entry .pre .1 .2 .1 .stand) (c .if1 .taken)
+    bounds-past _ _ _ _ _ _ _ (entry .pre .1 .2 .1 .stand) (omega (arith, c .if1 .taken))
 
 returns-2 : tie.Need-returns-2
 returns-2 c =

@@ -22,7 +22,7 @@ abbrev μ-loop : tie.MeasureT-loop
 loop-holds : tie.Need-loop-holds Inv-loop μ-loop
 loop-holds c =
     let entry : tie.Start Inv-loop μ-loop = search depth 0 in
-    (search needs, length-replicate {A = ℕ} (most-pairs * slot-width) 0, read-start _ _ _ _ (most-pairs * slot-width) (let a = entry .pre .1 in omega arith))
+    (omega arith, length-replicate {A = ℕ} (most-pairs * slot-width) 0, read-start _ _ _ _ (most-pairs * slot-width) (let a = entry .pre .1 in omega arith))
 
 put-equation-requires : tie.Need-put-equation-requires Inv-loop μ-loop
 put-equation-requires c κs =
