@@ -1,6 +1,6 @@
 -- What `complete` leaves is a record that the engine wrote, and such a record delivers: demand 3 of its answer and its bytes. Assumes nothing.
 -- Read first: specs/Answer (Delivery), completion/specs/Promise (Delivers, EngineWrote), completion/proofs/Promised (engine-kept).
-use mathlib.Core.Path.{_≡_, refl, sym, ap, _∙_, subst}
+use mathlib.Core.Path.{_≡_, refl, sym, ap, _∙_}
 use mathlib.Core.List.{List}
 use Prim.Native.Nat.{ℕ}
 use lib.ListN.{length, take}

@@ -11,7 +11,6 @@ use borrow.Author.Tests.{lt-ltb, le-ltb, ltb-false}
 use Rattle.terms.specs.Base.{if_then_else_}
 use Rattle.terms.proofs.Shape.{zero≢one}
 use Rattle.stored_cases.specs.Cases.{problem-at, end-at, case-at}
-use Rattle.stored_cases.specs.declared.Case.{Case}
 use Rattle.stored_cases.specs.declared.Case.the-variants.{Cut, At}
 
 module _ (l : List ℕ) (at : ℕ) where
