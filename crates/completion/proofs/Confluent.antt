@@ -1,13 +1,13 @@
 -- Rules that go down and whose overlaps join are confluent: terms that they convert have a common reduct, and one last term. Assumes nothing.
 -- Read first: rewriting/proofs/PathOrder. The equations of `path-solves` are here the rules themselves.
-use mathlib.Core.Path.{_≡_, refl, sym, _∙_, subst}
+use mathlib.Core.Path.{_≡_, refl, sym, _∙_}
 use mathlib.Core.List.{List, [], _∷_, List·Memᴰ·head, List·Memᴰ·tail}
 use Prim.Native.Nat.{ℕ, zero, suc, _<_}
 use native.Mathlib.Omega.{arith}
 use lib.ListN.{length}
 use Rattle.terms.specs.Term.{Term, var, Pair}
 use Rattle.terms.proofs.Subst.{VarsIn, subst-var}
-use Rattle.rewriting.proofs.Relations.{Star, stop, Join, Conv, Normal, Step, root, Of, Solves}
+use Rattle.rewriting.proofs.Relations.{Star, stop, Conv, Normal, Step, root, Of, Solves}
 use Rattle.rewriting.proofs.Abstract.{one}
 use Rattle.rewriting.proofs.Sound.{sound-itself}
 use Rattle.rewriting.proofs.Finite.{lhs, rhs}
@@ -30,11 +30,6 @@ module _ (rank : ℕ → ℕ) (rs : List Pair) (down : Falls rank rs) (low : (l 
       (λ i h. sound-itself (Of rs) _ _ (of-number rs i h))
       (λ i h. record { at = rhs rs i; left = one (root (of-number rs i h) var (sym (subst-var _)) (sym (subst-var _))); right = stop })
       overlaps
-
-  pub conv-joins : (s t : Term) → Conv (Step (Of rs)) s t → Join (Step (Of rs)) s t
-  conv-joins s t c =
-      let h = rules-solve in
-      record { at = h .final t; left = subst (λ z. Star (Step (Of rs)) s z) (h .same-final s t .1 c) (h .reached s); right = h .reached t }
 
   pub conv-same-last : (s t u v : Term) → Conv (Step (Of rs)) s t → Star (Step (Of rs)) s u → Normal (Step (Of rs)) u → Star (Step (Of rs)) t v →
       Normal (Step (Of rs)) v → u ≡ v

@@ -39,7 +39,6 @@ pub mod Promised
 pub mod Computes
 pub mod Instances
 pub mod EqualRanks
-pub mod Scanning
 pub mod Turning
 pub mod Comparing
 pub mod Reorders

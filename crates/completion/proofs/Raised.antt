@@ -37,10 +37,6 @@ stop-more T s left left′ k e o q =
     other e (left′ ≡ 0) (turn T s (left + k) ≡ stop e (left′ + k)) o
     (subst (λ p. WithMore p k (turn T s (left + k))) q (turn-steady T s left k (left + k) refl))
 
--- at 21 nothing is left
-pub spent-left : (T : Theory) (s : State) (left left′ : ℕ) → turn T s left ≡ stop spent left′ → left′ ≡ 0
-spent-left T s left left′ q = subst (λ p. WithMore p 0 (turn T s (left + 0))) q (turn-steady T s left 0 (left + 0) refl)
-
 Ended : Finished → Finished → Type 0
 Ended f g = Unless (f .end) (Unit {0}) (g ≡ f)
 

@@ -3,8 +3,7 @@
 use mathlib.Core.Path.{_≡_, refl}
 use mathlib.Core.List.{List}
 use Prim.Native.Nat.{ℕ, _≤_}
-use native.Mathlib.Omega.{arith}
-use lib.ListN.{length, take, drop, length-append, length-drop}
+use lib.ListN.{length, take, drop}
 use lib.Seq.{take-at}
 use borrow.Author.Tests.{le-ltb}
 use Rattle.problem.specs.Problem.{ok, _>>=_, refuse-if, parse}
@@ -14,10 +13,6 @@ use Rattle.completion.specs.Calls.{written, enough, result-bytes, comple
 pub written-front : (bytes buffer : List ℕ) (n : ℕ) → length bytes ≡ n → take n (written bytes buffer) ≡ bytes
 unfolding written
 written-front bytes buffer n e = take-at bytes (drop (length bytes) buffer) n e
-
-pub written-length : (bytes buffer : List ℕ) → length bytes ≤ length buffer → length (written bytes buffer) ≡ length buffer
-unfolding written
-written-length bytes buffer h = omega (arith, length-append bytes (drop (length bytes) buffer), length-drop (length bytes) buffer)
 
 pub room-enough : (buffer : ℕ) → 16_384 ≤ buffer → enough buffer ≡ ok tt
 unfolding enough refuse-if

@@ -54,11 +54,6 @@ front-more at m p d h e =
     let n : length (take at d ++ p) ≡ m = length-append (take at d) p ∙ omega (arith, length-take-le at d (let l : at ≤ length d = omega arith in l)) in
     ap (take m) (sym (append-assoc (take at d) p (drop (at + length p) d))) ∙ take-at (take at d ++ p) (drop (at + length p) d) m n
 
--- put at the front
-pub patched-zero : (p d : List ℕ) → patched 0 p d ≡ p ++ drop (0 + length p) d
-unfolding patched
-patched-zero p d = refl
-
 -- as a part of the list that was lent comes back
 pub patched-back : (at : ℕ) (p d ys : List ℕ) → at + length p ≤ length d → ys ≡ take (length p) p ++ drop (length p) (take (length d - at) (drop at d)) →
     take at d ++ (ys ++ drop (length d - at) (drop at d)) ≡ patched at p d

@@ -162,9 +162,6 @@ NormalEnd too-large = Unit {0}
 NormalEnd rules-full = ⊥
 NormalEnd log-full = ⊥
 
-pub normalise-ends : (rules : List Rule) (t : Term) → Pays (Form rules t) (λ e left. NormalEnd e) (normalise rules t)
-normalise-ends rules t = normalise-holds (λ e left. NormalEnd e) rules tt t (λ _ _. tt)
-
 -- an end is no answer
 pub stop≢done : {A : Type 0} {a : A} {e : End} {l m : ℕ} → stop e l ≡ done a m → ⊥
 stop≢done q = zero≢one (cc)

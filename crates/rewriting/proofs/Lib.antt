@@ -19,6 +19,5 @@ pub mod Lower
 pub mod Variables
 pub mod Limits
 pub mod Holds
-pub mod Counts
 pub mod Relations
 pub mod Verdicts

@@ -1,7 +1,7 @@
 -- Lists in general: a list of no length, a part of a front, and lists made of one list for each element. Assumes nothing.
 -- Read first: nothing.
 use mathlib.Core.Path.{_≡_, refl, sym, ap, _∙_}
-use mathlib.Core.List.{List, [], _∷_, _++_, append-assoc, append-nil, map, flatMap}
+use mathlib.Core.List.{List, [], _∷_, _++_, append-assoc, append-nil, flatMap}
 use Prim.Native.Nat.{ℕ, zero, suc, _+_}
 use native.Mathlib.Nat.{zero-add, suc-add}
 use native.Mathlib.Omega.{arith}
@@ -25,8 +25,3 @@ flatMap-append f (x ∷ l) m = ap (λ z. f x ++ z) (flatMap-append f l m) ∙ sy
 pub flatMap-one : {A : Type 0} (f : A → List ℕ) (x : A) → flatMap f (x ∷ []) ≡ f x
 unfolding flatMap
 flatMap-one f x = append-nil (f x)
-
-pub flatMap-map : {A B : Type 0} (f : B → List ℕ) (g : A → B) (a : List A) → flatMap (λ x. f (g x)) a ≡ flatMap f (map g a)
-unfolding flatMap
-flatMap-map f g [] = refl
-flatMap-map f g (x ∷ a) = ap (λ l. f (g x) ++ l) (flatMap-map f g a)

@@ -23,12 +23,6 @@ cast-owed c =
     let in-loop : tie.In-loop Inv-loop μ-loop = search depth 0 in
     omega (arith, list-here (in-loop .before .loop .inv) (in-loop .loop-test .taken) .1)
 
-add-owed : tie.Need-add-owed Inv-loop μ-loop
-add-owed c = search needs
-
-slice-write-owed : tie.Need-slice-write-owed Inv-loop μ-loop
-slice-write-owed c = search needs
-
 mul-wide : tie.Need-mul-wide Inv-loop μ-loop
 mul-wide c =
     let in-loop : tie.In-loop Inv-loop μ-loop = search depth 0 in
@@ -53,5 +47,5 @@ returns c = list-done (c .before .loop .inv) (c .loop-test .left)
 pub list-spec : {M : Type 1} → statement M
 list-spec =
     tie.close (tie.spec
-    Inv-loop μ-loop loop-holds cast-owed add-owed (λ c. search needs) slice-write-owed mul-wide
+    Inv-loop μ-loop loop-holds cast-owed (λ c. search needs) (λ c. search needs) (λ c. search needs) mul-wide
     shared-slice-read-wide (λ c κs. search needs) (λ c. search needs) (λ c. search needs) loop-again same-length returns)

@@ -6,21 +6,6 @@ use borrow.Author.Needs.{needs}
 use Rattle.settle_text.proofs.text.Statement.{statement}
 use Rattle.settle_text.proofs.text.Tie as tie
 
-slice-aggregate-complete : tie.Need-slice-aggregate-complete
-slice-aggregate-complete c = search needs
-
-complete-requires : tie.Need-complete-requires
-complete-requires c κs = search needs
-
-enum-known-n : tie.Need-enum-known-n
-enum-known-n c = search needs
-
-sub-put-lines : tie.Need-sub-put-lines
-sub-put-lines c = search needs
-
-part-put-lines-start : tie.Need-part-put-lines-start
-part-put-lines-start c = search needs
-
 part-put-lines-end : tie.Need-part-put-lines-end
 part-put-lines-end c =
     let at-n : tie.After-n = search depth 0 in
@@ -39,18 +24,6 @@ put-lines-requires c κs =
     let p = entry .pre in
     search needs
 
-enum-known-number : tie.Need-enum-known-number
-enum-known-number c = search needs
-
-wide-requires : tie.Need-wide-requires
-wide-requires c κs = search needs
-
-put-refused-requires : tie.Need-put-refused-requires
-put-refused-requires c κs = search needs
-
-same-length : tie.Need-same-length
-same-length c = search needs
-
 returns : tie.Need-returns
 returns c =
     let at-put-lines : tie.After-put-lines = search depth 0 in
@@ -59,9 +32,6 @@ returns c =
     let g = got _ _ _ _ _ _ (at-n .n .given .1) (at-complete .complete .ensures .0)
     (at-complete .complete .ensures .1 .0) in
     (prints-lines _ _ _ _ _ _ _ g (search needs) (at-put-lines .put-lines .ensures .1), at-put-lines .put-lines .ensures .0)
-
-same-length-2 : tie.Need-same-length-2
-same-length-2 c = search needs
 
 returns-2 : tie.Need-returns-2
 returns-2 c =
@@ -78,5 +48,5 @@ returns-2 c =
 pub text-spec : {M : Type 1} → statement M
 text-spec =
     tie.close (tie.spec
-    slice-aggregate-complete complete-requires enum-known-n sub-put-lines part-put-lines-start part-put-lines-end
-    put-lines-requires enum-known-number wide-requires put-refused-requires same-length returns same-length-2 returns-2)
+    (λ c. search needs) (λ c κs. search needs) (λ c. search needs) (λ c. search needs) (λ c. search needs) part-put-lines-end
+    put-lines-requires (λ c. search needs) (λ c κs. search needs) (λ c κs. search needs) (λ c. search needs) returns (λ c. search needs) returns-2)
