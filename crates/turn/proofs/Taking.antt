@@ -19,7 +19,7 @@ use Rattle.completion.specs.Turn.{scanned-input, waiting-input, Candidate, Stat
 use Rattle.completion.specs.Calls.{origin-bytes}
 use Rattle.completion.proofs.Limits.{candidates-sides}
 use Rattle.completion.proofs.Ends.{Takes, Because}
-use Rattle.completion.proofs.Traced.{takes}
+use Rattle.completion.proofs.Traced.{takes as traced}
 use Rattle.completion.proofs.Turning.{taking, AllPutBack, taking-ends, MayTake, taking-on, take-scan-stops, take-scan, take-waiting-stops, take-waiting}
 use Rattle.completion.proofs.Comparing.{found-forms, equal-forms, stop-forms}
 use Rattle.slots.specs.Slots.{slot, mark-of, Layout, PairAt, MarkedAt, Stored, Holds}
@@ -96,7 +96,7 @@ module _ (tab : List ℕ) (T : Theory) (s : RunState) (waits : s .waiting ≡ []
   scan-taken (done c left) h f =
       let e : take-pair T (s .rules) (s .waiting) u ≡ done (record { pair = c; waiting = [] }) left =
       ap (λ q. take-pair T (s .rules) q u) waits ∙ take-scan T (s .rules) u c left h in
-      let d = subst (Paid-holds (Takes T s) (Because T s)) e (takes T s .out u) .scanned waits in
+      let d = subst (Paid-holds (Takes T s) (Because T s)) e (traced T s .out u) .scanned waits in
       subst IsScan (sym e) (f .1, ap behind-first (sym waits), f .2 .from, subst (FormsIn tab t false c) (sym d) (f .0, f .2 .sides))
   scan-taken (stop e left) h f =
       let q : take-pair T (s .rules) (s .waiting) u ≡ stop e left = ap (λ q. take-pair T (s .rules) q u) waits ∙ take-scan-stops T (s .rules) u e left h in
