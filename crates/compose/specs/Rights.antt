@@ -1,12 +1,15 @@
 -- Step 7 of a turn on the rules in their slots: what the functions answer. Assumes nothing.
 use mathlib.Core.Path.{_≡_}
+use mathlib.Core.Logic.{_⊎_}
 use mathlib.Core.List.{List, [], _∷_, _++_, map}
 use Prim.Native.Nat.{ℕ, _+_, _<_, _≤_}
 use lib.ListN.{length}
+use Rattle.limits.specs.Limits.{most-rules}
 use Rattle.terms.specs.Term.{Term}
 use Rattle.rewriting.specs.Overlap.{Rule, sides-of}
 use Rattle.rewriting.specs.Rewrite.{Paid, done, stop, normalise}
 use Rattle.rewriting.specs.Ends.{ending}
+use Rattle.rewriting.specs.declared.End.the-variants.{RulesFull}
 use Rattle.rewriting.specs.declared.Verdict.the-variants.{GoesOn, Ends}
 use Rattle.slots.specs.Slots.{slot, mark-of, Layout, Stored}
 use Rattle.completion.specs.Turn.{normalise-rights}
@@ -49,3 +52,8 @@ pub record All (tab rules rules′ : List ℕ) (count units : ℕ) (o : Composed
   pub left-over : o .units ≤ units
   pub answer : (rs : List Rule) (new : Rule) → length (rs ++ (new ∷ [])) ≡ count → Stored tab rules 0 (sides-of (rs ++ (new ∷ []))) →
       AllIs tab rules′ (rs ++ (new ∷ [])) o (normalise-rights [] rs new units)
+
+-- `compose_few`: "Over 32 live: 23."
+abbrev pub ComposesFew : List ℕ → ℕ → List ℕ → List ℕ → ℕ → Composed → Type 0
+ComposesFew tab live pairs pairs′ units c =
+    ((most-rules < live) × (c ≡ record { verdict = Ends RulesFull; units = units })) ⊎ ((live ≤ most-rules) × All tab pairs pairs′ live units c)

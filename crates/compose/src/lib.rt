@@ -1,7 +1,7 @@
 // Step 7 of a turn: the older rules' right sides, ascending, each normalised by all live rules as they then read.
 ghost use Prim.Native.Nat.{_+_, _<_};
 ghost use Rattle.slots.specs.Slots.{Layout};
-ghost use Rattle.compose.specs.Rights.{One, All};
+ghost use Rattle.compose.specs.Rights.{One, All, ComposesFew};
 use limits::NODES;
 use normaliser::Form;
 use rewriting::End;
@@ -42,7 +42,7 @@ fn compose_one(rules: &mut [u8], k: usize, count: usize, table: &[u8], units: u3
 }
 
 // The first `count` pairs are the rules; the newest stands last.
-pub fn compose(rules: &mut [u8; slots::ROOM], count: usize, table: &[u8], units: u32) -> Composed
+fn compose(rules: &mut [u8; slots::ROOM], count: usize, table: &[u8], units: u32) -> Composed
     requires { ⌜ Layout (now rules) count ⌝ }
     ensures { λ r. ⌜ All (now (table .entry)) (now (rules .entry)) (now (rules .exit)) count units r ⌝ }
 {
@@ -61,4 +61,18 @@ pub fn compose(rules: &mut [u8; slots::ROOM], count: usize, table: &[u8], units:
         verdict: Verdict::GoesOn,
         units: left,
     }
+}
+
+// "Over 32 live: 23." Else step 7, on the first `live` pairs.
+pub fn compose_few(live: usize, pairs: &mut [u8; slots::ROOM], table: &[u8], units: u32) -> Composed
+    requires { ⌜ Layout (now pairs) live ⌝ }
+    ensures { λ r. ⌜ ComposesFew (now (table .entry)) live (now (pairs .entry)) (now (pairs .exit)) units r ⌝ }
+{
+    if live > limits::RULES {
+        return Composed {
+            verdict: Verdict::Ends(End::RulesFull),
+            units: units,
+        };
+    }
+    compose(pairs, live, table, units)
 }

@@ -1,2 +1,3 @@
 pub mod Walking
 pub mod Pairs
+pub mod Entries

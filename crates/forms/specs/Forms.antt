@@ -1,20 +1,26 @@
--- A part of the scan, and what comparing a pair's two normal forms answers of it. Assumes nothing.
+-- A part of the scan, what comparing a pair's two normal forms answers of it, and what is due then. Assumes nothing.
 use mathlib.Core.Path.{_≡_}
+use mathlib.Core.Bool.{Bool, true, false}
 use mathlib.Core.List.{List}
 use Prim.Native.Nat.{ℕ, _≤_}
+use lib.Dec.{leb}
 use lib.ListN.{length}
-use Rattle.limits.specs.Limits.{most-variables, most-apart}
+use Rattle.limits.specs.Limits.{most-variables, most-apart, most-entries}
+use Rattle.terms.specs.Base.{if_then_else_}
 use Rattle.terms.specs.Term.{Term, Pair, term-bytes}
 use Rattle.terms.specs.Flat.{Wf}
 use Rattle.rewriting.specs.Overlap.{Rule, sides-of}
 use Rattle.rewriting.specs.Rewrite.{spent, too-large, done, stop, Paying, _>>=_, normalise, normalise-pair}
-use Rattle.rewriting.specs.declared.End.the-variants.{Spent, TooLarge}
+use Rattle.rewriting.specs.declared.End.the-variants.{Complete, Spent, TooLarge, LogFull}
 use Rattle.completion.specs.Turn.{Origin, Candidate, if-different}
 use Rattle.completion.specs.Calls.{origin-bytes}
 use Rattle.slots.specs.Slots.{slot, mark-of, Layout, PairAt, Stored, KeptSlot}
 use Rattle.forms.specs.declared.Walk.{Walk}
 use Rattle.forms.specs.declared.Taken.{Taken}
+use Rattle.forms.specs.declared.Found.{Found}
 use Rattle.forms.specs.declared.Found.the-variants.{Equal, Different, Ends}
+use Rattle.forms.specs.declared.Due.{Due}
+use Rattle.forms.specs.declared.Due.the-variants.{Stop, Settle, Make}
 
 -- A part of the scan, before what follows it.
 abbrev pub ScanPart : Type 0
@@ -73,3 +79,13 @@ pub record OldestIs (tab pairs : List ℕ) (live units : ℕ) (t : Taken) : Type
   pub answer : (rs : List Rule) → Stored tab pairs 0 (sides-of rs) → live ≡ length rs →
       (o : Origin) (e : Pair) → mark-of (slot pairs live) ≡ origin-bytes o → PairAt most-variables tab pairs live e →
       Walked tab (t .pair) (compared rs o e) units (walk-of t)
+
+-- `with_room`, `due_after`: steps 1 to 3, from what was found. "24 when a 513th log entry is due, at step 2 of the turn."
+unfoldable pub with-room : ℕ → Due → Due
+with-room entries due = if leb most-entries entries then Stop LogFull else due
+
+unfoldable pub due-after : Found → Bool → ℕ → Due
+due-after Equal true entries = with-room entries Settle
+due-after Equal false entries = Stop Complete
+due-after Different waits entries = with-room entries Make
+due-after (Ends e) waits entries = Stop e

@@ -1,10 +1,10 @@
-// A pair's two normal forms, compared.
+// A pair's two normal forms, compared; and what is due then.
 ghost use mathlib.Core.Path.{_≡_};
 ghost use Prim.Native.Nat.{_+_, _≤_};
 ghost use lib.ListN.{length};
 ghost use Rattle.limits.specs.Limits.{most-nodes};
 ghost use Rattle.slots.specs.Slots.{Layout};
-ghost use Rattle.forms.specs.Forms.{RightWalk, PairWalk, OldestIs};
+ghost use Rattle.forms.specs.Forms.{RightWalk, PairWalk, OldestIs, with-room, due-after};
 use limits::NODES;
 use normaliser::Form;
 use rewriting::End;
@@ -121,4 +121,38 @@ pub fn oldest(pairs: &[u8], live: usize, table: &[u8], units: u32) -> Taken
     slots::put_mark(&mut pair, 0, &mark);
     let w = join(pairs, live, pairs, live, table, units, &mut pair);
     with_pair(w, pair)
+}
+
+// What is due once the forms are known.
+pub enum Due {
+    Stop(End),
+    Settle,
+    Make,
+}
+
+// Step 2: with 512 entries in the log there is no room for another.
+fn with_room(entries: usize, due: Due) -> Due
+    ensures { λ r. ⌜ r ≡ with-room entries due ⌝ }
+{
+    if entries >= limits::ENTRIES {
+        return Due::Stop(End::LogFull);
+    }
+    due
+}
+
+// Steps 1 to 3: what follows from what was found.
+pub fn due_after(t: Taken, waits: bool, entries: usize) -> Due
+    ensures { λ r. ⌜ r ≡ due-after (t .found) waits entries ⌝ }
+{
+    let found = t.found;
+    match found {
+        Found::Ends(end) => Due::Stop(end),
+        Found::Different => with_room(entries, Due::Make),
+        Found::Equal => {
+            if waits {
+                return with_room(entries, Due::Settle);
+            }
+            Due::Stop(End::Complete)
+        }
+    }
 }

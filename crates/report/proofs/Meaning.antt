@@ -21,8 +21,9 @@ use Rattle.fields.specs.Puts.{tagged}
 use Rattle.inputs.specs.Inputs.{marked}
 use Rattle.items.specs.Written.{row, logged-width, each, slot-field, logged-field}
 use Rattle.items.proofs.Writing.{rules-are, forms-are as pair-is, entries-are}
-use Rattle.state.specs.Run.{held, Leaves}
-use Rattle.state.proofs.Rows.{held-rows, length-held, length-rows, row-at}
+use Rattle.collapse.specs.Rows.{held}
+use Rattle.state.specs.Run.{Leaves}
+use Rattle.collapse.proofs.Rows.{held-rows, length-held, length-rows, row-at}
 use Rattle.state.specs.declared.State.{State}
 use Rattle.report.specs.Report.{oldest-if}
 use Rattle.report.proofs.Whole.{all-bytes}

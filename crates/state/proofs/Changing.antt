@@ -24,11 +24,12 @@ use Rattle.orient.specs.declared.Way.{Way}
 use Rattle.orient.specs.declared.Way.the-variants.{Rule, Neither, TooLarge}
 use Rattle.state.specs.declared.State.{State}
 use Rattle.state.specs.declared.Oriented.{Oriented}
-use Rattle.state.specs.Run.{as-removed, held, FineBut, Fine, Represents}
-use Rattle.state.specs.Sifting.{Sifted}
+use Rattle.collapse.specs.Rows.{as-removed, held}
+use Rattle.state.specs.Run.{FineBut, Fine, Represents}
+use Rattle.collapse.specs.Sifting.{Sifted}
 use Rattle.state.specs.Steps.{Initial, behind-first, Takes, with-rule, OrientsIs, Orients, collapsed, Collapses}
 use Rattle.items.specs.Written.{row}
-use Rattle.state.proofs.Rows.{held-rows, held-more, length-held, length-rows, length-marked, row-at}
+use Rattle.collapse.proofs.Rows.{held-rows, held-more, length-held, length-rows, length-marked, row-at}
 
 -- `initial`
 pub initial-done : (inputs : Pairs) (budget : ℕ) (zeros : List ℕ) → Layout (inputs .bytes) (inputs .count) → inputs .count ≤ most-equations →

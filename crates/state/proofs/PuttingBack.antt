@@ -15,9 +15,10 @@ use Rattle.inputs.specs.Inputs.{marked}
 use Rattle.orient.specs.Orients.{Few, Renames}
 use Rattle.state.specs.declared.State.{State}
 use Rattle.items.specs.Written.{logged-width}
-use Rattle.state.specs.Run.{held, Fine, Represents}
+use Rattle.collapse.specs.Rows.{held}
+use Rattle.state.specs.Run.{Fine, Represents}
 use Rattle.state.specs.Steps.{PutsBack, Enters}
-use Rattle.state.proofs.Rows.{length-held, length-marked}
+use Rattle.collapse.proofs.Rows.{length-held, length-marked}
 use Rattle.state.proofs.Logging.{with-one, logged-more}
 
 module _ (st : State) (pair one b : List ℕ) (fine : Fine st) (few : st .pairs .count ≤ most-rules)

@@ -1,15 +1,15 @@
 -- The run's state: what its values are held to, and which state of the definition it stands for. Assumes nothing.
 use mathlib.Core.Path.{_≡_}
-use mathlib.Core.List.{List, _++_, map, flatMap}
+use mathlib.Core.List.{List, flatMap}
 use Prim.Native.Nat.{ℕ, _+_, _*_, _≤_}
 use lib.ListN.{length, take}
 use Rattle.limits.specs.Limits.{most-rules, most-pairs, most-entries}
-use Rattle.rewriting.specs.Overlap.{Rule}
 use Rattle.rewriting.specs.Ends.{ending}
 use Rattle.slots.specs.Slots.{Layout}
-use Rattle.completion.specs.Turn.{removed-rule, Candidate, Entry, State as RunState, Finished}
+use Rattle.completion.specs.Turn.{Entry, State as RunState, Finished}
 use Rattle.items.specs.Written.{logged-width, logged}
 use Rattle.inputs.specs.Inputs.{Held}
+use Rattle.collapse.specs.Rows.{held}
 use Rattle.rewriting.specs.declared.End.{End as Ending}
 use Rattle.rewriting.specs.declared.Verdict.the-variants.{GoesOn, Ends}
 use Rattle.state.specs.declared.State.{State}
@@ -20,14 +20,6 @@ use Rattle.state.specs.declared.Log.{Log}
 pub record Logged (log : Log) (es : List Entry) : Type 0 where
   pub bytes : take (logged-width * (log .count)) (log .bytes) ≡ flatMap logged es
   pub counted : log .count ≡ length es
-
--- a live rule stands in its slot as the candidate that it is once it is removed
-unfoldable pub as-removed : Rule → Candidate
-as-removed r = record { origin = removed-rule (r .number); sides = r .sides }
-
--- the rules, then what waits
-abbrev pub held : List Rule → List Candidate → List Candidate
-held rules waiting = map as-removed rules ++ waiting
 
 -- What no bytes break: the counts, the lengths and the room. From step 5 to step 7 one live rule may be over the limit, and until a rule's entry the log
 -- is one behind.

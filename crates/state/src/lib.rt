@@ -7,7 +7,6 @@ ghost use Rattle.orient.specs.Orients.{LowPair};
 ghost use Rattle.slots.specs.Slots.{slot-width, slot, mark-of, Layout, Removed, Inserted};
 ghost use Rattle.items.specs.Written.{logged-width};
 ghost use Rattle.state.specs.Run.{with-units, ended-as, goes-on-as, Fine, FineBut};
-ghost use Rattle.state.specs.Sifting.{SiftedOne, Sifted};
 ghost use Rattle.state.specs.Steps.{Initial, Takes, Orients, PutsBack, Collapses, Enters, Logs};
 use orient::Way;
 use rewriting::End;
@@ -149,7 +148,7 @@ impl State {
         let n = self.pairs.count;
         let k = self.live;
         let new = slots::copy(&self.pairs.bytes, k - 1);
-        let live = sift(&mut self.pairs.bytes, &new, k, n, table);
+        let live = collapse::sift(&mut self.pairs.bytes, &new, k, n, table);
         self.live = live;
         self
     }
@@ -213,36 +212,6 @@ fn add_pair(pairs: &mut [u8; ROOM], k: usize, count: usize, one: &[u8])
     ensures { λ _. ⌜ Inserted (now (pairs .entry)) k count (now (one .entry)) (now (pairs .exit)) ⌝ }
 {
     slots::insert(pairs, k, count, one);
-}
-
-// Of `count` pairs the first `live` are the rules, `new` the last of them: the others that it rewrites go behind all pairs. How many rules stay.
-fn sift(pairs: &mut [u8; ROOM], new: &[u8], live: usize, count: usize, table: &[u8]) -> usize
-    requires { ⌜ Layout (now pairs) count × (0 < live) × (live ≤ count) × Layout (now new) 1 ⌝ }
-    ensures { λ r. ⌜ Sifted (now (table .entry)) (now (new .entry)) (now (pairs .entry)) live count (now (pairs .exit)) r ⌝ }
-{
-    let mut stay = live;
-    let mut i = 0;
-    while i + 1 < stay {
-        if sift_one(pairs, i, new, count, table) {
-            stay -= 1;
-        } else {
-            i += 1;
-        }
-    }
-    stay
-}
-
-// Whether the rule `new` rewrites the pair at i, which then goes behind all others.
-fn sift_one(pairs: &mut [u8], i: usize, new: &[u8], count: usize, table: &[u8]) -> bool
-    requires { ⌜ Layout (now pairs) count × (i < count) × Layout (now new) 1 ⌝ }
-    ensures { λ r. ⌜ SiftedOne (now (table .entry)) (now (new .entry)) (now (pairs .entry)) i count (now (pairs .exit)) r ⌝ }
-{
-    let one = slots::copy(pairs, i);
-    let rewrites = normaliser::reducible(slots::left(&one, 0), table, new, 1);
-    if rewrites {
-        slots::move_last(pairs, i, count);
-    }
-    rewrites
 }
 
 // The n-th entry: the origin of the pair in a slot, and the number of the rule made. How many entries there are then.

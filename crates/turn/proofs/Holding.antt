@@ -15,7 +15,7 @@ use Rattle.slots.proofs.Listing.{all-split, all-join, all-map, all-at, holds-mo
 use Rattle.inputs.specs.Inputs.{marked}
 use Rattle.scanning.specs.Walk.{no-rule, rule-at}
 use Rattle.compose.specs.Rights.{RightsOnly}
-use Rattle.state.specs.Run.{as-removed, held}
+use Rattle.collapse.specs.Rows.{as-removed, held}
 use Rattle.items.proofs.Writing.{rule-number}
 
 all-unmap : {A B : Type 0} (S : ℕ → B → Type 0) (f : A → B) (k : ℕ) (xs : List A) → AllFrom S k (map f xs) → AllFrom (λ i x. S i (f x)) k xs

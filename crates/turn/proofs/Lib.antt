@@ -3,5 +3,4 @@ mod Steady
 mod Taking
 mod Making
 mod Parts
-mod Entries
 mod Whole

@@ -26,14 +26,14 @@ use Rattle.orient.specs.declared.Way.{Way}
 use Rattle.orient.specs.declared.Way.the-variants.{Rule, Neither, TooLarge}
 use Rattle.forms.specs.declared.Taken.{Taken}
 use Rattle.compose.specs.declared.Composed.{Composed}
-use Rattle.compose.specs.Rights.{All}
+use Rattle.compose.specs.Rights.{All, ComposesFew}
 use Rattle.state.specs.declared.State.{State}
 use Rattle.state.specs.declared.Log.{Log}
 use Rattle.state.specs.declared.Oriented.{Oriented}
 use Rattle.state.specs.declared.Turned.{Turned}
 use Rattle.state.specs.Run.{FineBut, Fine, Represents, goes-on-as, ended-as}
 use Rattle.state.specs.Steps.{behind-first, without-oldest, with-entry, OrientsIs, Takes, Orients, PutsBack, Collapses, Logs}
-use Rattle.turn.specs.Turns.{ComposesFew, TurnSafe, TurnedIs}
+use Rattle.turn.specs.Turns.{TurnSafe, TurnedIs}
 use Rattle.state.proofs.Steady.{with-slots, units-fine, fine-but-one}
 use Rattle.turn.proofs.Steady.{units-represent, slots-fine, stop-safe, go-safe}
 use Rattle.turn.proofs.Making.{MadeIs, make-large, make-neither, make-full, make-rights-end, make-goes}

@@ -17,7 +17,7 @@ use Rattle.state.specs.declared.State.{State}
 use Rattle.state.specs.Run.{FineBut, Fine, Represents, with-units, ended-as}
 use Rattle.state.specs.declared.Turned.{Turned}
 use Rattle.turn.specs.Turns.{TurnSafe}
-use Rattle.state.proofs.Rows.{length-held}
+use Rattle.collapse.proofs.Rows.{length-held}
 use Rattle.state.proofs.Steady.{with-slots, still-fine, units-fine}
 use Rattle.turn.proofs.Holding.{same-many, rights-held}
 

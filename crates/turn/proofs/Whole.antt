@@ -1,5 +1,5 @@
 -- The whole turn: what is due, from what was found, and what the definition's turn then comes to. Assumes nothing.
--- Read first: specs/Turns (due-after, LookIs, Turns), completion/proofs/Turning (turn-stops, ..), proofs/Steady.
+-- Read first: specs/Turns (LookIs, Turns), forms/specs/Forms (due-after), completion/proofs/Turning (turn-stops, ..), proofs/Steady.
 use mathlib.Core.Path.{_≡_, refl, sym, ap, ap₂, _∙_, subst}
 use mathlib.Core.Bool.{Bool, true, false}
 use mathlib.Core.List.{List, [], _∷_, _++_}
@@ -27,12 +27,13 @@ use Rattle.state.specs.declared.Turned.{Turned}
 use Rattle.state.specs.Run.{Fine, Represents, with-units, ended-as}
 use Rattle.state.specs.Steps.{behind-first, without-oldest, with-entry}
 use Rattle.turn.specs.declared.Waiting.{Waiting}
-use Rattle.turn.specs.declared.Due.{Due}
-use Rattle.turn.specs.declared.Due.the-variants.{Stop, Settle, Make}
-use Rattle.turn.specs.Turns.{Given, due-after, waiting-behind, PairsOf, FormsIn, LookStops, LookIs, Looks, TurnSafe, TurnedIs, Turns}
+use Rattle.forms.specs.Forms.{due-after}
+use Rattle.forms.specs.declared.Due.{Due}
+use Rattle.forms.specs.declared.Due.the-variants.{Stop, Settle, Make}
+use Rattle.turn.specs.Turns.{Given, waiting-behind, PairsOf, FormsIn, LookStops, LookIs, Looks, TurnSafe, TurnedIs, Turns}
 use Rattle.turn.proofs.Parts.{Settles, Makes}
-use Rattle.state.proofs.Rows.{length-held}
-use Rattle.turn.proofs.Entries.{Room, none-left, some-left, room}
+use Rattle.collapse.proofs.Rows.{length-held}
+use Rattle.forms.proofs.Entries.{Room, none-left, some-left, room}
 use Rattle.state.proofs.Steady.{units-fine}
 use Rattle.turn.proofs.Steady.{units-represent, stop-safe, begun-safe}
 

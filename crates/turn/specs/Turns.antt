@@ -1,52 +1,36 @@
 -- What a turn answers, by cases on what the definition comes to: the next state, or an end and the state as at the turn's beginning. Assumes nothing.
 use mathlib.Core.Path.{_≡_}
 use mathlib.Core.Bool.{Bool, true, false}
-use mathlib.Core.Logic.{_⊎_}
 use mathlib.Core.List.{List, map}
 use Prim.Native.Nat.{ℕ, _+_, _-_, _<_, _≤_}
-use lib.Dec.{ltb, leb}
+use lib.Dec.{ltb}
 use lib.ListN.{length}
-use Rattle.limits.specs.Limits.{most-apart, most-rules, most-entries}
-use Rattle.terms.specs.Base.{if_then_else_}
+use Rattle.limits.specs.Limits.{most-apart}
 use Rattle.terms.specs.Term.{same}
 use Rattle.order.specs.Walk.{rank}
 use Rattle.rewriting.specs.Rewrite.{End, complete, neither-above, spent, too-large, rules-full, log-full, Paid, done, stop, _>>=_}
 use Rattle.rewriting.specs.Ends.{ending}
-use Rattle.rewriting.specs.declared.End.the-variants.{Complete, NeitherAbove, Spent, TooLarge, RulesFull, LogFull}
+use Rattle.rewriting.specs.declared.End.the-variants.{NeitherAbove, Spent, TooLarge}
 use Rattle.rewriting.specs.declared.Verdict.the-variants.{GoesOn, Ends}
 use Rattle.problem.specs.Problem.{rank-of, Theory}
 use Rattle.slots.specs.Slots.{slot, mark-of, Layout, PairAt, Stored, Holds}
 use Rattle.completion.specs.Turn.{Candidate, State as RunState, Taken as TakenPair, take-pair, end-if-all-put-back, turn}
 use Rattle.completion.specs.Calls.{origin-bytes}
 use Rattle.inputs.specs.Inputs.{marked, inputs-of}
-use Rattle.forms.specs.declared.Found.{Found}
 use Rattle.forms.specs.declared.Found.the-variants.{Equal, Different, Ends as FoundEnds}
 use Rattle.forms.specs.declared.Taken.{Taken}
-use Rattle.compose.specs.declared.Composed.{Composed}
-use Rattle.compose.specs.Rights.{All}
 use Rattle.state.specs.declared.State.{State}
-use Rattle.state.specs.Run.{held, Fine, Represents, with-units}
+use Rattle.collapse.specs.Rows.{held}
+use Rattle.state.specs.Run.{Fine, Represents, with-units}
 use Rattle.state.specs.Steps.{behind-first}
 use Rattle.state.specs.declared.Turned.{Turned}
 use Rattle.turn.specs.declared.Waiting.{Waiting}
-use Rattle.turn.specs.declared.Due.{Due}
-use Rattle.turn.specs.declared.Due.the-variants.{Stop, Settle, Make}
 
 -- the input equations stand renamed in their slots, and the table gives the ranks
 pub record Given (tab inputs : List ℕ) (count : ℕ) (T : Theory) : Type 0 where
   pub ranks : rank-of (T .symbols) ≡ rank tab
   pub stored : Stored tab inputs 0 (map (λ c. c .sides) (inputs-of (T .equations)))
   pub counted : count ≡ length (T .equations)
-
--- `with_room`, `due_after`: steps 1 to 3, from what was found. "24 when a 513th log entry is due, at step 2 of the turn."
-unfoldable pub with-room : ℕ → Due → Due
-with-room entries due = if leb most-entries entries then Stop LogFull else due
-
-unfoldable pub due-after : Found → Bool → ℕ → Due
-due-after Equal true entries = with-room entries Settle
-due-after Equal false entries = Stop Complete
-due-after Different waits entries = with-room entries Make
-due-after (FoundEnds e) waits entries = Stop e
 
 -- `waiting_behind`
 abbrev pub waiting-behind : ℕ → ℕ → ℕ → Waiting
@@ -84,11 +68,6 @@ pub record Looks (tab pairs : List ℕ) (w : Waiting) (inputs : List ℕ) (count
   pub left-over : t .units ≤ units
   pub answer : (T : Theory) → Given tab inputs count T → (s : RunState) → PairsOf tab pairs w s →
       LookIs tab t (ltb 0 (w .count)) s ((end-if-all-put-back (s .waiting) (s .put-back) >>= λ _. take-pair T (s .rules) (s .waiting)) units)
-
--- `compose_few`: "Over 32 live: 23."
-abbrev pub ComposesFew : List ℕ → ℕ → List ℕ → List ℕ → ℕ → Composed → Type 0
-ComposesFew tab live pairs pairs′ units c =
-    ((most-rules < live) × (c ≡ record { verdict = Ends RulesFull; units = units })) ⊎ ((live ≤ most-rules) × All tab pairs pairs′ live units c)
 
 -- what every answer of a turn from st has; a stop hands back the state as at the turn's beginning
 pub record TurnSafe (st : State) (o : Turned) : Type 0 where

@@ -5,51 +5,16 @@ ghost use lib.ListN.{length};
 ghost use Rattle.limits.specs.Limits.{most-pairs, most-equations};
 ghost use Rattle.slots.specs.Slots.{Layout};
 ghost use Rattle.state.specs.Run.{Fine};
-ghost use Rattle.turn.specs.Turns.{with-room, due-after, waiting-behind, Looks, ComposesFew, Turns};
-use compose::Composed;
+ghost use Rattle.turn.specs.Turns.{waiting-behind, Looks, Turns};
+use forms::Due;
 use forms::Found;
 use forms::Taken;
 use orient::Way;
 use rewriting::End;
 use rewriting::Verdict;
-use slots::ROOM;
 use slots::SLOT;
 use state::State;
 use state::Turned;
-
-// What is due once the forms are known.
-pub enum Due {
-    Stop(End),
-    Settle,
-    Make,
-}
-
-// Step 2: with 512 entries in the log there is no room for another.
-fn with_room(entries: usize, due: Due) -> Due
-    ensures { λ r. ⌜ r ≡ with-room entries due ⌝ }
-{
-    if entries >= limits::ENTRIES {
-        return Due::Stop(End::LogFull);
-    }
-    due
-}
-
-// Steps 1 to 3: what follows from what was found.
-fn due_after(t: Taken, waits: bool, entries: usize) -> Due
-    ensures { λ r. ⌜ r ≡ due-after (t .found) waits entries ⌝ }
-{
-    let found = t.found;
-    match found {
-        Found::Ends(end) => Due::Stop(end),
-        Found::Different => with_room(entries, Due::Make),
-        Found::Equal => {
-            if waits {
-                return with_room(entries, Due::Settle);
-            }
-            Due::Stop(End::Complete)
-        }
-    }
-}
 
 // What waits: behind so many live rules so many pairs, of which the last so many were put back.
 pub struct Waiting {
@@ -86,20 +51,6 @@ fn look(pairs: &[u8], w: Waiting, inputs: &[u8], count: usize, table: &[u8], uni
     forms::oldest(pairs, w.live, table, units)
 }
 
-// "Over 32 live: 23." Else step 7, on the first `live` pairs.
-fn compose_few(live: usize, pairs: &mut [u8; ROOM], table: &[u8], units: u32) -> Composed
-    requires { ⌜ Layout (now pairs) live ⌝ }
-    ensures { λ r. ⌜ ComposesFew (now (table .entry)) live (now (pairs .entry)) (now (pairs .exit)) units r ⌝ }
-{
-    if live > limits::RULES {
-        return Composed {
-            verdict: Verdict::Ends(End::RulesFull),
-            units: units,
-        };
-    }
-    compose::compose(pairs, live, table, units)
-}
-
 // A turn, with the input equations. Its unit is paid first; a stop hands back the state as the turn began it. So a rule's entry may come before step 7,
 // which is lent the slots: a method behind that copies the state twice more. A function, or a result within an expression, copies it as well: each
 // method is called here, where the state is, and what is handed on has its own name.
@@ -114,7 +65,7 @@ pub fn turn(st: State, inputs: &[u8], count: usize, table: &[u8]) -> Turned
     let w = waiting_behind(st.live, st.pairs.count, st.back);
     let t = look(&st.pairs.bytes, w, inputs, count, table, st.units);
     let pair = t.pair;
-    let due = due_after(t, w.count > 0, st.log.count);
+    let due = forms::due_after(t, w.count > 0, st.log.count);
     if let Due::Stop(end) = due {
         return st.ended(end, t.units);
     }
@@ -133,7 +84,7 @@ pub fn turn(st: State, inputs: &[u8], count: usize, table: &[u8]) -> Turned
     let collapsed = o.state.collapse(table);
     let entered = collapsed.enter_rule(&pair);
     let mut next = entered;
-    let c = compose_few(next.live, &mut next.pairs.bytes, table, t.units);
+    let c = compose::compose_few(next.live, &mut next.pairs.bytes, table, t.units);
     let composed = c.verdict;
     if let Verdict::Ends(end) = composed {
         return st.ended(end, c.units);

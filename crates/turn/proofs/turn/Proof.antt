@@ -8,16 +8,16 @@ use Prim.Native.Nat.{_<_}
 use lib.ListN.{length}
 use Rattle.limits.specs.Limits.{most-entries}
 use Rattle.slots.specs.Slots.{slot-width}
-use Rattle.turn.specs.declared.Due.{Due}
-use Rattle.turn.specs.declared.Due.the-variants.{Stop, Settle, Make}
+use Rattle.forms.specs.declared.Due.{Due}
+use Rattle.forms.specs.declared.Due.the-variants.{Stop, Settle, Make}
 use Rattle.orient.specs.declared.Way.{Way}
 use Rattle.orient.specs.declared.Way.the-variants.{Rule, Neither, TooLarge}
 use Rattle.orient.proofs.Way.{the-type as way-type}
 use Rattle.state.specs.declared.Turned.{Turned}
 use Rattle.state.specs.Run.{Fine}
 use Rattle.turn.specs.Turns.{Turns}
-use Rattle.turn.proofs.Due.{the-type}
-use Rattle.turn.proofs.Entries.{settle-room, make-room}
+use Rattle.forms.proofs.Due.{the-type}
+use Rattle.forms.proofs.Entries.{settle-room, make-room}
 use Rattle.turn.proofs.Parts.{settle-needs, settles, Makes, orient-room, makes-large, put-back-needs, makes-neither, collapse-room}
 use Rattle.turn.proofs.Parts.{enter-needs, compose-room, makes-ends, makes-goes}
 use Rattle.turn.proofs.Whole.{turn-spent, look-room, began-fine, turn-ends, turn-settled, turn-made}

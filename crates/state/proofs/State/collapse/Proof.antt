@@ -1,5 +1,5 @@
 -- `State::collapse`: `sift` moves the slots, and the state is changed as the definition's, by `collapse-done`. Assumes nothing.
--- Read first: specs/Steps (Collapses), specs/Sifting (Sifted), proofs/Changing.
+-- Read first: specs/Steps (Collapses), collapse/specs/Sifting (Sifted), proofs/Changing.
 use mathlib.Core.Path.{_≡_}
 use native.Mathlib.Omega.{arith}
 use lib.ListN.{length}

@@ -1,5 +1,5 @@
 -- The slots of a state in rows: one for each rule, then one for each pair that waits. Assumes nothing.
--- Read first: specs/Run (as-removed, held), inputs/specs/Inputs (marked), items/specs/Written (row).
+-- Read first: specs/Rows (as-removed, held), inputs/specs/Inputs (marked), items/specs/Written (row).
 use mathlib.Core.Path.{_≡_, refl, ap, _∙_, subst}
 use mathlib.Core.List.{List, [], _∷_, _++_, map}
 use Prim.Native.Nat.{ℕ, _+_}
@@ -12,7 +12,7 @@ use Rattle.completion.specs.Turn.{Candidate}
 use Rattle.completion.specs.Calls.{origin-bytes}
 use Rattle.items.specs.Written.{row}
 use Rattle.inputs.specs.Inputs.{marked}
-use Rattle.state.specs.Run.{as-removed, held}
+use Rattle.collapse.specs.Rows.{as-removed, held}
 
 pub held-rows : (rs : List Rule) (cs : List Candidate) → map marked (held rs cs) ≡ map row rs ++ map marked cs
 unfolding as-removed origin-bytes

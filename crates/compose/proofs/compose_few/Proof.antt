@@ -1,11 +1,11 @@
 -- `compose_few`: too many live rules, or `compose`. Assumes nothing.
--- Read first: specs/Turns (ComposesFew).
+-- Read first: specs/Rights (ComposesFew).
 use mathlib.Core.Path.{refl}
 use mathlib.Core.Logic.{inl, inr}
 use native.Mathlib.Omega.{arith}
 use borrow.Author.Needs.{needs}
-use Rattle.turn.proofs.compose_few.Statement.{statement}
-use Rattle.turn.proofs.compose_few.Tie as tie
+use Rattle.compose.proofs.compose_few.Statement.{statement}
+use Rattle.compose.proofs.compose_few.Tie as tie
 
 returns : tie.Need-returns
 returns c = inl (let many = c .if1 .taken in omega arith, refl)

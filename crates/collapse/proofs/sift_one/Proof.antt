@@ -4,10 +4,10 @@ use mathlib.Core.Path.{_≡_, ap, _∙_}
 use lib.ListN.{length}
 use Rattle.slots.specs.Slots.{slot-width, left-of}
 use Rattle.slots.proofs.Layouts.{copied-layout}
-use Rattle.state.proofs.Siftings.{one-goes, one-stays}
+use Rattle.collapse.proofs.Siftings.{one-goes, one-stays}
 use borrow.Author.Needs.{needs}
-use Rattle.state.proofs.sift_one.Statement.{statement}
-use Rattle.state.proofs.sift_one.Tie as tie
+use Rattle.collapse.proofs.sift_one.Statement.{statement}
+use Rattle.collapse.proofs.sift_one.Tie as tie
 
 left-requires : tie.Need-left-requires
 left-requires c κs =

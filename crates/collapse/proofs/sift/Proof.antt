@@ -2,10 +2,10 @@
 -- Read first: specs/Sifting, proofs/Siftings (SiftedTo).
 use native.Mathlib.Omega.{arith}
 use Prim.Native.Nat.{_-_}
-use Rattle.state.proofs.Siftings.{SiftedTo, sifting-start, sifting-goes, sifting-stays, sifting-end}
+use Rattle.collapse.proofs.Siftings.{SiftedTo, sifting-start, sifting-goes, sifting-stays, sifting-end}
 use borrow.Author.Needs.{needs}
-use Rattle.state.proofs.sift.Statement.{statement}
-use Rattle.state.proofs.sift.Tie as tie
+use Rattle.collapse.proofs.sift.Statement.{statement}
+use Rattle.collapse.proofs.sift.Tie as tie
 
 abbrev Inv-loop : tie.InvT-loop
 Inv-loop pairs₀ new live count table stay₀ i₀ pairs stay i = SiftedTo table new pairs₀ live count pairs stay i

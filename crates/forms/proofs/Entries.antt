@@ -1,5 +1,5 @@
 -- What is due, case by case: `with_room` and `due_after`; and an entry is due only where the log has room. Assumes nothing.
--- Read first: specs/Turns (with-room, due-after).
+-- Read first: specs/Forms (with-room, due-after).
 use mathlib.Core.Path.{_≡_, refl, sym, ap, ap₂, _∙_}
 use mathlib.Core.Bool.{Bool, true, false}
 use Prim.Native.Nat.{ℕ, _<_, _≤_}
@@ -10,11 +10,11 @@ use Rattle.terms.specs.Base.{if_then_else_}
 use Rattle.terms.proofs.Shape.{zero≢one}
 use Rattle.rewriting.specs.declared.End.{End as Ending}
 use Rattle.rewriting.specs.declared.End.the-variants.{Complete, LogFull}
 use Rattle.forms.specs.declared.Found.{Found}
 use Rattle.forms.specs.declared.Found.the-variants.{Equal, Different, Ends}
-use Rattle.turn.specs.declared.Due.{Due}
-use Rattle.turn.specs.declared.Due.the-variants.{Stop, Settle, Make}
-use Rattle.turn.specs.Turns.{with-room, due-after}
+use Rattle.forms.specs.declared.Due.{Due}
+use Rattle.forms.specs.declared.Due.the-variants.{Stop, Settle, Make}
+use Rattle.forms.specs.Forms.{with-room, due-after}
 
 -- the log is full, or has room
 pub data Room (n : ℕ) (due d : Due) : Type 0 where

@@ -9,7 +9,7 @@ use Rattle.rewriting.specs.Overlap.{Rule}
 use Rattle.slots.specs.Slots.{Layout, PairAt, Holds, MovedLast}
 use Rattle.completion.specs.Turn.{Candidate, rewrites, kept, removed}
 use Rattle.inputs.specs.Inputs.{marked}
-use Rattle.state.specs.Run.{held}
+use Rattle.collapse.specs.Rows.{held}
 
 -- `sift_one`: a pair goes behind all others, or stays
 abbrev pub MovedIf : List ℕ → ℕ → ℕ → List ℕ → Bool → Type 0

@@ -1,9 +1,9 @@
 -- `with_room`: the test is the definition's. Assumes nothing.
 -- Read first: proofs/Entries.
 use native.Mathlib.Omega.{arith}
-use Rattle.turn.proofs.Entries.{no-room, has-room}
-use Rattle.turn.proofs.with_room.Statement.{statement}
-use Rattle.turn.proofs.with_room.Tie as tie
+use Rattle.forms.proofs.Entries.{no-room, has-room}
+use Rattle.forms.proofs.with_room.Statement.{statement}
+use Rattle.forms.proofs.with_room.Tie as tie
 
 returns : tie.Need-returns
 returns c = let full = c .if1 .taken in no-room _ _ (omega arith)

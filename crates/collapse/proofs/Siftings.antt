@@ -17,11 +17,11 @@ use Rattle.slots.proofs.Listing.{all-one}
 use Rattle.slots.proofs.Changes.{moved-layout, moved-holds}
 use Rattle.completion.specs.Turn.{Candidate, rewrites, kept, removed}
 use Rattle.inputs.specs.Inputs.{marked}
-use Rattle.state.specs.Run.{as-removed}
-use Rattle.state.specs.Sifting.{MovedIf, SiftedOne, Ruled, Sifted}
+use Rattle.collapse.specs.Rows.{as-removed}
+use Rattle.collapse.specs.Sifting.{MovedIf, SiftedOne, Ruled, Sifted}
 use Rattle.completion.specs.Calls.{origin-bytes}
 use Rattle.items.specs.Written.{row}
-use Rattle.state.proofs.Rows.{held-more, length-held, length-rows, length-marked, row-at}
+use Rattle.collapse.proofs.Rows.{held-more, length-held, length-rows, length-marked, row-at}
 
 -- `sift_one`
 tested : (tab new slots t : List ℕ) (i : ℕ) (r : Bool) → t ≡ left-of (slot slots i) → Reducible tab new 1 t r → (x y : Rule) →

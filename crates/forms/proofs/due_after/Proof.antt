@@ -1,9 +1,9 @@
 -- `due_after`: a lemma for each case. Assumes nothing.
 -- Read first: proofs/Entries.
-use Rattle.turn.proofs.Entries.{due-equal, due-complete, due-different, due-end}
+use Rattle.forms.proofs.Entries.{due-equal, due-complete, due-different, due-end}
 use borrow.Author.Needs.{needs}
-use Rattle.turn.proofs.due_after.Statement.{statement}
-use Rattle.turn.proofs.due_after.Tie as tie
+use Rattle.forms.proofs.due_after.Statement.{statement}
+use Rattle.forms.proofs.due_after.Tie as tie
 
 returns : tie.Need-returns
 returns c =
