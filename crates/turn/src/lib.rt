@@ -1,7 +1,6 @@
 // A turn of the run: from a state to the next; or, where the turn ends the run, to the state as at its beginning with the units that are left.
 ghost use mathlib.Core.Path.{_≡_};
 ghost use Prim.Native.Nat.{_+_, _<_, _≤_};
-ghost use lib.ListN.{length};
 ghost use Rattle.limits.specs.Limits.{most-pairs, most-equations};
 ghost use Rattle.slots.specs.Slots.{Layout};
 ghost use Rattle.state.specs.Run.{Fine};
