@@ -1,5 +1,6 @@
 /* Asks each call about one problem: x + (0 + s(y)) and s(z) + (0 + x), instance 8 of document 01; and of the kept result of another one,
- * 0 + x = x, whether 0 + (0 + x) and 0 + x are the same, and which of these two is the lower.
+ * 0 + x = x, whether 0 + (0 + x) and 0 + x are the same, and which of these two is the lower. And stops a run of f(f(x)) = x after two units, saves
+ * it, and takes it up again.
  *
  *   rt staticlib capi
  *   gcc -Iinclude examples/calls.c target/staticlib/libcapi.a -o calls
@@ -21,6 +22,11 @@ static const uint8_t theory[] = {
 static const uint8_t question[] = {
     0x01, 0x00, 0x06, 0x00, 0x00, 0x01, 0x02, 0x02, 0x01, 0x02, 0x00, 0x04, 0x00, 0x00, 0x00, 0x09,         /* the same symbols and budget */
     0x03, 0x00, 0x08, 0x02, 0x00, 0x02, 0x00, 0x80, 0x02, 0x00, 0x80,                                       /* 0 + (0 + x) and 0 + x */
+};
+
+static const uint8_t long_run[] = {
+    0x01, 0x00, 0x04, 0x00, 0x00, 0x01, 0x01, 0x02, 0x00, 0x04, 0x00, 0x00, 0x00, 0x02,                     /* a constant and f; the budget, 2 */
+    0x03, 0x00, 0x04, 0x01, 0x01, 0x80, 0x80,                                                               /* f(f(x)) = x */
 };
 
 static void print_bytes(const uint8_t *bytes, size_t count) {
@@ -60,5 +66,20 @@ int main(void) {
     printf("lower: %u\n", (unsigned)lower);
     if (lower != 0) print_bytes(lower == 1 ? first : second, lower == 1 ? 5 : 3);
     printf("a byte behind the second: %u\n", (unsigned)vb_lower(question, 9, second, 3, first, 6));
+
+    static uint8_t saved[49152];
+    uint64_t stopped = vb_complete_saving(long_run, sizeof long_run, result, sizeof result, saved, sizeof saved);
+    printf("complete_saving: kind %u, number %u, value %u\n", vb_kind(stopped), vb_number(stopped), vb_value(stopped));
+    print_bytes(result, vb_value(stopped));
+    print_bytes(saved, vb_number(stopped));
+    uint64_t resumed = vb_resume(saved, vb_number(stopped), 2, result, sizeof result);
+    printf("resume: kind %u, number %u, value %u\n", vb_kind(resumed), vb_number(resumed), vb_value(resumed));
+    print_bytes(result, vb_value(resumed));
+    uint64_t cut_short = vb_resume(saved, vb_number(stopped) - 1, 2, result, sizeof result);
+    printf("cut saved record: kind %u, number %u, value %u\n", vb_kind(cut_short), vb_number(cut_short), vb_value(cut_short));
+    static uint8_t next[49152];
+    uint64_t again = vb_resume_saving(saved, vb_number(stopped), 1, result, sizeof result, next, sizeof next);
+    printf("resume_saving: kind %u, number %u, value %u\n", vb_kind(again), vb_number(again), vb_value(again));
+    print_bytes(next, vb_number(again));
     return 0;
 }

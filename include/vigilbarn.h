@@ -1,13 +1,16 @@
 /* The proved calls, from C. Each takes a problem: `problem_bytes` bytes at `problem` (docs/FORMAT.md). It reads no others,
  * changes none of them, keeps no pointer, and calls nothing of C. `vb_decide` is lent a record beside it, of which the same holds; `vb_lower` is lent no
- * problem but three runs of bytes, of which the same holds. These may overlap.
+ * problem but three runs of bytes, and `vb_resume` and `vb_resume_saving` a saved record in the place of the problem, of which the same holds. These may
+ * overlap.
  *
- * A pointer must be valid for as many bytes as its length says, and a result buffer may not overlap the problem. Nothing is taken from the heap; how
- * much stack a call takes is measured, not proved (docs/ASSUMPTIONS.md): 1 MiB is enough for all that is tested.
+ * A pointer must be valid for as many bytes as its length says, and a buffer that is written may overlap neither the bytes that are read nor another
+ * such buffer. Nothing is taken from the heap; how much stack a call takes is measured, not proved (docs/ASSUMPTIONS.md): 1 MiB is enough for all that
+ * is tested.
  *
  * An answer is one number. But for vb_subterm and vb_lower it has a kind in the bits from 48 up, the number of a refusal or an end (docs/FORMAT.md) in
- * bits 32 to 47, and a value in bits 0 to 31. No part is ever cut off: numbers are at most 22, a refusal's place at most 8,192 (of vb_decide 16,384),
- * counts at most 13,726 (proved: crates/capi/proofs/Unpacked, over the Refusals of reading, problem, completion, record and decide).
+ * bits 32 to 47, and a value in bits 0 to 31. No part is ever cut off: numbers are at most 22, a refusal's place at most 8,192 (of vb_decide 16,384, of
+ * the calls that resume 49,152), counts of result bytes at most 13,726 and of a saved record's at most 17,781 (proved: crates/capi/proofs/Unpacked and
+ * Saved, over the Refusals of reading, problem, completion, record, checkpoint and decide).
  */
 #ifndef VIGILBARN_H
 #define VIGILBARN_H
@@ -19,7 +22,7 @@
 extern "C" {
 #endif
 
-/* The parts of the answers of vb_complete, vb_compare, vb_unify and vb_decide. */
+/* The parts of the answers of all calls but vb_subterm and vb_lower. */
 static inline unsigned vb_kind(uint64_t answer) { return (unsigned)(answer >> 48); }
 static inline unsigned vb_number(uint64_t answer) { return (unsigned)((answer >> 32) & 0xffff); }
 static inline uint32_t vb_value(uint64_t answer) { return (uint32_t)answer; }
@@ -50,8 +53,9 @@ uint64_t vb_unify(const uint8_t *problem, size_t problem_bytes, uint8_t *result,
  * kind 0: refused; number 2 to 12 but not 7, value the place in the problem; or number 13, 14 or 15, value the place in the record.
  * kind 1: value 1 (same) or 2 (different).
  * kind 3: number 21 (the problem's budget is spent) or 22 (a term is over 120 nodes).
- * For a record that vb_complete wrote with end 0 for a problem with the same symbol field, kind 1 has the value 1 exactly if that problem's equations
- * lead from one side to the other, and 2 exactly if they do not. For any other record the answer speaks of the record's rules only. */
+ * For a result that a run begun from a problem with the same symbol field left with end 0, resumed from its own saved records or not, kind 1 has the
+ * value 1 exactly if that problem's equations lead from one side to the other, and 2 exactly if they do not. For any other record the answer speaks of
+ * the record's rules only. */
 uint64_t vb_decide(const uint8_t *problem, size_t problem_bytes, const uint8_t *record, size_t record_bytes);
 
 /* The part of the problem's bytes that is the subterm at a position of the left side of its one equation.
@@ -62,6 +66,27 @@ uint64_t vb_subterm(const uint8_t *problem, size_t problem_bytes, size_t positio
  * Nothing is written, and nothing may stand behind the field or a term.
  * 0: refused. 1: the first. 2: the second. */
 uint64_t vb_lower(const uint8_t *symbols, size_t symbols_bytes, const uint8_t *first, size_t first_bytes, const uint8_t *second, size_t second_bytes);
+
+/* As vb_complete; and where the budget is spent (end 21), the run as it was when its unfinished turn began is saved, at the front of a second buffer of
+ * at least 49,152 bytes (docs/FORMAT.md, "A saved record").
+ * kind 0: refused; number 1 (the result buffer has under 16,384 bytes or the other one under 49,152; place 0) to 11 but not 7, value the place. Both
+ * buffers are left as they were.
+ * kind 1: written; value the count of result bytes; number the length of the saved record, or 0, and then the second buffer is left as it was. */
+uint64_t vb_complete_saving(const uint8_t *problem, size_t problem_bytes, uint8_t *result, size_t result_bytes, uint8_t *saved, size_t saved_bytes);
+
+/* Goes on with a saved record, from its unfinished turn on, with a new budget: the result, whose units are those of this call.
+ * kind 0: refused; number 1 (place 0), 2 (the record has over 49,152 bytes), 16 (it is no saved record, value the first bad field's place) or 17 (the
+ * budget is above 1,000,000, place 0). The result is left as it was.
+ * kind 1: written; value the count of result bytes, the others are left as they were.
+ * A record that vb_complete_saving or, from such a record, vb_resume_saving wrote is never refused with 16. With end 0 the rules then settle the
+ * equations of the problem that the run began with, and unless the end is 21, end, rules and log are those of that problem's run with no budget. */
+uint64_t vb_resume(const uint8_t *record, size_t record_bytes, uint64_t budget, uint8_t *result, size_t result_bytes);
+
+/* As vb_resume; and where the budget is spent again, the run is saved as by vb_complete_saving.
+ * kind 0: refused; numbers and places as vb_resume, and number 1 also where the second buffer has under 49,152 bytes. Both are left as they were.
+ * kind 1: written; value and number as of vb_complete_saving. */
+uint64_t vb_resume_saving(const uint8_t *record, size_t record_bytes, uint64_t budget, uint8_t *result, size_t result_bytes, uint8_t *saved,
+    size_t saved_bytes);
 
 #ifdef __cplusplus
 }

@@ -5,9 +5,9 @@ use mathlib.Core.List.{List}
 use Prim.Native.Nat.{ℕ}
 use native.Mathlib.Omega.{arith}
 use lib.ListN.{take}
-use Rattle.completion.specs.Calls.{complete-call}
+use Rattle.completion.specs.Calls.{complete-call, counted}
 use Rattle.completion.specs.Promise.{Delivers}
-use Rattle.complete.specs.Answer.{completed-told, counted, Delivery}
+use Rattle.complete.specs.Answer.{completed-told, Delivery}
 use Rattle.complete.specs.declared.Completed.{Completed}
 use Rattle.complete.specs.declared.Completed.the-variants.{Written, Refused}
 use Rattle.capi.specs.Codes.{answer-code, CodeDelivers}

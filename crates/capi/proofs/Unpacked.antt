@@ -16,7 +16,7 @@ use Rattle.reading.proofs.Refusals.{Within, reads, refuses, refusal-few, within
 use Rattle.problem.specs.Problem.{Reading, ok, refused}
 use Rattle.completion.specs.Calls.{complete-call, compare-call, unify-call, CommonInstance, instance, no-instance, instance-too-large, Part, subterm-part}
 use Rattle.completion.proofs.Refusals.{CallWithin, complete-within, compare-within, InstanceFew, unify-within, PartWithin, part-within}
-use Rattle.complete.specs.Answer.{counted}
+use Rattle.completion.specs.Calls.{counted}
 use Rattle.decide.specs.Decide.{Answer, are-same, are-different, numbered, decide-call}
 use Rattle.decide.proofs.Refusals.{QuestionWithin, NumberFew, decide-within}
 use Rattle.calls.specs.Answers.{Returned, bytes-written, none-common, number-only, number-and-place, unify-returns}

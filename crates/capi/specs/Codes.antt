@@ -1,14 +1,19 @@
 -- The calls' answers as one number for C: a kind times 2 ^ 48, document 01's number times 2 ^ 32, and below it a value of 32 bits; an answer taken
 -- apart; and demand 3 of the bytes that C takes and leaves; section 15 of docs/DEFINITION.md. Assumes nothing.
 use mathlib.Core.Path.{_≡_}
-use mathlib.Core.List.{List}
+use mathlib.Core.List.{List, []}
 use mathlib.Core.Logic.{_↔_}
 use Prim.Native.Nat.{ℕ, _+_, _*_, _/_, _%_}
 use lib.ListN.{take}
 use Rattle.limits.specs.Limits.{two-byte-values}
-use Rattle.problem.specs.Problem.{Reading, ok, refused}
+use Rattle.reading.specs.Stops.{wrong-saved}
+use Rattle.problem.specs.Problem.{Reading, ok, refused, Theory, Problem, theory, parse}
+use Rattle.completion.specs.Turn.{Finished, run-from, run}
 use Rattle.completion.specs.Calls.{Part}
 use Rattle.completion.specs.Promise.{Delivers}
+use Rattle.checkpoint.specs.Resume.{Left}
+use Rattle.checkpoint.specs.Wrote.{EngineSaved, Delivered}
+use Rattle.saving_calls.specs.Leaving.{Lengths}
 use Rattle.decide.specs.Decide.{Answer, are-same, are-different, numbered}
 use Rattle.decide.specs.Answers.{WroteFor, Leads}
 use Rattle.lower.specs.declared.Which.{Which}
@@ -47,6 +52,12 @@ decide-code (ok are-different) = code 1 0 2
 decide-code (ok (numbered n)) = code 3 n 0
 decide-code (refused n at) = code 0 n at
 
+-- complete_saving and resume_saving: kind 1 with the count of result bytes as the value and that of the saved record's as the number, or kind 0 with the
+-- refusal's number and place [15.9]
+unfoldable pub left-code : Reading Lengths → ℕ
+left-code (ok l) = code 1 (l .saved % two-byte-values) (l .result)
+left-code (refused n at) = code 0 n at
+
 -- lower: 1 for the first, 2 for the second, 0 for a refusal [15.8]
 unfoldable pub lower-code : Which → ℕ
 lower-code First = 1
@@ -76,8 +87,26 @@ start-in r = r / value-end
 unfoldable pub CodeDelivers : List ℕ → List ℕ → ℕ → Type 0
 CodeDelivers problem result r = kind-in r ≡ 1 → Delivers problem (take (value-in r) result)
 
--- What decide's answer is right about, for C: of a record that complete wrote for a problem with the same symbol field, where the kind is 1, the value
+-- What decide's answer is right about, for C: of a record that the engine wrote for a problem with the same symbol field, where the kind is 1, the value
 -- is 1 exactly if that problem's equations lead from one side to the other, and 2 exactly if they do not. [15.7]
 pub record CodeDecides (problem kept : List ℕ) (r : ℕ) : Type 0 where
   pub exactly : (w : WroteFor problem kept) → kind-in r ≡ 1 →
       ((value-in r ≡ 1) ↔ Leads (w .theory) (w .asked)) × ((value-in r ≡ 2) ↔ (Leads (w .theory) (w .asked) → ⊥))
+
+-- What the calls that save and resume leave, for C: where the kind is 1, of as many bytes of the result as the value says and as many of the saved record
+-- as the number says. Of a saved record that the engine wrote the answer is not refusal 16. [15.9]
+unfoldable pub CodeSaves : List ℕ → List ℕ → List ℕ → ℕ → Type 0
+CodeSaves problem result saved r = kind-in r ≡ 1 → (P : Problem) → parse problem ≡ ok P →
+    Delivered (theory P) (run P) (record { result = take (value-in r) result; saved = take (number-in r) saved })
+
+-- f is what the run left that wrote the record
+unfoldable pub CodeLeaves : List ℕ → ℕ → Left → ℕ → Type 0
+CodeLeaves kept budget l r = (T : Theory) (f : Finished) → EngineSaved T f kept →
+    (kind-in r ≡ 1 → Delivered T (run-from T (f .state) budget) l) × (kind-in r ≡ 0 → number-in r ≡ wrong-saved → ⊥)
+
+unfoldable pub CodeResumes : List ℕ → ℕ → List ℕ → ℕ → Type 0
+CodeResumes kept budget result r = CodeLeaves kept budget (record { result = take (value-in r) result; saved = [] }) r
+
+unfoldable pub CodeResumesSaving : List ℕ → ℕ → List ℕ → List ℕ → ℕ → Type 0
+CodeResumesSaving kept budget result saved r =
+    CodeLeaves kept budget (record { result = take (value-in r) result; saved = take (number-in r) saved }) r

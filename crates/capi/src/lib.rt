@@ -4,11 +4,15 @@ ghost use Prim.Native.Nat.{_≤_};
 ghost use lib.Dec.{eqb};
 ghost use lib.ListN.{length};
 ghost use Rattle.completion.specs.Calls.{complete-call, compare-call, unify-call, subterm-part, after-complete, after-unify};
-ghost use Rattle.complete.specs.Answer.{counted};
+ghost use Rattle.completion.specs.Calls.{counted};
 ghost use Rattle.calls.specs.Answers.{unify-returns, subterm-refused};
+ghost use Rattle.checkpoint.specs.Resume.{resume-call, complete-saving-call, resume-saving-call, after-result, after-saved};
+ghost use Rattle.saving_calls.specs.Leaving.{left-told, lengths};
 ghost use Rattle.decide.specs.Decide.{decide-call};
 ghost use Rattle.lower.specs.Lower.{which, lower-refused};
-ghost use Rattle.capi.specs.Codes.{code, answer-code, unify-code, decide-code, lower-code, part-code, CodeDelivers, CodeDecides};
+ghost use Rattle.capi.specs.Codes.{code, answer-code, unify-code, decide-code, left-code, lower-code, part-code};
+ghost use Rattle.capi.specs.Codes.{CodeDelivers, CodeDecides, CodeSaves, CodeResumes, CodeResumesSaving};
+use saving_calls::Left;
 
 // The values of 32 bits, 2^32, which is what a number counts; and what a kind counts, 2^48.
 const VALUES: u64 = 4294967296;
@@ -59,7 +63,7 @@ pub extern "C" fn vb_subterm(problem: &[u8], position: usize) -> u64
     start as u64 % VALUES * VALUES + bytes as u64 % VALUES
 }
 
-// The second promise says of what the answer is right: of a record that complete wrote.
+// The second promise says of what the answer is right: of a record that the engine wrote.
 #[no_mangle]
 pub extern "C" fn vb_decide(problem: &[u8], kept: &[u8]) -> u64
     ensures { λ r. ⌜ r ≡ decide-code (decide-call (now (problem .entry)) (now (kept .entry))) ⌝ }
@@ -98,4 +102,55 @@ pub extern "C" fn vb_complete(problem: &[u8], result: &mut [u8]) -> u64
         complete::Completed::Written(n) => code(1, 0, n),
         complete::Completed::Refused { number, place } => code(0, number, place),
     }
+}
+
+// The saved record's length is the number.
+fn left_code(left: Left) -> u64
+    ensures { λ r. ⌜ r ≡ left-code (left-told left) ⌝ }
+{
+    match left {
+        Left::Written { result, saved } => {
+            KIND + saved as u64 % limits::LENGTHS as u64 * VALUES + result as u64 % VALUES
+        }
+        Left::Refused { number, place } => code(0, number, place),
+    }
+}
+
+// The last promise says what the bytes that C is left are, as many of each buffer as the answer says.
+#[no_mangle]
+pub extern "C" fn vb_complete_saving(problem: &[u8], result: &mut [u8], saved: &mut [u8]) -> u64
+    ensures { λ r. ⌜ r ≡ left-code (lengths
+        (complete-saving-call (now (problem .entry)) (length (now (result .entry))) (length (now (saved .entry))))) ⌝ }
+    ensures { λ r. ⌜ now (result .exit) ≡ after-result
+        (complete-saving-call (now (problem .entry)) (length (now (result .entry))) (length (now (saved .entry)))) (now (result .entry)) ⌝ }
+    ensures { λ r. ⌜ now (saved .exit) ≡ after-saved
+        (complete-saving-call (now (problem .entry)) (length (now (result .entry))) (length (now (saved .entry)))) (now (saved .entry)) ⌝ }
+    ensures delivery { λ r. ⌜ CodeSaves (now (problem .entry)) (now (result .exit)) (now (saved .exit)) r ⌝ }
+{
+    left_code(saving_calls::complete_saving(problem, result, saved))
+}
+
+#[no_mangle]
+pub extern "C" fn vb_resume(kept: &[u8], budget: u64, result: &mut [u8]) -> u64
+    ensures { λ r. ⌜ r ≡ answer-code (counted (resume-call (now (kept .entry)) budget (length (now (result .entry))))) ⌝ }
+    ensures { λ r. ⌜ now (result .exit) ≡ after-complete (resume-call (now (kept .entry)) budget (length (now (result .entry)))) (now (result .entry)) ⌝ }
+    ensures delivery { λ r. ⌜ CodeResumes (now (kept .entry)) budget (now (result .exit)) r ⌝ }
+{
+    match resume::resume(kept, budget, result) {
+        resume::Resumed::Written(n) => code(1, 0, n),
+        resume::Resumed::Refused { number, place } => code(0, number, place),
+    }
+}
+
+#[no_mangle]
+pub extern "C" fn vb_resume_saving(kept: &[u8], budget: u64, result: &mut [u8], saved: &mut [u8]) -> u64
+    ensures { λ r. ⌜ r ≡ left-code (lengths
+        (resume-saving-call (now (kept .entry)) budget (length (now (result .entry))) (length (now (saved .entry))))) ⌝ }
+    ensures { λ r. ⌜ now (result .exit) ≡ after-result
+        (resume-saving-call (now (kept .entry)) budget (length (now (result .entry))) (length (now (saved .entry)))) (now (result .entry)) ⌝ }
+    ensures { λ r. ⌜ now (saved .exit) ≡ after-saved
+        (resume-saving-call (now (kept .entry)) budget (length (now (result .entry))) (length (now (saved .entry)))) (now (saved .entry)) ⌝ }
+    ensures delivery { λ r. ⌜ CodeResumesSaving (now (kept .entry)) budget (now (result .exit)) (now (saved .exit)) r ⌝ }
+{
+    left_code(saving_calls::resume_saving(kept, budget, result, saved))
 }

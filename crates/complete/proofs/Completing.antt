@@ -11,7 +11,7 @@ use Rattle.order.specs.Walk.{rank}
 use Rattle.problem.specs.Problem.{Reading, ok, refused, _>>=_, refuse-if, rank-of, Equation, Problem, theory, parse}
 use Rattle.problem.specs.Parser.{ParsedAt}
 use Rattle.completion.specs.Turn.{initial, run-from, run}
-use Rattle.completion.specs.Calls.{result-bytes, enough, complete-call, after-complete, Writes}
+use Rattle.completion.specs.Calls.{result-bytes, enough, complete-call, counted, after-complete, Writes}
 use Rattle.report.specs.Report.{Reports}
 use Rattle.completion.proofs.Accepts.{accepts, budget-accepted}
 use Rattle.completion.proofs.Ranks.{ranks-are}
@@ -22,7 +22,7 @@ use Rattle.inputs.proofs.Fields.{problem-fields}
 use Rattle.state.specs.Run.{Leaves}
 use Rattle.run.specs.Runs.{Runs}
 use Rattle.run.specs.declared.Ran.{Ran}
-use Rattle.complete.specs.Answer.{completed-told, counted, Delivery, WritesProblem}
+use Rattle.complete.specs.Answer.{completed-told, Delivery, WritesProblem}
 use Rattle.complete.specs.declared.Completed.{Completed}
 use Rattle.complete.specs.declared.Completed.the-variants.{Written, Refused}
 use Rattle.complete.proofs.Delivering.{delivery}

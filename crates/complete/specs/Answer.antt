@@ -1,7 +1,7 @@
 -- Document 01, "The result and settle": what `complete` answers, and demand 3 of the bytes it takes and leaves. Assumes nothing.
 use mathlib.Core.List.{List}
 use Prim.Native.Nat.{ℕ}
-use lib.ListN.{length, take}
+use lib.ListN.{take}
 use Rattle.problem.specs.Problem.{Reading, ok, refused, Problem}
 use Rattle.problem.specs.Parser.{ParsedAt}
 use Rattle.completion.specs.Turn.{run}
@@ -14,10 +14,6 @@ use Rattle.complete.specs.declared.Completed.the-variants.{Written, Refu
 unfoldable pub completed-told : Completed → Reading ℕ
 completed-told (Written count) = ok count
 completed-told (Refused number place) = refused number place
-
-unfoldable pub counted : Reading (List ℕ) → Reading ℕ
-counted (ok bytes) = ok (length bytes)
-counted (refused number place) = refused number place
 
 -- "a promise of complete about the bytes it takes and leaves": the written result delivers
 unfoldable pub Delivery : List ℕ → List ℕ → Completed → Type 0

@@ -3,8 +3,8 @@ ghost use mathlib.Core.Path.{_≡_};
 ghost use Prim.Native.Nat.{_≤_};
 ghost use lib.ListN.{length};
 ghost use Rattle.limits.specs.Limits.{most-equations, most-budget, most-result, field-head, two-byte-values};
-ghost use Rattle.completion.specs.Calls.{complete-call, after-complete};
-ghost use Rattle.complete.specs.Answer.{completed-told, counted, Delivery, WritesProblem};
+ghost use Rattle.completion.specs.Calls.{complete-call, counted, after-complete};
+ghost use Rattle.complete.specs.Answer.{completed-told, Delivery, WritesProblem};
 
 pub enum Completed {
     // The count of result bytes.

@@ -37,7 +37,7 @@ symbols-read at (a ∷ r ∷ bytes) Σ e =
     let k = symbols-read (at + 2) bytes Σ′ h in
     rw (← q) (omega arith)
 
-symbols-few : (f : ReadField) (Σ : List Symbol) → symbol-field f ≡ ok Σ → length Σ ≤ 16
+pub symbols-few : (f : ReadField) (Σ : List Symbol) → symbol-field f ≡ ok Σ → length Σ ≤ 16
 unfolding symbol-field
 symbols-few f Σ e =
     from-bind _ _ Σ e λ u t h.

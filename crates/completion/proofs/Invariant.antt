@@ -30,6 +30,11 @@ use Rattle.completion.specs.Turn.{State}
 use Rattle.completion.proofs.Reachable.{Reachable}
 use Rattle.completion.proofs.Closed.{Closed, reachable-has}
 
+-- A renamed pair goes down where the pair does.
+pub renamed-down : (rank : ℕ → ℕ) (e : Pair) → above rank (e .left) (e .right) ≡ true → above rank (renamed e .left) (renamed e .right) ≡ true
+unfolding renamed
+renamed-down rank e h = above-dec rank _ _ .1 (above-subst rank (renaming e) (above-dec rank (e .left) (e .right) .0 h))
+
 module _ (T : Theory) where
   abbrev pub Input : Rules
   Input = Of (T .equations)
@@ -54,7 +59,7 @@ module _ (T : Theory) where
   unfolding renamed
   renamed-good e q h a =
       record {
-        down = above-dec (rank-of (T .symbols)) _ _ .1 (above-subst (rank-of (T .symbols)) (renaming e) (above-dec (rank-of (T .symbols)) _ _ .0 a));
+        down = renamed-down (rank-of (T .symbols)) e a;
         low = λ x i. omega (arith, renamed-low e x i);
         equal = renamed-equal e q;
       }

@@ -87,7 +87,7 @@ module _ (L : (A : Type 0) → Paying A → Type 0) (k : Lawful L) where
   take-lawful T rules [] = k .bound _ _ _ _ (scan-lawful rules _ _) λ c. k .returned _ _
   take-lawful T rules (c ∷ cs) = k .bound _ _ _ _ (pair-lawful rules (c .sides)) λ forms. k .returned _ _
 
-  rights-lawful : (before rules : List Rule) (new : Rule) → L (List Rule) (normalise-rights before rules new)
+  pub rights-lawful : (before rules : List Rule) (new : Rule) → L (List Rule) (normalise-rights before rules new)
   unfolding normalise-rights
   rights-lawful before [] new = k .returned _ _
   rights-lawful before (old ∷ rules) new = k .bound _ _ _ _ (k .normalised _ (old .sides .right)) λ r. rights-lawful _ rules new

@@ -19,7 +19,7 @@ use Rattle.problem.specs.Problem.{ok, Theory, Problem, theory, parse}
 use Rattle.problem.proofs.Reading.{from-bind, ok-injective}
 use Rattle.completion.specs.Turn.{Candidate, Entry, Finished, run}
 use Rattle.completion.specs.Calls.{rule-field, entry-field, oldest-field, forms-field, result-fields, result-bytes, complete-call}
-use Rattle.completion.specs.Promise.{fields-of, one-byte, end-in, rules-in, Promise, Delivers, EngineWrote}
+use Rattle.completion.specs.Promise.{fields-of, one-byte, end-in, rules-in, Promise, Delivers}
 use Rattle.completion.proofs.Held.{RuleFits, Accepted}
 use Rattle.completion.proofs.Limits.{Limits}
 use Rattle.completion.proofs.OverRules.{OverRule}
@@ -125,31 +125,15 @@ pub record Kept (T : Theory) (f : Finished) (kept : List ℕ) : Type 0 where
   pub promise : Promise T f kept
   pub symbols-few : length (T .symbols) ≤ 16
 
-run-kept : (given : List ℕ) (P : Problem) → parse given ≡ ok P → Kept (theory P) (run P) (result-bytes (run P))
-run-kept given P p =
-    let a = accepts given P p in
-    record {
-      bytes = refl;
-      promise = run-promise (theory P) a (P .budget) (run P) (run-stops P) (budget-accepted given P p);
-      symbols-few = a .symbols-few;
-    }
-
-complete-kept : (given : List ℕ) (buffer : ℕ) (kept : List ℕ) → complete-call given buffer ≡ ok kept → (P : Problem) → parse given ≡ ok P →
-    Kept (theory P) (run P) kept
-unfolding complete-call
-complete-kept given buffer kept e P p =
-    from-bind _ _ kept e λ u a e.
-    from-bind _ _ kept e λ Q b e.
-    let same : Q ≡ P = ok-injective (sym b ∙ p) in
-    subst (Kept (theory P) (run P)) (ap (λ Q. result-bytes (run Q)) (sym same) ∙ ok-injective e) (run-kept given P p)
+pub stopped-kept : (T : Theory) → Accepted T → (budget : ℕ) (f : Finished) → Stopped T budget f → budget ≤ 1_000_000 → Kept T f (result-bytes f)
+stopped-kept T a budget f h few = record { bytes = refl; promise = run-promise T a budget f h few; symbols-few = a .symbols-few }
 
 -- The theorem: complete leaves what the turns from the first state leave.
 pub promised : (problem : List ℕ) (buffer : ℕ) (r : List ℕ) → complete-call problem buffer ≡ ok r → Delivers problem r
-unfolding Delivers
-promised problem buffer r e P p = complete-kept problem buffer r e P p .promise
-
--- Of whatever the engine wrote.
-pub engine-kept : {T : Theory} {f : Finished} {kept : List ℕ} → EngineWrote T f kept → Kept T f kept
-engine-kept {T} {f} {kept} w =
-    subst (λ g. Kept T g kept) (w .is-left)
-    (subst (λ S. Kept S (run (w .problem)) kept) (w .is-theory) (complete-kept (w .given) (w .buffer) kept (w .written) (w .problem) (w .is-problem)))
+unfolding Delivers complete-call
+promised problem buffer r e P p =
+    from-bind _ _ r e λ u a e.
+    from-bind _ _ r e λ Q b e.
+    let same : Q ≡ P = ok-injective (sym b ∙ p) in
+    subst (Promise (theory P) (run P)) (ap (λ Q. result-bytes (run Q)) (sym same) ∙ ok-injective e)
+    (run-promise (theory P) (accepts problem P p) (P .budget) (run P) (run-stops P) (budget-accepted problem P p))

@@ -143,6 +143,11 @@ pub record Writes (before ys after : List ℕ) (r : ℕ) : Type 0 where
   pub bytes : after ≡ written ys before
   pub count : r ≡ length ys
 
+-- "Complete and unify return the count of result bytes"; a refusal has its number and its place.
+unfoldable pub counted : Reading (List ℕ) → Reading ℕ
+counted (ok bytes) = ok (length bytes)
+counted (refused number place) = refused number place
+
 unfoldable pub after-complete : Reading (List ℕ) → List ℕ → List ℕ
 after-complete (ok bytes) buffer = written bytes buffer
 after-complete (refused n at) buffer = buffer

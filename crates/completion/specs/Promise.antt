@@ -14,7 +14,6 @@ use Rattle.problem.specs.Stops.{cut-field, wrong-term}
 use Rattle.rewriting.specs.Overlap.{Rule, sides-of}
 use Rattle.rewriting.specs.Rewrite.{complete}
 use Rattle.completion.specs.Turn.{Finished, run}
-use Rattle.completion.specs.Calls.{complete-call}
 use Rattle.completion.specs.Keeps.{Keeps}
 use Rattle.completion.specs.Decides.{Decides}
 use Rattle.completion.specs.Transitions.{Properly, _⨾_, Derivation}
@@ -87,14 +86,3 @@ pub record Promise (T : Theory) (f : Finished) (result : List ℕ) : Type 0 wher
 -- "Demand 3, the delivery theorem, is a promise of complete about the bytes it takes and leaves": of the problem's theory and its run. [14.11]
 unfoldable pub Delivers : List ℕ → List ℕ → Type 0
 Delivers problem result = (P : Problem) → parse problem ≡ ok P → Promise (theory P) (run P) result
-
--- "a record that the engine wrote": complete left these bytes in a result buffer of some length. T is the theory of the problem that it was given, and f
--- is what the turns left. [18.15]
-pub record EngineWrote (T : Theory) (f : Finished) (kept : List ℕ) : Type 0 where
-  pub given : List ℕ
-  pub buffer : ℕ
-  pub written : complete-call given buffer ≡ ok kept
-  pub problem : Problem
-  pub is-problem : parse given ≡ ok problem
-  pub is-theory : theory problem ≡ T
-  pub is-left : run problem ≡ f

@@ -1,6 +1,6 @@
--- A record that complete wrote for the same symbol field: "same" and "different" are right about the buyer's equations, 13 and 15 are not given, and
+-- A record that the engine wrote for the same symbol field: "same" and "different" are right about the buyer's equations, 13 and 15 are not given, and
 -- 14 exactly if the run did not end with 0. This rests on what a reader of kept results knows (`Kept`), and on nothing else of a run. Assumes nothing.
--- Read first: specs/Answers, proofs/Right, completion/proofs/Promised (Kept, engine-kept), record/proofs/RoundTrip.
+-- Read first: specs/Answers, proofs/Right, completion/proofs/Promised (Kept), checkpoint/proofs/Delivers (engine-kept), record/proofs/RoundTrip.
 use mathlib.Core.Path.{_≡_, refl, sym, ap, ap₂, subst, subst₂, _∙_}
 use mathlib.Core.Bool.{Bool, true, false}
 use mathlib.Core.List.{List, [], _∷_}
@@ -21,7 +21,8 @@ use Rattle.completion.specs.Keeps.{RulesKeep}
 use Rattle.completion.specs.Delivery.{Replacement, Many, Last}
 use Rattle.completion.specs.Decides.{Decides}
 use Rattle.completion.specs.Promise.{Promise, end-in, rules-in}
-use Rattle.completion.proofs.Promised.{Kept, engine-kept}
+use Rattle.completion.proofs.Promised.{Kept}
+use Rattle.checkpoint.proofs.Delivers.{engine-kept}
 use Rattle.items.specs.Fields.{RuleAt, rules-of}
 use Rattle.items.specs.Readers.{rules-at}
 use Rattle.record.specs.Record.{read-record}

@@ -1,5 +1,5 @@
 -- Document 02, Three: what the answers "same" and "different" are right about, said of the bytes that are lent. Assumes nothing.
--- Read first: Decide, completion/specs/Delivery (Step, Replacement, Many, Last), completion/specs/Promise (EngineWrote).
+-- Read first: Decide, completion/specs/Delivery (Step, Replacement, Many, Last), checkpoint/specs/Wrote (EngineWrote).
 use mathlib.Core.Path.{_≡_}
 use mathlib.Core.List.{List}
 use mathlib.Core.Logic.{_↔_, _⊎_}
@@ -11,7 +11,7 @@ use Rattle.rewriting.specs.Rewrite.{complete}
 use Rattle.completion.specs.Turn.{Finished}
 use Rattle.completion.specs.Delivery.{Replacement, Many, Last}
 use Rattle.completion.specs.Calls.{Single, parse-single}
-use Rattle.completion.specs.Promise.{EngineWrote}
+use Rattle.checkpoint.specs.Wrote.{EngineWrote}
 use Rattle.decide.specs.Decide.{Question, read-question, Answer, are-same, are-different, numbered}
 use Rattle.decide.specs.declared.Decided.{Decided}
 use Rattle.decide.specs.declared.Decided.the-variants.{Same, Different, Spent, TooLarge, Refused}
@@ -44,8 +44,8 @@ pub record AboutRules (problem kept : List ℕ) (r : Reading Answer) : Type 0 wh
   pub different : (q : Question) → read-question problem kept ≡ ok q → r ≡ ok are-different → TwoLasts q
   pub numbers : (n : ℕ) → r ≡ ok (numbered n) → (n ≡ 21) ⊎ (n ≡ 22)
 
--- "a record that the engine wrote .. for the same symbol field": for a theory that has the symbols of the asked problem; `left` is what its turns left
--- [18.15]
+-- "a record that the engine wrote .. for the same symbol field": for a theory that has the symbols of the asked problem; `left` is what its turns left,
+-- resumed from its own saved records or not [18.15, 21.18]
 pub record WroteFor (problem kept : List ℕ) : Type 0 where
   pub theory : Theory
   pub left : Finished

@@ -118,3 +118,26 @@ forms-width = field-head + most-pair
 -- A result at most, 13,726 bytes: the end, the units, the rules, the log and the forms.
 abbrev pub most-result : ℕ
 most-result = (field-head + 1) + (field-head + 4) + rule-width * most-rules + entry-width * most-entries + forms-width
+
+-- Document 02, Seven: "a second lent buffer of at least 49,152 bytes" [16.13]
+abbrev pub least-saved : ℕ
+least-saved = 49_152
+
+-- "1 and 2 read 49,152 bytes for saved records" [16.13]
+abbrev pub most-saved : ℕ
+most-saved = least-saved
+
+-- the next rule number at most: 513 [16.11]
+abbrev pub most-next : ℕ
+most-next = most-number + 1
+
+-- The symbol field at most: 35. The field of a waiting equation at most, an origin and its sides: 249
+abbrev pub symbols-width : ℕ
+symbols-width = field-head + 2 * most-symbols
+
+abbrev pub waiting-width : ℕ
+waiting-width = field-head + origin-width + most-pair
+
+-- A saved record at most, 17,781 bytes: the symbols, the equations, the next rule number, rules and waiting equations, the log and the count.
+abbrev pub longest-saved : ℕ
+longest-saved = symbols-width + forms-width * most-equations + (field-head + 2) + waiting-width * most-pairs + entry-width * most-entries + (field-head + 1)

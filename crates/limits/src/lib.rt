@@ -75,6 +75,12 @@ pub const BUFFER: usize = 16384;
 // "the record is over 16,384 bytes"
 pub const RECORD: usize = BUFFER;
 
+// "a second lent buffer of at least 49,152 bytes"; "1 and 2 read 49,152 bytes for saved records"
+pub const SAVED: usize = 49152;
+
+// The next rule number at most: 513.
+pub const NEXT: usize = NUMBERS + 1;
+
 // A field's tag in one byte and the length of its contents in two.
 pub const FIELD_HEAD: usize = 3;
 

@@ -58,3 +58,11 @@ not-complete = 14
 -- "when a rule's left side is not above its right side" [18.11]
 abbrev pub not-above : ℕ
 not-above = 15
+
+-- Document 02, Seven: "when a saved record breaks the form and limits that docs/ gives it" [21.13]
+abbrev pub wrong-saved : ℕ
+wrong-saved = 16
+
+-- "when the new budget is above 1,000,000" [21.17]
+abbrev pub large-budget : ℕ
+large-budget = 17

@@ -1,8 +1,9 @@
 -- What the writer of the result promises: of whatever run the last state, the end and the units paid are, its result's bytes. Assumes nothing.
 -- Read first: items/specs/Written (pair-field), completion/specs/Calls (result-bytes).
 use mathlib.Core.List.{List, []}
-use Prim.Native.Nat.{ℕ}
+use Prim.Native.Nat.{ℕ, _≤_}
 use lib.Dec.{ltb}
+use Rattle.limits.specs.Limits.{most-result}
 use Rattle.terms.specs.Base.{if_then_else_, field-bytes}
 use Rattle.completion.specs.Turn.{Finished}
 use Rattle.completion.specs.Calls.{result-bytes, Writes}
@@ -24,3 +25,4 @@ oldest-if LogFull slots live count = []
 -- "Complete .. return the count of result bytes"; "bytes past the result" are left as they were
 pub record Reports (st : State) (end : Ending) (paid : ℕ) (before after : List ℕ) (r : ℕ) : Type 0 where
   pub writes : (tab : List ℕ) (f : Finished) → Leaves tab f st end paid → Writes before (result-bytes f) after r
+  pub few : r ≤ most-result

@@ -9,10 +9,10 @@ use Rattle.limits.specs.Limits.{most-result}
 use Rattle.completion.proofs.Writing.{written-front}
 use Rattle.problem.specs.Problem.{Reading, ok, refused}
 use Rattle.reading.proofs.Reading.{no-ok, ok-injective}
-use Rattle.completion.specs.Calls.{complete-call, after-complete, Writes}
+use Rattle.completion.specs.Calls.{complete-call, counted, after-complete, Writes}
 use Rattle.completion.specs.Settle.{settle}
 use Rattle.completion.proofs.Capacity.{complete-writes}
-use Rattle.complete.specs.Answer.{completed-told, counted}
+use Rattle.complete.specs.Answer.{completed-told}
 use Rattle.complete.specs.declared.Completed.{Completed}
 use Rattle.complete.specs.declared.Completed.the-variants.{Written, Refused}
 use Rattle.settle_text.specs.Text.{Lines, Refusal}

@@ -30,7 +30,7 @@ pub record FineBut (over behind : ℕ) (st : State) : Type 0 where
   pub live-few : st .live ≤ most-rules + over
   pub log-few : st .log .count ≤ most-entries
   pub made-few : st .made ≤ st .log .count + behind
-  pub back-few : st .back ≤ st .log .count
+  pub back-few : st .back ≤ st .log .count + most-pairs
 
 abbrev pub Fine : State → Type 0
 Fine st = FineBut 0 0 st

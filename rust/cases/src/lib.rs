@@ -2,6 +2,7 @@
 //! with the answers due, the cases of the stored programs, and generators.
 
 pub mod chains;
+pub mod checkpoints;
 pub mod fixed;
 pub mod full_log;
 pub mod generate;
@@ -11,4 +12,6 @@ pub mod pairs;
 pub mod programs;
 pub mod put_back;
 pub mod questions;
+pub mod resumptions;
+pub mod slices;
 pub mod theories;

@@ -101,6 +101,18 @@ impl Run {
         whole.with_log(entries, self.shown.clone())
     }
 
+    /// What a run resumed with this budget must leave, after one that was
+    /// stopped by the other: it begins with the unfinished turn.
+    pub fn resumed(&self, stopped: u32, budget: u32) -> Ended {
+        let finished = self.turns.iter().rfind(|turn| turn.0 <= stopped);
+        let before = finished.map_or(0, |turn| turn.0);
+        let ended = self.ended(before + budget);
+        Ended {
+            units: ended.units - before,
+            ..ended
+        }
+    }
+
     /// The run with every budget up to one unit more than it needs, and with
     /// the highest.
     fn cases(&self) -> impl Iterator<Item = Case> + '_ {

@@ -4,15 +4,17 @@
 //! Kind 0 is a refusal (number, place). Complete and unify: kind 1 written
 //! (count), 2 no common instance, 3 too large (number 22). Compare: kind 1
 //! the answer 1 to 4. Decide: kind 1 the answer 1 (same) or 2 (different), 3
-//! ended (number 21 or 22). Two calls have no kinds: subterm answers start *
-//! 2^32 + length, 0 if refused; lower 0 (refused), 1 (the first) or 2 (the
-//! second).
+//! ended (number 21 or 22). Complete_saving and resume_saving: kind 1 written
+//! (count), the number being the length of the saved record, 0 for none; resume:
+//! as complete. Two calls have no kinds: subterm answers start * 2^32 + length,
+//! 0 if refused; lower 0 (refused), 1 (the first) or 2 (the second).
 
 use kb_cases::pairs::Pair;
 use kb_cases::questions::Question;
 use kb_engine::calls::TOO_LARGE;
-use kb_engine::MIN_RESULT;
-use kb_engine::{CompareAnswer, CompleteAnswer, DecideAnswer, Refusal, UnifyAnswer, Which};
+use kb_engine::{CompareAnswer, CompleteAnswer, DecideAnswer, SavingAnswer, UnifyAnswer};
+use kb_engine::{Refusal, Which};
+use kb_engine::{MIN_RESULT, MIN_SAVED};
 use std::borrow::Cow;
 use std::fmt;
 
@@ -31,7 +33,16 @@ pub enum Call<'a> {
     Decide(Bytes<'a>, Bytes<'a>),
     /// A symbol field and two terms.
     Lower(Bytes<'a>, Bytes<'a>, Bytes<'a>),
+    CompleteSaving(Bytes<'a>),
+    /// A saved record and a budget.
+    Resume(Bytes<'a>, u64),
+    /// A saved record and a budget.
+    ResumeSaving(Bytes<'a>, u64),
 }
+
+/// The two buffers that a call may be lent: for a result, and for a saved
+/// record.
+pub type Buffers<'b> = [&'b mut [u8]; 2];
 
 impl Call<'_> {
     pub fn name(&self) -> &'static str {
@@ -42,16 +53,22 @@ impl Call<'_> {
             Call::Subterm(..) => "subterm",
             Call::Decide(..) => "decide",
             Call::Lower(..) => "lower",
+            Call::CompleteSaving(..) => "complete_saving",
+            Call::Resume(..) => "resume",
+            Call::ResumeSaving(..) => "resume_saving",
         }
     }
 
     /// The bytes that it reads.
     pub fn lent(&self) -> [&[u8]; 3] {
         match self {
-            Call::Complete(problem)
-            | Call::Unify(problem)
-            | Call::Compare(problem)
-            | Call::Subterm(problem, _) => [problem, &[], &[]],
+            Call::Complete(bytes)
+            | Call::Unify(bytes)
+            | Call::Compare(bytes)
+            | Call::Subterm(bytes, _)
+            | Call::CompleteSaving(bytes)
+            | Call::Resume(bytes, _)
+            | Call::ResumeSaving(bytes, _) => [bytes, &[], &[]],
             Call::Decide(problem, record) => [problem, record, &[]],
             Call::Lower(symbols, first, second) => [symbols, first, second],
         }
@@ -62,6 +79,9 @@ impl fmt::Display for Call<'_> {
     fn fmt(&self, f: &mut fmt::Formatter) -> fmt::Result {
         match self {
             Call::Subterm(_, position) => write!(f, "subterm at {position}"),
+            Call::Resume(_, budget) | Call::ResumeSaving(_, budget) => {
+                write!(f, "{} with {budget} units", self.name())
+            }
             _ => f.write_str(self.name()),
         }
     }
@@ -87,9 +107,9 @@ impl From<Pair> for Call<'_> {
 
 /// The calls with encoded answers.
 pub trait Engine {
-    /// Runs a call with the two buffers that it may be lent; a result goes to
-    /// the front of the first.
-    fn run(&self, call: &Call, buffers: [&mut [u8]; 2]) -> u64;
+    /// Runs a call with the two buffers that it may be lent; what it writes goes
+    /// to their fronts.
+    fn run(&self, call: &Call, buffers: Buffers) -> u64;
 
     fn complete(&self, problem: &[u8], result: &mut [u8]) -> u64 {
         self.run(&Call::Complete(problem.into()), [result, &mut []])
@@ -126,6 +146,41 @@ pub fn result_of(engine: &dyn Engine, problem: &[u8]) -> Option<Vec<u8>> {
     (kind == 1).then(|| result[..count as usize].to_vec())
 }
 
+/// What a call has left.
+#[derive(Clone, Debug, PartialEq, Eq)]
+pub struct Left {
+    pub answer: u64,
+    /// Empty if it refused.
+    pub result: Vec<u8>,
+    /// Empty if there is none.
+    pub saved: Vec<u8>,
+}
+
+/// What one of the calls that complete or resume leaves, with the least
+/// buffers.
+pub fn left_by(engine: &dyn Engine, call: &Call) -> Left {
+    let (mut result, mut saved) = (vec![0; MIN_RESULT], vec![0; MIN_SAVED]);
+    let answer = engine.run(call, [&mut result, &mut saved]);
+    let (length, count) = match decode(answer) {
+        (1, length, count) => (length as usize, count as usize),
+        _ => (0, 0),
+    };
+    result.truncate(count);
+    saved.truncate(length);
+    Left {
+        answer,
+        result,
+        saved,
+    }
+}
+
+/// The saved record that an engine writes for a problem, none if it writes
+/// none.
+pub fn saved_record_of(engine: &dyn Engine, problem: &[u8]) -> Option<Vec<u8>> {
+    let left = left_by(engine, &Call::CompleteSaving(problem.into()));
+    (!left.saved.is_empty()).then_some(left.saved)
+}
+
 /// One answer as a number.
 pub fn encode(kind: u64, number: usize, low: usize) -> u64 {
     (kind << 48) | ((number as u64) << 32) | low as u64
@@ -141,11 +196,19 @@ pub fn refused(refusal: Refusal) -> u64 {
     encode(0, refusal.number.into(), refusal.place)
 }
 
-/// An answer of complete.
+/// An answer of complete and resume.
 pub fn completed(answer: CompleteAnswer) -> u64 {
     match answer {
         CompleteAnswer::Refused(refusal) => refused(refusal),
         CompleteAnswer::Written(count) => encode(1, 0, count),
+    }
+}
+
+/// An answer of complete_saving and resume_saving.
+pub fn saving(answer: SavingAnswer) -> u64 {
+    match answer {
+        SavingAnswer::Refused(refusal) => refused(refusal),
+        SavingAnswer::Written(lengths) => encode(1, lengths.saved, lengths.result),
     }
 }
 
@@ -198,7 +261,7 @@ pub fn chosen(answer: Which) -> u64 {
 pub struct RustEngine;
 
 impl Engine for RustEngine {
-    fn run(&self, call: &Call, [result, _]: [&mut [u8]; 2]) -> u64 {
+    fn run(&self, call: &Call, [result, saved]: Buffers) -> u64 {
         match call {
             Call::Complete(problem) => completed(kb_engine::complete(problem, result)),
             Call::Unify(problem) => unified(kb_engine::unify(problem, result)),
@@ -211,6 +274,13 @@ impl Engine for RustEngine {
             Call::Decide(problem, record) => decided(kb_engine::decide(problem, record)),
             Call::Lower(symbols, first, second) => {
                 chosen(kb_engine::lower::which(symbols, first, second))
+            }
+            Call::CompleteSaving(problem) => {
+                saving(kb_engine::complete_saving(problem, result, saved))
+            }
+            Call::Resume(record, budget) => completed(kb_engine::resume(record, *budget, result)),
+            Call::ResumeSaving(record, budget) => {
+                saving(kb_engine::resume_saving(record, *budget, result, saved))
             }
         }
     }

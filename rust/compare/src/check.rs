@@ -17,6 +17,18 @@ pub struct Difference {
     pub place: Option<(usize, isize)>,
 }
 
+impl Difference {
+    /// Both engines answered the same, and yet something is wrong.
+    pub fn of_both(what: &str, answer: u64) -> Difference {
+        Difference {
+            call: what.to_string(),
+            left: answer,
+            right: answer,
+            place: None,
+        }
+    }
+}
+
 /// A buffer before a call: so many bytes of a pattern that a number chooses.
 #[derive(Clone, Copy, Debug)]
 pub struct Start {
@@ -68,9 +80,9 @@ impl<'e> Checker<'e> {
             true => "",
             false => ", lent bytes changed",
         };
-        let length = starts[0].length;
+        let [first, second] = starts.map(|start| start.length);
         Err(Difference {
-            call: format!("{call}, result buffer of {length}{changed}"),
+            call: format!("{call}, buffers of {first} and {second}{changed}"),
             left,
             right,
             place,
@@ -95,6 +107,14 @@ impl<'e> Checker<'e> {
     pub fn written(&self, answer: u64) -> &[u8] {
         match decode(answer) {
             (1, _, count) => &self.buffer(0)[..count as usize],
+            _ => &[],
+        }
+    }
+
+    /// The saved record that the last call wrote, empty if it wrote none.
+    pub fn saved(&self, answer: u64) -> &[u8] {
+        match decode(answer) {
+            (1, length, _) => &self.buffer(1)[..length as usize],
             _ => &[],
         }
     }

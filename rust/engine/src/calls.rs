@@ -47,7 +47,7 @@ pub fn complete(problem: &[u8], result: &mut [u8]) -> CompleteAnswer {
 }
 
 fn try_complete(problem: &[u8], result: &mut [u8]) -> Result<usize, Refusal> {
-    test_buffer(result)?;
+    test_buffer(result, MIN_RESULT)?;
     let problem = Problem::read(problem)?;
     Ok(deliver(&outcome_bytes(&run(&problem)), result))
 }
@@ -64,7 +64,7 @@ pub fn compare(problem: &[u8]) -> CompareAnswer {
 
 /// Unifies the two sides of the only equation, over the same variables.
 pub fn unify(problem: &[u8], result: &mut [u8]) -> UnifyAnswer {
-    match test_buffer(result).and_then(|()| read_only_sides(problem)) {
+    match test_buffer(result, MIN_RESULT).and_then(|()| read_only_sides(problem)) {
         Err(refusal) => UnifyAnswer::Refused(refusal),
         Ok((_, left, right)) => match common_instance(&left, &right) {
             CommonInstance::None => UnifyAnswer::None,
@@ -92,8 +92,9 @@ fn try_subterm(bytes: &[u8], position: usize) -> Option<&[u8]> {
     Some(&bytes[start..problem.term_end(start)])
 }
 
-fn test_buffer(result: &[u8]) -> Result<(), Refusal> {
-    if result.len() < MIN_RESULT {
+/// Refuses a buffer with fewer bytes than it must have.
+pub(crate) fn test_buffer(buffer: &[u8], least: usize) -> Result<(), Refusal> {
+    if buffer.len() < least {
         return Err(Refusal {
             number: 1,
             place: 0,
@@ -110,7 +111,7 @@ pub(crate) fn read_only_sides(problem: &[u8]) -> Result<(Problem<'_>, Term, Term
 }
 
 /// Copies the bytes to the front of the buffer.
-fn deliver(bytes: &[u8], result: &mut [u8]) -> usize {
+pub(crate) fn deliver(bytes: &[u8], result: &mut [u8]) -> usize {
     result[..bytes.len()].copy_from_slice(bytes);
     bytes.len()
 }

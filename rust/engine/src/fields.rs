@@ -1,5 +1,6 @@
 //! Fields, written and taken apart, and the fields of a result.
 
+use crate::rules::Rule;
 use crate::run::{End, Entry, Outcome, PUT_BACK};
 use crate::term::Term;
 use crate::waiting::Origin;
@@ -47,13 +48,10 @@ pub fn outcome_bytes(outcome: &Outcome) -> Vec<u8> {
     let mut out = Vec::new();
     push_field(&mut out, TAG_END, &[outcome.end.number()]);
     push_field(&mut out, TAG_UNITS, &outcome.units.to_be_bytes());
-    for rule in outcome.rules.iter() {
-        let mut contents = rule.number.to_be_bytes().to_vec();
-        rule.left.write(&mut contents);
-        rule.right.write(&mut contents);
-        push_field(&mut out, TAG_RULE, &contents);
+    for rule in outcome.state.rules.iter() {
+        push_field(&mut out, TAG_RULE, &rule_bytes(rule));
     }
-    for entry in &outcome.log {
+    for entry in &outcome.state.log {
         push_field(&mut out, TAG_ENTRY, &entry_bytes(entry));
     }
     if let End::Unorientable(left, right) = &outcome.end {
@@ -74,8 +72,17 @@ pub fn instance_bytes(instance: &Term) -> Vec<u8> {
     out
 }
 
-fn entry_bytes(entry: &Entry) -> [u8; 8] {
-    let (kind, first, second, position) = match entry.origin {
+/// Number, left side, right side.
+pub fn rule_bytes(rule: &Rule) -> Vec<u8> {
+    let mut contents = rule.number.to_be_bytes().to_vec();
+    rule.left.write(&mut contents);
+    rule.right.write(&mut contents);
+    contents
+}
+
+/// Kind, two numbers, position.
+pub fn origin_bytes(origin: Origin) -> [u8; 6] {
+    let (kind, first, second, position) = match origin {
         Origin::WaitingInput { equation } => (1, equation, 0, 0),
         Origin::WaitingRule { rule } => (2, rule, 0, 0),
         Origin::ScannedInput { equation } => (3, equation, 0, 0),
@@ -85,17 +92,14 @@ fn entry_bytes(entry: &Entry) -> [u8; 8] {
             position,
         } => (4, inner, outer, position),
     };
-    let [first_high, first_low] = first.to_be_bytes();
-    let [second_high, second_low] = u16::to_be_bytes(second);
-    let [made_high, made_low] = entry.made.number().to_be_bytes();
-    [
-        kind,
-        first_high,
-        first_low,
-        second_high,
-        second_low,
-        position,
-        made_high,
-        made_low,
-    ]
+    let [a, b] = u16::to_be_bytes(first);
+    let [c, d] = u16::to_be_bytes(second);
+    [kind, a, b, c, d, position]
+}
+
+/// The origin, then the rule made.
+pub fn entry_bytes(entry: &Entry) -> [u8; 8] {
+    let [kind, a, b, c, d, position] = origin_bytes(entry.origin);
+    let [high, low] = entry.made.number().to_be_bytes();
+    [kind, a, b, c, d, position, high, low]
 }

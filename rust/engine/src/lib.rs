@@ -1,11 +1,12 @@
 //! Knuth-Bendix completion with the lexicographic path order, on heap trees.
 //!
-//! Six calls (complete, compare, unify, subterm, decide, lower) and the text
-//! of settle.
+//! The calls are complete, compare, unify, subterm, decide, lower,
+//! complete_saving, resume and resume_saving; beside them the text of settle.
 //! The engine shares no code with the verified library, so that comparing
 //! the two on many problems says something about both.
 
 pub mod calls;
+pub mod checkpoint;
 pub mod decide;
 pub mod fields;
 pub mod lower;
@@ -14,7 +15,9 @@ pub mod normalise;
 pub mod order;
 pub mod overlap;
 pub mod problem;
+pub mod reader;
 pub mod record;
+pub mod resume;
 pub mod rules;
 pub mod run;
 pub mod settle;
@@ -28,6 +31,7 @@ pub use decide::{decide, DecideAnswer};
 pub use lower::{lower, Which};
 pub use order::Order;
 pub use problem::Refusal;
+pub use resume::{complete_saving, resume, resume_saving, Lengths, SavingAnswer};
 pub use settle::settle_text;
 
 /// Most nodes a term may have.
@@ -42,8 +46,14 @@ pub const MAX_LOG: usize = 512;
 pub const MAX_PROBLEM: usize = 8192;
 /// Fewest bytes a result buffer may have.
 pub const MIN_RESULT: usize = 16384;
-/// Most bytes in a record.
+/// Most bytes in a record that is a kept result.
 pub const MAX_RECORD: usize = 16384;
+/// Fewest bytes a buffer for a saved record may have.
+pub const MIN_SAVED: usize = 49_152;
+/// Most bytes in a saved record.
+pub const MAX_SAVED: usize = 49_152;
+/// Most rules and waiting equations together.
+pub const MAX_TOGETHER: usize = 33;
 /// Highest number of a rule.
 pub const MAX_RULE_NUMBER: u16 = 512;
 /// Most equation fields in a problem.

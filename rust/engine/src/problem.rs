@@ -7,9 +7,9 @@ use crate::term::{rename_pair, Term, VARIABLE_BASE};
 use crate::{MAX_BUDGET, MAX_EQUATIONS, MAX_NODES, MAX_PROBLEM};
 use std::ops::Range;
 
-const TAG_SYMBOLS: u8 = 1;
+pub const TAG_SYMBOLS: u8 = 1;
 const TAG_BUDGET: u8 = 2;
-const TAG_EQUATION: u8 = 3;
+pub const TAG_EQUATION: u8 = 3;
 const HEADER: usize = 3;
 const MAX_SYMBOL_BYTES: usize = 32;
 const MAX_ARITY: u8 = 4;
@@ -43,6 +43,12 @@ impl Signature {
         self.rank[symbol as usize]
     }
 
+    /// The contents of a symbol field.
+    pub fn bytes(&self) -> Vec<u8> {
+        let symbols = self.arity.iter().zip(&self.rank);
+        symbols.flat_map(|(arity, rank)| [*arity, *rank]).collect()
+    }
+
     /// Nodes still due after this byte for one due node; none if it is no node.
     fn arguments_of(&self, byte: u8) -> Option<usize> {
         if (VARIABLE_BASE..=MAX_VARIABLE_BYTE).contains(&byte) {
@@ -70,7 +76,7 @@ impl EquationField {
     }
 }
 
-/// An accepted problem over the lent bytes.
+/// An accepted problem over the lent bytes, its own or those of a saved record.
 #[derive(Debug)]
 pub struct Problem<'a> {
     pub bytes: &'a [u8],

@@ -2,8 +2,9 @@
 //!
 //! A turn takes an equation (waiting, or from the scan), orients its normal
 //! forms into a rule, collapses older left sides and composes older right
-//! sides; or it puts the forms back to wait, if neither is above. Its changes
-//! are kept only when the whole turn succeeds; units stay paid either way.
+//! sides; or it puts the forms back to wait, if neither is above. It changes
+//! the state only when nothing can stop it any more, so that a run can go on
+//! with the unfinished turn; units stay paid either way.
 
 use crate::matching::matches_somewhere;
 use crate::normalise::{normalise, Stop, Units};
@@ -39,6 +40,15 @@ pub enum Made {
 }
 
 impl Made {
+    /// What a log entry with this rule made says.
+    pub fn of_number(number: u16) -> Made {
+        match number {
+            0 => Made::Settled,
+            PUT_BACK => Made::PutBack,
+            number => Made::Rule(number),
+        }
+    }
+
     /// The rule made as a log entry has it.
     pub fn number(self) -> u16 {
         match self {
@@ -82,95 +92,141 @@ impl End {
     }
 }
 
-/// What a run leaves.
+/// What a run keeps from turn to turn.
+#[derive(Debug)]
+pub struct State {
+    pub rules: RuleSet,
+    pub waiting: Waiting,
+    pub log: Vec<Entry>,
+    /// Number of the next rule.
+    pub next: u16,
+}
+
+/// What becomes of a taken pair.
+enum Change {
+    Settled,
+    /// The live rules, the new one last, and those it removes.
+    Rule(RuleSet, Vec<Rc<Rule>>),
+    PutBack(Equation),
+}
+
+impl State {
+    /// The first state: these equations wait.
+    fn new(inputs: &[(Term, Term)]) -> State {
+        State {
+            rules: RuleSet::default(),
+            waiting: Waiting::new(inputs),
+            log: Vec::new(),
+            next: 1,
+        }
+    }
+
+    /// Keeps what a turn has made of the pair of this origin. If one waits,
+    /// the pair is that of the oldest, which leaves.
+    fn keep(&mut self, origin: Origin, change: Change) {
+        self.waiting.leave();
+        let made = match change {
+            Change::Settled => {
+                self.waiting.changed();
+                Made::Settled
+            }
+            Change::Rule(rules, removed) => {
+                self.rules = rules;
+                self.waiting.join(&removed);
+                self.waiting.changed();
+                self.next += 1;
+                Made::Rule(self.next - 1)
+            }
+            Change::PutBack(forms) => {
+                self.waiting.put_back(forms);
+                Made::PutBack
+            }
+        };
+        self.log.push(Entry { origin, made });
+    }
+}
+
+/// What a run leaves: its state is that at the beginning of the last turn.
 #[derive(Debug)]
 pub struct Outcome {
     pub end: End,
     pub units: u32,
-    pub rules: RuleSet,
-    pub log: Vec<Entry>,
+    pub state: State,
 }
 
 /// Runs the turns of an accepted problem.
 pub fn run(problem: &Problem) -> Outcome {
     let inputs = problem.renamed_equations();
-    let mut state = State::new(&problem.signature, problem.budget, &inputs);
+    turns(problem, &inputs, State::new(&inputs))
+}
+
+/// Goes on with a run of the problem from a state.
+pub fn run_from(problem: &Problem, state: State) -> Outcome {
+    turns(problem, &problem.renamed_equations(), state)
+}
+
+fn turns(problem: &Problem, inputs: &[(Term, Term)], state: State) -> Outcome {
+    let mut run = Run {
+        signature: &problem.signature,
+        inputs,
+        state,
+        units: Units::new(problem.budget),
+        unifier: Unifier::default(),
+    };
     let end = loop {
-        if let Err(end) = state.turn() {
+        if let Err(end) = run.turn() {
             break end;
         }
     };
     Outcome {
         end,
-        units: state.units.paid,
-        rules: state.rules,
-        log: state.log,
+        units: run.units.paid,
+        state: run.state,
     }
 }
 
-struct State<'p> {
+struct Run<'p> {
     signature: &'p Signature,
     inputs: &'p [(Term, Term)],
-    rules: RuleSet,
-    waiting: Waiting,
-    log: Vec<Entry>,
+    state: State,
     units: Units,
-    /// Number of the next rule.
-    next: u16,
     unifier: Unifier,
 }
 
-impl<'p> State<'p> {
-    fn new(signature: &'p Signature, budget: u32, inputs: &'p [(Term, Term)]) -> State<'p> {
-        State {
-            signature,
-            inputs,
-            rules: RuleSet::default(),
-            waiting: Waiting::new(inputs),
-            log: Vec::new(),
-            units: Units::new(budget),
-            next: 1,
-            unifier: Unifier::default(),
-        }
-    }
-
-    /// One turn.
+impl Run<'_> {
+    /// One turn; if it stops, the state is as at its beginning.
     fn turn(&mut self) -> Result<(), End> {
         self.units.pay()?;
-        if let Some(oldest) = self.waiting.stuck() {
+        if let Some(oldest) = self.state.waiting.stuck() {
             let (left, right) = (oldest.left.clone(), oldest.right.clone());
             return Err(End::Unorientable(left, right));
         }
         let taken = self.take()?;
-        if self.log.len() == MAX_LOG {
+        if self.state.log.len() == MAX_LOG {
             return Err(Stop::LogFull.into());
         }
         let origin = taken.origin;
-        let made = self.dispose(taken)?;
-        self.log.push(Entry { origin, made });
+        let change = self.change(taken)?;
+        self.state.keep(origin, change);
         Ok(())
     }
 
-    /// Settles the taken pair, makes a rule of it or puts it back.
-    fn dispose(&mut self, taken: Equation) -> Result<Made, Stop> {
+    /// Whether the taken pair is settled, a rule or put back.
+    fn change(&mut self, taken: Equation) -> Result<Change, Stop> {
         if taken.left == taken.right {
-            self.waiting.changed();
-            return Ok(Made::Settled);
+            return Ok(Change::Settled);
         }
         match self.orient(&taken)? {
-            Some((left, right)) => self.add_rule(left, right).map(Made::Rule),
-            None => {
-                self.waiting.put_back(taken);
-                Ok(Made::PutBack)
-            }
+            Some((left, right)) => self.add_rule(left, right),
+            None => Ok(Change::PutBack(taken)),
         }
     }
 
     /// The pair of normal forms the turn is about.
     fn take(&mut self) -> Result<Equation, End> {
-        if let Some(waiting) = self.waiting.take() {
-            let (left, right) = self.normal_forms(&waiting.left, &waiting.right)?;
-            let origin = waiting.origin;
+        if let Some(oldest) = self.state.waiting.oldest().cloned() {
+            let (left, right) = self.normal_forms(&oldest.left, &oldest.right)?;
+            let origin = oldest.origin;
             return Ok(Equation {
                 left,
                 right,
@@ -184,17 +240,18 @@ impl<'p> State<'p> {
     }
 
     fn normal_forms(&mut self, left: &Term, right: &Term) -> Result<(Term, Term), Stop> {
-        let left = normalise(left, &self.rules, &mut self.units)?;
-        let right = normalise(right, &self.rules, &mut self.units)?;
+        let left = normalise(left, &self.state.rules, &mut self.units)?;
+        let right = normalise(right, &self.state.rules, &mut self.units)?;
         Ok((left, right))
     }
 
     /// The first overlap with two different normal forms.
     fn scan_overlaps(&mut self) -> Result<Option<Equation>, Stop> {
-        let sizes: Vec<usize> = self.rules.iter().map(|rule| rule.left.size()).collect();
+        let rules = self.state.rules.iter();
+        let sizes: Vec<usize> = rules.map(|rule| rule.left.size()).collect();
         for place in scan_order(&sizes) {
-            let inner = self.rules.get(place.inner);
-            let outer = self.rules.get(place.outer);
+            let inner = self.state.rules.get(place.inner);
+            let outer = self.state.rules.get(place.outer);
             let found = superpose(inner, outer, place.position, &mut self.unifier);
             let (left, right) = match found {
                 Superposition::None => continue,
@@ -215,8 +272,8 @@ impl<'p> State<'p> {
 
     fn overlap_origin(&self, place: Place) -> Origin {
         Origin::Overlap {
-            inner: self.rules.get(place.inner).number,
-            outer: self.rules.get(place.outer).number,
+            inner: self.state.rules.get(place.inner).number,
+            outer: self.state.rules.get(place.outer).number,
             position: place.position as u8,
         }
     }
@@ -251,28 +308,23 @@ impl<'p> State<'p> {
         })
     }
 
-    /// Adds a rule: collapses, then composes, then keeps the new state.
-    fn add_rule(&mut self, left: Term, right: Term) -> Result<u16, Stop> {
+    /// A rule more: collapses, then composes.
+    fn add_rule(&mut self, left: Term, right: Term) -> Result<Change, Stop> {
         debug_assert!(left.size() <= MAX_NODES && right.size() <= MAX_NODES);
-        let number = self.next;
-        let new = Rc::new(Rule::new(number, left, right));
+        let new = Rc::new(Rule::new(self.state.next, left, right));
         let (removed, mut live) = self.collapse(&new);
         live.push(new);
         if live.len() > MAX_RULES {
             return Err(Stop::RulesFull);
         }
         let rules = self.compose(RuleSet::new(live))?;
-        self.rules = rules;
-        self.waiting.join(&removed);
-        self.waiting.changed();
-        self.next += 1;
-        Ok(number)
+        Ok(Change::Rule(rules, removed))
     }
 
     /// Older rules parted in those whose left side the new rule rewrites and
     /// the others, both ascending.
     fn collapse(&self, new: &Rule) -> (Vec<Rc<Rule>>, Vec<Rc<Rule>>) {
-        let older = self.rules.iter().cloned();
+        let older = self.state.rules.iter().cloned();
         older.partition(|rule| matches_somewhere(&new.left, &rule.left))
     }
 

@@ -59,6 +59,25 @@ impl Waiting {
         }
     }
 
+    /// These equations, of which the last so many were put back since the last
+    /// change.
+    pub fn resumed(list: Vec<Equation>, put_back: u8) -> Waiting {
+        Waiting {
+            list: list.into(),
+            put_back: put_back.into(),
+        }
+    }
+
+    /// The equations, oldest first.
+    pub fn iter(&self) -> impl Iterator<Item = &Equation> {
+        self.list.iter()
+    }
+
+    /// How many were put back since the last change: at most as many as wait.
+    pub fn put_back_since(&self) -> usize {
+        self.put_back
+    }
+
     /// The oldest equation, if all that wait were put back since the last
     /// change: then no turn can orient one of them.
     pub fn stuck(&self) -> Option<&Equation> {
@@ -66,9 +85,14 @@ impl Waiting {
         (self.put_back >= self.list.len()).then_some(oldest)
     }
 
-    /// Takes the oldest equation.
-    pub fn take(&mut self) -> Option<Equation> {
-        self.list.pop_front()
+    /// The oldest equation, which stays until its turn can no longer stop.
+    pub fn oldest(&self) -> Option<&Equation> {
+        self.list.front()
+    }
+
+    /// The oldest equation leaves, if one waits.
+    pub fn leave(&mut self) {
+        self.list.pop_front();
     }
 
     /// Puts the normal forms of a taken pair at the end, with its origin.

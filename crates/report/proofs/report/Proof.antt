@@ -1,6 +1,7 @@
 -- `report`: the five parts fit the 13,726 bytes and stand one behind the other (`wrote-all`); they are the run's result (`reported`). Assumes
 -- nothing.
 -- Read first: specs/Report (Reports), proofs/Whole, proofs/Meaning.
+use native.Mathlib.Omega.{arith}
 use Rattle.slots.proofs.Layouts.{layout-less}
 use Rattle.state.specs.Run.{Fine}
 use Rattle.report.proofs.Whole.{wrote-all}
@@ -56,6 +57,16 @@ returns c =
           reported tab f _ _ _ is _ _ _ _ (at-number .number .ensures)
           (wrote-all _ _ _ _ _ _ _ _ _ _ _ _ _ _ _ _ _ _ (entry .pre .0) (fine .live-few) (fine .log-few) (at-first .put-number-field .ensures)
           (at-second .put-number-field2 .ensures) (at-rules .put-rules .ensures) (at-log .put-log .ensures) (at-oldest .put-oldest .ensures));
+      few = omega (
+        arith,
+        fine .live-few,
+        fine .log-few,
+        at-first .put-number-field .ensures .next,
+        at-second .put-number-field2 .ensures .next,
+        at-rules .put-rules .ensures .room,
+        at-log .put-log .ensures .room,
+        at-oldest .put-oldest .ensures .room,
+      );
     }
 
 pub report-spec : {M : Type 1} → statement M

@@ -6,8 +6,10 @@
 //! side above wait. Most budgets are small, so that many problems can be run.
 //! `damage::exhaustive` lists all truncations and single-byte changes of some
 //! problems. `records` makes questions of records, `pairs` pairs of terms for
-//! lower.
+//! lower, `slices` runs that are cut and go on in slices, `checkpoints` saved
+//! records.
 
+pub mod checkpoints;
 pub mod damage;
 pub mod edges;
 pub mod limits;
@@ -15,6 +17,7 @@ pub mod pairs;
 pub mod random;
 pub mod ranks;
 pub mod records;
+pub mod slices;
 pub mod terms;
 pub mod theory;
 pub mod waiting;

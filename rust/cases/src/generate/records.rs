@@ -10,8 +10,8 @@ mod asked;
 mod damage;
 pub mod exhaustive;
 mod growth;
-mod long;
-mod made;
+pub(super) mod long;
+pub(super) mod made;
 mod results;
 
 use super::random::Random;

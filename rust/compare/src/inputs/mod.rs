@@ -7,6 +7,8 @@
 mod pair;
 mod problem;
 mod question;
+mod resumption;
+mod saving;
 
 pub use problem::PutBack;
 
@@ -14,6 +16,8 @@ use crate::call::Engine;
 use crate::check::{Checker, Difference};
 use kb_cases::pairs::Pair;
 use kb_cases::questions::Question;
+use kb_cases::resumptions::Resumption;
+use kb_cases::slices::Sliced;
 
 /// What calls are made on.
 #[derive(Clone, Debug)]
@@ -24,10 +28,20 @@ pub enum Input {
     Question(Question),
     /// Lower.
     Pair(Pair),
+    /// Complete_saving, then resume_saving and resume until the run ends.
+    Sliced(Sliced),
+    /// Resume and resume_saving.
+    Resumption(Resumption),
 }
 
 /// All kinds.
-pub const KINDS: [Kind; 3] = [problem::KIND, question::KIND, pair::KIND];
+pub const KINDS: [Kind; 5] = [
+    problem::KIND,
+    question::KIND,
+    pair::KIND,
+    saving::KIND,
+    resumption::KIND,
+];
 
 impl Input {
     /// Makes all calls; the number varies how they are lent their bytes.
@@ -36,6 +50,8 @@ impl Input {
             Input::Problem(problem) => problem::check(checker, problem, number),
             Input::Question(question) => question::check(checker, question),
             Input::Pair(pair) => pair::check(checker, pair, number),
+            Input::Sliced(sliced) => saving::check(checker, sliced, number),
+            Input::Resumption(resumption) => resumption::check(checker, resumption, number),
         }
     }
 
@@ -45,6 +61,8 @@ impl Input {
             Input::Problem(problem) => hex(problem),
             Input::Question(question) => question::shown(question),
             Input::Pair(pair) => pair::shown(pair),
+            Input::Sliced(sliced) => saving::shown(sliced),
+            Input::Resumption(resumption) => resumption::shown(resumption),
         }
     }
 }

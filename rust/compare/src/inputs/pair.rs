@@ -20,12 +20,8 @@ pub fn check(checker: &mut Checker, pair: &Pair, number: u64) -> Result<Notes, D
     let before = lent.clone();
     let answer = checker.call(&lower(&lent), [NONE; 2])?;
     if black_box(&lent) != &before {
-        return Err(Difference {
-            call: "lower, bytes around the lent ones changed".to_string(),
-            left: answer,
-            right: answer,
-            place: None,
-        });
+        let changed = "lower, bytes around the lent ones changed";
+        return Err(Difference::of_both(changed, answer));
     }
     Ok(vec![note(answer)])
 }

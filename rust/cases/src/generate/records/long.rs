@@ -13,7 +13,7 @@ use kb_engine::{MAX_LOG, MAX_NODES, MAX_RECORD, MAX_RULES};
 
 /// A constant, then unary, binary, unary and binary symbols, each above those
 /// before it.
-const SYMBOLS: [(u8, u8); 5] = [(0, 0), (1, 1), (2, 2), (1, 3), (2, 4)];
+pub const SYMBOLS: [(u8, u8); 5] = [(0, 0), (1, 1), (2, 2), (1, 3), (2, 4)];
 /// The symbols by arity: those of right sides, and those of left sides.
 const LOWER: Shape = Shape {
     unary: &[1],
@@ -71,7 +71,7 @@ pub fn record(random: &mut Random, _: Complete) -> Question {
 }
 
 /// A rule of 120 nodes on each side, at times one more, left above right.
-fn rule(random: &mut Random) -> Pair {
+pub fn rule(random: &mut Random) -> Pair {
     let nodes = MAX_NODES + random.once_in(1000) as usize;
     let mut left = vec![*random.pick(&[3, 4])];
     let leaves = [0x80, 0x81, 0x82, 0];

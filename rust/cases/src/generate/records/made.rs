@@ -32,14 +32,8 @@ pub fn fields(random: &mut Random, _: Complete) -> Question {
 }
 
 /// Symbols and rules, with the fields of their record.
-pub fn source(random: &mut Random) -> (Source, Kept) {
-    let count = *random.pick(&[1, 2, 3, 3, 4, 4, 5, 6, 16]);
-    let mut symbols = symbols(random, count, &ARITIES);
-    if random.once_in(3) {
-        let ranks = random.between(1, 4);
-        let ranked = symbols.iter_mut();
-        ranked.for_each(|symbol| symbol.1 = random.below(ranks) as u8);
-    }
+pub(super) fn source(random: &mut Random) -> (Source, Kept) {
+    let symbols = table(random);
     let count = *random.pick(&[0, 1, 1, 2, 2, 3, 3, 4, 4, 5, 6, 8, 12, 31, 32, 33]);
     let equal: Vec<Pair> = (0..count).map(|_| rule(random, &symbols)).collect();
     let logged = random.below(4);
@@ -58,8 +52,20 @@ pub fn source(random: &mut Random) -> (Source, Kept) {
     (source, kept)
 }
 
+/// Symbols of distinct ranks, or of few.
+pub fn table(random: &mut Random) -> Symbols {
+    let count = *random.pick(&[1, 2, 3, 3, 4, 4, 5, 6, 16]);
+    let mut symbols = symbols(random, count, &ARITIES);
+    if random.once_in(3) {
+        let ranks = random.between(1, 4);
+        let ranked = symbols.iter_mut();
+        ranked.for_each(|symbol| symbol.1 = random.below(ranks) as u8);
+    }
+    symbols
+}
+
 /// A rule, renamed, its left side mostly above its right.
-fn rule(random: &mut Random, symbols: &Symbols) -> Pair {
+pub fn rule(random: &mut Random, symbols: &Symbols) -> Pair {
     let top = *random.pick(&[(4, 3), (6, 5), (9, 4), (9, 12), (30, 30)]);
     for _ in 0..TRIES {
         let (left, right) = terms(random, symbols, top);
@@ -80,7 +86,7 @@ fn rule(random: &mut Random, symbols: &Symbols) -> Pair {
 }
 
 /// Two terms, the second mostly over the variables of the first.
-fn terms(random: &mut Random, symbols: &Symbols, (left, right): (usize, usize)) -> Pair {
+pub fn terms(random: &mut Random, symbols: &Symbols, (left, right): (usize, usize)) -> Pair {
     let variables = random.between(1, 4);
     let term = |random: &mut Random, top| {
         let mut out = Vec::new();

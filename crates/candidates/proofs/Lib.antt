@@ -1,0 +1,3 @@
+mod Origins
+mod Waiting
+mod Logged

@@ -1,0 +1,9 @@
+pub mod Again
+pub mod Items
+pub mod RoundTrip
+pub mod Saved
+pub mod NoBudget
+pub mod Finishes
+pub mod Exists
+pub mod Delivers
+pub mod Instances

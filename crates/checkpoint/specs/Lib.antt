@@ -1,0 +1,3 @@
+pub mod Checkpoint
+pub mod Resume
+pub mod Wrote
