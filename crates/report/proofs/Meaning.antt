@@ -2,9 +2,9 @@
 -- Read first: state/specs/Run (Represents, Leaves), completion/specs/Calls (result-bytes), proofs/Whole.
 use mathlib.Core.Path.{_≡_, refl, sym, ap, subst, _∙_}
 use mathlib.Core.List.{List, [], _∷_, _++_, map, flatMap, append-assoc, append-nil}
-use Prim.Native.Nat.{ℕ, _*_}
+use Prim.Native.Nat.{ℕ}
 use native.Mathlib.Omega.{arith}
-use lib.ListN.{length, take}
+use lib.ListN.{length}
 use borrow.Author.Tests.{lt-ltb, le-ltb}
 use Rattle.terms.specs.Base.{if_then_else_, number-bytes, Field, field-bytes}
 use Rattle.terms.proofs.Lists.{flatMap-append}
@@ -19,10 +19,11 @@ use Rattle.completion.specs.Turn.{Candidate, Finished}
 use Rattle.completion.specs.Calls.{pair-bytes, rule-field, entry-field, oldest-field, forms-field, result-fields, result-bytes, Writes}
 use Rattle.fields.specs.Puts.{tagged}
 use Rattle.inputs.specs.Inputs.{marked}
-use Rattle.items.specs.Written.{row, logged-width, each, slot-field, logged-field}
-use Rattle.items.proofs.Writing.{rules-are, forms-are as pair-is, entries-are}
+use Rattle.items.specs.Written.{row, each, slot-field, logged-field}
+use Rattle.items.proofs.Writing.{forms-are as pair-is}
 use Rattle.collapse.specs.Rows.{held}
 use Rattle.state.specs.Run.{Leaves}
+use Rattle.state.proofs.Written.{rules-written, log-written}
 use Rattle.collapse.proofs.Rows.{held-rows, length-held, length-rows, row-at}
 use Rattle.state.specs.declared.State.{State}
 use Rattle.report.specs.Report.{oldest-if}
@@ -60,18 +61,6 @@ module _ (tab : List ℕ) (f : Finished) (st : State) (end : Ending) (paid : ℕ
   end-is : end-of end ≡ end-number (f .end)
   end-is = ap end-of (h .end-is) ∙ number-of-ending (f .end)
 
-  rules-put : each (slot-field (st .pairs .bytes)) 0 (st .live) ≡ map rule-field (f .state .rules)
-  rules-put =
-      let rows = subst (Holds tab (st .pairs .bytes) 0) (held-rows (f .state .rules) (f .state .waiting)) (h .state .pairs .holds) in
-      ap (each (slot-field (st .pairs .bytes)) 0) (h .state .live)
-      ∙ rules-are tab (st .pairs .bytes) 0 (f .state .rules) (map marked (f .state .waiting)) rows
-
-  log-put : each (logged-field (st .log .bytes)) 0 (st .log .count) ≡ map entry-field (f .state .log)
-  log-put =
-      let n = h .state .log .counted in
-      ap (each (logged-field (st .log .bytes)) 0) n
-      ∙ entries-are (st .log .bytes) (f .state .log) (ap (λ k. take (logged-width * k) (st .log .bytes)) (sym n) ∙ h .state .log .bytes)
-
   abbrev oldest-bytes : Ending → List ℕ
   oldest-bytes e = oldest-if e (st .pairs .bytes) (st .live) (st .pairs .count)
 
@@ -89,7 +78,7 @@ module _ (tab : List ℕ) (f : Finished) (st : State) (end : Ending) (paid : ℕ
   bytes-are : put (end-of end) ≡ result-bytes f
   unfolding all-bytes result-bytes result-fields flatMap
   bytes-are =
-      rw (end-is, h .paid-is, rules-put, log-put, forms-put)
+      rw (end-is, h .paid-is, rules-written tab st (f .state) (h .state), log-written tab st (f .state) (h .state), forms-put)
       (ap (λ (l : List ℕ). field-bytes (tagged 0x10 (number-bytes 1 (end-number (f .end)))) ++ (field-bytes (tagged 0x11 (number-bytes 4 (f .units))) ++ l))
       (sym (behind-units (map rule-field (f .state .rules)) (map entry-field (f .state .log)) (forms-field (f .end) (f .state .waiting)))))
 

@@ -2,9 +2,9 @@
 ghost use mathlib.Core.List.{flatMap};
 ghost use Prim.Native.Nat.{_+_, _*_, _≤_};
 ghost use lib.ListN.{length};
-ghost use Rattle.limits.specs.Limits.{most-equations, most-symbols, two-byte-values, field-head, forms-width, waiting-width, longest-saved};
+ghost use Rattle.limits.specs.Limits.{most-equations, most-symbols, field-head, forms-width, waiting-width, longest-saved};
 ghost use Rattle.terms.specs.Base.{field-bytes};
-ghost use Rattle.fields.specs.Puts.{Puts, PutsSome};
+ghost use Rattle.fields.specs.Puts.{PutsSome};
 ghost use Rattle.slots.specs.Slots.{Layout};
 ghost use Rattle.items.specs.Written.{each};
 ghost use Rattle.state.specs.Run.{Fine};
@@ -75,7 +75,7 @@ fn put_waiting(out: &mut [u8], at: usize, pairs: &[u8], live: usize, count: usiz
 fn put_state(state: State, out: &mut [u8], at: usize) -> usize
     requires { ⌜ at + state-width ≤ length (now out) ⌝ }
     requires { ⌜ Fine state ⌝ }
-    ensures { λ r. ⌜ Puts (now (out .entry)) at (length (state-bytes state)) (state-bytes state) (now (out .exit)) r ⌝ }
+    ensures { λ r. ⌜ PutsSome state-width (now (out .entry)) at 1 (state-bytes state) (now (out .exit)) r ⌝ }
 {
     let made = state.made;
     let a = fields::put_number_field(out, at, checkpoint::NEXT, 2, (made + 1) as u32);
@@ -91,7 +91,14 @@ fn put_state(state: State, out: &mut [u8], at: usize) -> usize
 
 // The saved record of a state. Its theory stands in lent bytes: the table of its symbols, and so many fields of equations from a place on. Its bytes
 // are at the front, and their count is returned.
-pub fn save(state: State, table: &[u8], source: &[u8], from: usize, count: usize, out: &mut [u8]) -> usize
+pub fn save(
+    state: State,
+    table: &[u8],
+    source: &[u8],
+    from: usize,
+    count: usize,
+    out: &mut [u8],
+) -> usize
     requires { ⌜ longest-saved ≤ length (now out) ⌝ }
     requires { ⌜ (length (now table) ≤ 2 * most-symbols) × (count ≤ most-equations) × Fine state ⌝ }
     ensures { λ r. ⌜ Saves state (now (table .entry)) (now (source .entry)) from count (now (out .entry)) (now (out .exit)) r ⌝ }

@@ -2,3 +2,4 @@ pub mod Steady
 mod Changing
 mod Logging
 mod PuttingBack
+pub mod Written

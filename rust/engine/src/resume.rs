@@ -18,8 +18,8 @@ pub enum SavingAnswer {
     Written(Lengths),
 }
 
-/// What a call that saves has written.
-#[derive(Clone, Copy, Debug, PartialEq, Eq)]
+/// How much a call that saves has written.
+#[derive(Clone, Copy, Debug, Default, PartialEq, Eq)]
 pub struct Lengths {
     /// Count of result bytes.
     pub result: usize,

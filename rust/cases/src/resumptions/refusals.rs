@@ -237,7 +237,10 @@ fn whole() -> Vec<Case> {
 
 /// The length of a record, and the new budget after all of the record.
 fn budgets() -> Vec<Case> {
-    let (first, bad) = (first_turn().bytes(), second_turn().bytes()[..COUNT].to_vec());
+    let (first, bad) = (
+        first_turn().bytes(),
+        second_turn().bytes()[..COUNT].to_vec(),
+    );
     let answer = |number, place| Err(Refusal { number, place });
     let padded = |length| {
         let mut record = first_turn().bytes();

@@ -6,14 +6,14 @@ use kb_engine::{DecideAnswer, Refusal};
 use std::collections::HashMap;
 
 /// A field of a record, its contents none if the record ends before it does.
-struct Field<'r> {
-    start: usize,
-    tag: u8,
-    contents: Option<&'r [u8]>,
+pub struct Field<'r> {
+    pub start: usize,
+    pub tag: u8,
+    pub contents: Option<&'r [u8]>,
 }
 
 /// All fields up to the first that is cut.
-fn fields(record: &[u8]) -> Vec<Field<'_>> {
+pub fn fields(record: &[u8]) -> Vec<Field<'_>> {
     let (mut list, mut start) = (Vec::new(), 0);
     while start < record.len() {
         let header = record.get(start..start + 3);
@@ -29,7 +29,7 @@ fn fields(record: &[u8]) -> Vec<Field<'_>> {
     list
 }
 
-fn number(bytes: &[u8]) -> usize {
+pub fn number(bytes: &[u8]) -> usize {
     bytes.iter().fold(0, |n, b| 256 * n + *b as usize)
 }
 
@@ -39,7 +39,7 @@ fn refused(number: u8, place: usize) -> DecideAnswer {
 
 impl Symbols {
     /// The end of the term that begins at p, if one does.
-    fn read(&self, bytes: &[u8], p: usize) -> Option<usize> {
+    pub fn read(&self, bytes: &[u8], p: usize) -> Option<usize> {
         let byte = *bytes.get(p)?;
         if (0x80..=0x8f).contains(&byte) {
             return Some(p + 1);
@@ -49,7 +49,7 @@ impl Symbols {
     }
 
     /// Two terms and nothing behind, of at most 120 nodes, renamed as a pair.
-    fn pair(&self, bytes: &[u8]) -> Option<(Bytes, Bytes)> {
+    pub fn pair(&self, bytes: &[u8]) -> Option<(Bytes, Bytes)> {
         let left = self.read(bytes, 0)?;
         let right = self.read(bytes, left)?;
         let pair = (bytes[..left].to_vec(), bytes[left..right].to_vec());

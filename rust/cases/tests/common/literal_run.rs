@@ -75,16 +75,23 @@ fn none_put_back_since(waiting: &mut [Waiting]) {
     }
 }
 
+/// What a run keeps from turn to turn.
+#[derive(Clone, Default)]
+pub struct State {
+    pub rules: Vec<Rule>,
+    pub waiting: Vec<Waiting>,
+    pub log: Vec<Bytes>,
+    /// The number of the last rule made.
+    pub made: u16,
+}
+
 struct Run {
     symbols: Symbols,
     rounds: Rounds,
     inputs: Vec<(Bytes, Bytes)>,
-    rules: Vec<Rule>,
-    waiting: Vec<Waiting>,
-    log: Vec<Bytes>,
+    state: State,
     budget: u32,
     units: u32,
-    made: u16,
 }
 
 /// The fields that complete should write, `None` where this cannot say.
@@ -99,44 +106,56 @@ pub fn run_with(
     budget: u32,
     equations: &[(Bytes, Bytes)],
 ) -> Option<Fields> {
-    let inputs: Vec<_> = equations.iter().map(|(l, r)| rename(l, r)).collect();
+    let inputs = equations.iter().map(|(l, r)| rename(l, r));
+    let first = State {
+        waiting: (1..).zip(inputs).map(input).collect(),
+        ..State::default()
+    };
+    let (fields, _) = run_from(rounds, symbols, budget, equations, first)?;
+    Some(fields)
+}
+
+/// The same from a state, with the state as at the beginning of the last turn.
+pub fn run_from(
+    rounds: Rounds,
+    symbols: Symbols,
+    budget: u32,
+    equations: &[(Bytes, Bytes)],
+    state: State,
+) -> Option<(Fields, State)> {
     let mut run = Run {
         symbols,
         rounds,
-        waiting: (1..).zip(&inputs).map(input).collect(),
-        inputs,
-        rules: Vec::new(),
-        log: Vec::new(),
+        inputs: equations.iter().map(|(l, r)| rename(l, r)).collect(),
+        state,
         budget,
         units: 0,
-        made: 0,
     };
     loop {
-        let (rules, log) = (run.rules.clone(), run.log.clone());
+        let state = run.state.clone();
         let (end, pair) = match run.turn() {
             Ok(()) => continue,
             Err(Break::Unknown) => return None,
             Err(Break::End(number)) => (number, None),
             Err(Break::Pair(l, r)) => (20, Some([l, r].concat())),
         };
-        return Some(Fields {
+        let rule = |r: &Rule| (r.number as u16, [&r.left[..], &r.right].concat());
+        let fields = Fields {
             count: 0,
             end,
             units: run.units,
-            rules: rules
-                .iter()
-                .map(|r| (r.number as u16, [&r.left[..], &r.right].concat()))
-                .collect(),
-            log,
+            rules: state.rules.iter().map(rule).collect(),
+            log: state.log.clone(),
             pair,
-        });
+        };
+        return Some((fields, state));
     }
 }
 
-fn input((number, (left, right)): (usize, &(Bytes, Bytes))) -> Waiting {
+fn input((number, (left, right)): (usize, (Bytes, Bytes))) -> Waiting {
     Waiting {
-        left: left.clone(),
-        right: right.clone(),
+        left,
+        right,
         origin: origin(1, number, 0, 0),
         put_back: false,
     }
@@ -152,7 +171,7 @@ impl Run {
     }
 
     fn normalise(&mut self, mut term: Bytes) -> Result<Bytes, Break> {
-        while let Some(next) = self.symbols.step(&self.rules, &term) {
+        while let Some(next) = self.symbols.step(&self.state.rules, &term) {
             self.pay()?;
             if next.len() > 120 {
                 return Err(Break::End(22));
@@ -164,27 +183,27 @@ impl Run {
 
     fn turn(&mut self) -> Result<(), Break> {
         self.pay()?;
-        if let Some(shown) = (self.rounds.stuck)(&self.waiting) {
+        if let Some(shown) = (self.rounds.stuck)(&self.state.waiting) {
             return Err(Break::Pair(shown.left.clone(), shown.right.clone()));
         }
         let taken = self.take()?;
-        if self.log.len() == 512 {
+        if self.state.log.len() == 512 {
             return Err(Break::End(24));
         }
         let made = if taken.forms[0] == taken.forms[1] {
-            (self.rounds.after_settling)(&mut self.waiting);
+            (self.rounds.after_settling)(&mut self.state.waiting);
             0
         } else if let Some(rule) = self.orient(&taken.forms)? {
             self.add(rule)?;
-            (self.rounds.after_a_rule)(&mut self.waiting);
-            self.made += 1;
-            self.made
+            (self.rounds.after_a_rule)(&mut self.state.waiting);
+            self.state.made += 1;
+            self.state.made
         } else {
-            (self.rounds.put_back)(&mut self.waiting, &taken);
+            (self.rounds.put_back)(&mut self.state.waiting, &taken);
             self.rounds.made
         };
         let made = made.to_be_bytes();
-        self.log.push([&taken.origin[..], &made].concat());
+        self.state.log.push([&taken.origin[..], &made].concat());
         Ok(())
     }
 
@@ -199,8 +218,8 @@ impl Run {
     }
 
     fn take(&mut self) -> Result<Taken, Break> {
-        if !self.waiting.is_empty() {
-            let oldest = self.waiting.remove(0);
+        if !self.state.waiting.is_empty() {
+            let oldest = self.state.waiting.remove(0);
             return self.forms([oldest.left, oldest.right], oldest.origin);
         }
         for (inner, outer, p) in self.places() {
@@ -224,8 +243,8 @@ impl Run {
     /// Rules with a position, in the scan's order, by sorting.
     fn places(&self) -> Vec<(Rule, Rule, usize)> {
         let mut list = Vec::new();
-        for inner in &self.rules {
-            for outer in &self.rules {
+        for inner in &self.state.rules {
+            for outer in &self.state.rules {
                 for p in 0..outer.left.len() {
                     if inner.number != outer.number || p > 0 {
                         list.push((inner.clone(), outer.clone(), p));
@@ -283,7 +302,7 @@ impl Run {
         } else {
             return Ok(None);
         };
-        let number = self.made as usize + 1;
+        let number = self.state.made as usize + 1;
         Ok(Some(Rule {
             number,
             left,
@@ -293,9 +312,9 @@ impl Run {
 
     fn add(&mut self, new: Rule) -> Result<(), Break> {
         let mut kept = Vec::new();
-        for old in std::mem::take(&mut self.rules) {
+        for old in std::mem::take(&mut self.state.rules) {
             if self.symbols.rewrites(&new, &old.left) {
-                self.waiting.push(Waiting {
+                self.state.waiting.push(Waiting {
                     left: old.left,
                     right: old.right,
                     origin: origin(2, old.number, 0, 0),
@@ -306,13 +325,13 @@ impl Run {
             }
         }
         kept.push(new);
-        self.rules = kept;
-        if self.rules.len() > 32 {
+        self.state.rules = kept;
+        if self.state.rules.len() > 32 {
             return Err(Break::End(23));
         }
-        for i in 0..self.rules.len() - 1 {
-            let right = self.rules[i].right.clone();
-            self.rules[i].right = self.normalise(right)?;
+        for i in 0..self.state.rules.len() - 1 {
+            let right = self.state.rules[i].right.clone();
+            self.state.rules[i].right = self.normalise(right)?;
         }
         Ok(())
     }

@@ -4,12 +4,14 @@
 pub mod literal;
 pub mod literal_decide;
 pub mod literal_lower;
+pub mod literal_resume;
 pub mod literal_run;
 
 use kb_cases::notation::Theory;
 use kb_engine::fields::split_fields;
 use kb_engine::problem::Problem;
 use kb_engine::{CompareAnswer, CompleteAnswer, Refusal, UnifyAnswer, MIN_RESULT};
+use kb_engine::{Lengths, SavingAnswer, MIN_SAVED};
 
 use literal::{Bytes, Symbols};
 
@@ -34,11 +36,16 @@ pub fn completed(problem: &[u8]) -> Fields {
         panic!("refused");
     };
     assert!(result[count..].iter().all(|b| *b == FILL));
+    fields_of(&result[..count])
+}
+
+/// A result taken apart.
+pub fn fields_of(result: &[u8]) -> Fields {
     let mut fields = Fields {
-        count,
+        count: result.len(),
         ..Fields::default()
     };
-    for (tag, contents) in split_fields(&result[..count]) {
+    for (tag, contents) in split_fields(result) {
         add_field(&mut fields, tag, contents);
     }
     fields
@@ -77,6 +84,30 @@ pub fn result_of(problem: &[u8]) -> Option<Vec<u8>> {
         CompleteAnswer::Written(count) => Some(result[..count].to_vec()),
         CompleteAnswer::Refused(_) => None,
     }
+}
+
+/// The result and the saved record that a call leaves, or its refusal; it must
+/// leave alone what it does not write, and save exactly with end 21.
+pub fn saving(
+    call: impl FnOnce(&mut [u8], &mut [u8]) -> SavingAnswer,
+) -> Result<(Vec<u8>, Vec<u8>), Refusal> {
+    let (mut result, mut saved) = (vec![FILL; MIN_RESULT], vec![FILL; MIN_SAVED]);
+    let (lengths, refusal) = match call(&mut result, &mut saved) {
+        SavingAnswer::Written(lengths) => (lengths, None),
+        SavingAnswer::Refused(refusal) => (Lengths::default(), Some(refusal)),
+    };
+    assert!(result[lengths.result..].iter().all(|b| *b == FILL));
+    assert!(saved[lengths.saved..].iter().all(|b| *b == FILL));
+    assert_eq!(lengths.saved > 0, lengths.result > 0 && result[3] == 21);
+    result.truncate(lengths.result);
+    saved.truncate(lengths.saved);
+    refusal.map_or(Ok((result, saved)), Err)
+}
+
+/// The saved record of complete_saving, none if it writes none.
+pub fn saved_record_of(problem: &[u8]) -> Option<Vec<u8>> {
+    let left = saving(|result, saved| kb_engine::complete_saving(problem, result, saved));
+    left.ok().map(|(_, saved)| saved).filter(|s| !s.is_empty())
 }
 
 /// Completes a theory.

@@ -57,7 +57,9 @@ fn one_rank() -> Checkpoint {
 /// Rules that another one will remove and compose, and nothing waits.
 fn arithmetic() -> Checkpoint {
     let symbols = Theory::new(ARITHMETIC);
-    let rules = symbols.clone().equations(&["+(x,s(y)) = s(+(x,y))", "p(s(x)) = x"]);
+    let rules = symbols
+        .clone()
+        .equations(&["+(x,s(y)) = s(+(x,y))", "p(s(x)) = x"]);
     let [first, second] = [0, 1].map(|i| rules.all_sides()[i].clone());
     Checkpoint {
         next: 6,

@@ -4,13 +4,17 @@
 use super::{with_units, Save};
 use crate::checkpoints::Checkpoint;
 use crate::generate::random::Random;
-use crate::generate::records::made::{renamed, rule, table, terms};
+use crate::generate::records::made::{order, renamed, rule, table, terms};
 use crate::generate::terms::Symbols;
 use crate::resumptions::Resumption;
+use kb_engine::order::Order;
 use kb_engine::{MAX_EQUATIONS, MAX_LOG, MAX_RULES, MAX_RULE_NUMBER, MAX_TOGETHER};
 
 /// Nodes of the sides that wait, at the most.
 const SIDES: [(usize, usize); 4] = [(4, 4), (6, 6), (9, 9), (25, 25)];
+
+/// One rule in so many stands whether it is from above to below or not.
+const UNORDERED: usize = 200;
 
 /// A state in the form.
 pub fn state(random: &mut Random, _: Save) -> Resumption {
@@ -30,13 +34,13 @@ pub fn checkpoint(random: &mut Random) -> Checkpoint {
     let symbols = table(random);
     let inputs = *random.pick(&[0, 1, 1, 2, 3, 4, MAX_EQUATIONS]);
     let rules = *random.pick(&[0, 0, 1, 1, 2, 2, 3, 4, 5, 8, MAX_RULES - 1, MAX_RULES]);
-    let room = MAX_TOGETHER - rules;
+    let rules = numbered(random, &symbols, rules);
+    let room = MAX_TOGETHER - rules.len();
     let waiting = match random.below(6) {
         0 => 0,
         1 => room,
         _ => random.between(1, room.min(4)),
     };
-    let rules = numbered(random, &symbols, rules);
     let next = next_number(random, &rules);
     let logged = log_length(random, next);
     Checkpoint {
@@ -50,15 +54,19 @@ pub fn checkpoint(random: &mut Random) -> Checkpoint {
     }
 }
 
-/// Rules with ascending numbers.
+/// Rules with ascending numbers, all but a few from above to below: at times
+/// fewer than asked for, where the symbols give none.
 fn numbered(random: &mut Random, symbols: &Symbols, count: usize) -> Vec<(u16, Vec<u8>)> {
     let mut number = 0;
-    let mut next = |random: &mut Random| {
-        number += *random.pick(&[1, 1, 1, 2, 5]);
+    let mut list = Vec::new();
+    for _ in 0..count {
         let (left, right) = rule(random, symbols);
-        (number, [left, right].concat())
-    };
-    (0..count).map(|_| next(random)).collect()
+        if order(symbols, &left, &right) == Order::LeftAbove || random.once_in(UNORDERED) {
+            number += *random.pick(&[1, 1, 1, 2, 5]);
+            list.push((number, [left, right].concat()));
+        }
+    }
+    list
 }
 
 /// Above the rules' numbers, at times far above.

@@ -107,7 +107,8 @@ fn is_variable(byte: &u8) -> bool {
     *byte >= VARIABLE_BASE
 }
 
-fn order(symbols: &Symbols, left: &[u8], right: &[u8]) -> Order {
+/// How two terms stand in the path order.
+pub fn order(symbols: &Symbols, left: &[u8], right: &[u8]) -> Order {
     match compare(&assemble(symbols, 0, &[[left, right].concat()])) {
         CompareAnswer::Compared(order) => order,
         CompareAnswer::Refused(refusal) => unreachable!("both are terms: {refusal:?}"),

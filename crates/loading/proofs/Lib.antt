@@ -1,0 +1,3 @@
+mod Singles
+mod Equations
+mod Whole

@@ -1,0 +1,4 @@
+mod Equations
+mod Putting
+mod Meaning
+pub mod Filling
