@@ -1,3 +1,4 @@
 pub mod Unpacked
 pub mod Delivering
 mod Deciding
+mod Resuming

@@ -4,6 +4,7 @@
 -- Read first: specs/Resume, completion/proofs/Ends (Next).
 use mathlib.Core.Path.{_≡_, refl, sym, ap, _∙_}
 use mathlib.Core.List.{List, [], _++_, append-assoc, append-nil}
+use mathlib.Core.Logic.{_⊎_, inl, inr, ⊎-elim}
 use Prim.Native.Nat.{ℕ, zero, suc}
 use Rattle.rewriting.specs.Rewrite.{End, complete, neither-above, spent, too-large, rules-full, log-full, Paid, done, stop}
 use Rattle.problem.specs.Problem.{Theory}
@@ -19,18 +20,18 @@ pub saved-is : (T : Theory) (f : Finished) → f .end ≡ spent → leaves T f .
 unfolding leaves saved-at
 saved-is T f e = rw e refl
 
-none-at : (e : End) (c : Checkpoint) → (e ≡ spent → ⊥) → saved-at e c ≡ []
+pub saved-or-none : (e : End) (c : Checkpoint) → (e ≡ spent) ⊎ (saved-at e c ≡ [])
 unfolding saved-at
-none-at complete c n = refl
-none-at neither-above c n = refl
-none-at spent c n = absurd (n refl)
-none-at too-large c n = refl
-none-at rules-full c n = refl
-none-at log-full c n = refl
+saved-or-none complete c = inr refl
+saved-or-none neither-above c = inr refl
+saved-or-none spent c = inl refl
+saved-or-none too-large c = inr refl
+saved-or-none rules-full c = inr refl
+saved-or-none log-full c = inr refl
 
 pub nothing-saved : (T : Theory) (f : Finished) → (f .end ≡ spent → ⊥) → leaves T f .saved ≡ []
 unfolding leaves
-nothing-saved T f n = none-at (f .end) (record { theory = T; state = f .state }) n
+nothing-saved T f n = ⊎-elim (λ q. absurd (n q)) (λ q. q) (saved-or-none (f .end) (record { theory = T; state = f .state }))
 
 -- entries behind a log
 pub record Behind (before after : List Entry) : Type 0 where
@@ -60,9 +61,13 @@ turns-behind (suc n) T budget s left = go (turn T s left) refl (λ s′ left′.
 
 pub resumed-behind : (c : Checkpoint) (budget : ℕ) → Behind (c .state .log) (resumed c budget .state .log)
 unfolding resumed run-from
-resumed-behind c budget = turns-behind (suc budget) (c .theory) budget (c .state) budget
+resumed-behind c budget = turns-behind _ _ _ _ _
 
 -- with no unit: 21 in the saved state, and no unit paid
+turns-unpaid : (n : ℕ) (T : Theory) (s : State) → turns (suc n) T 0 s 0 ≡ record { end = spent; units = 0; state = s }
+unfolding turns
+turns-unpaid n T s = rw (turn-unpaid T s, turns) refl
+
 pub resumed-unpaid : (c : Checkpoint) → resumed c 0 ≡ record { end = spent; units = 0; state = c .state }
-unfolding resumed run-from turns
-resumed-unpaid c = rw (turn-unpaid (c .theory) (c .state), turns) refl
+unfolding resumed run-from
+resumed-unpaid c = turns-unpaid 0 (c .theory) (c .state)

@@ -3,18 +3,19 @@
 -- Read first: specs/Wrote, proofs/Saved, proofs/NoBudget, completion/proofs/Promised (Kept).
 use mathlib.Core.Path.{_≡_, refl, sym, ap, subst, _∙_}
 use mathlib.Core.List.{List, []}
+use mathlib.Core.Logic.{⊎-elim}
 use Prim.Native.Nat.{ℕ, _≤_, _<_}
 use native.Mathlib.Omega.{arith}
 use lib.ListN.{length}
 use Rattle.limits.specs.Limits.{longest-saved}
-use Rattle.rewriting.specs.Rewrite.{End, complete, neither-above, spent, too-large, rules-full, log-full}
+use Rattle.rewriting.specs.Rewrite.{End, spent}
 use Rattle.problem.specs.Problem.{ok, Theory, Problem, theory, parse}
 use Rattle.completion.specs.Turn.{Finished, run-from, run}
 use Rattle.completion.proofs.Promised.{Kept, stopped-kept}
 use Rattle.checkpoint.specs.Checkpoint.{Checkpoint}
 use Rattle.checkpoint.specs.Resume.{Left, saved-at, leaves, resumed, read-resumption}
 use Rattle.checkpoint.specs.Wrote.{EngineRan, begun, again, EngineSaved, EngineWrote, Delivered}
-use Rattle.checkpoint.proofs.Again.{saved-is}
+use Rattle.checkpoint.proofs.Again.{saved-is, saved-or-none}
 use Rattle.checkpoint.proofs.RoundTrip.{checkpoint-length}
 use Rattle.checkpoint.proofs.Saved.{Known, known, known-writable, resumed-from}
 use Rattle.checkpoint.proofs.NoBudget.{ran-no-budget}
@@ -34,13 +35,7 @@ engine-saved-length T f bytes w =
 
 -- where something is saved, the budget was spent
 saved-spent : (e : End) (c : Checkpoint) → 0 < length (saved-at e c) → e ≡ spent
-unfolding saved-at
-saved-spent complete c h = absurd (omega arith)
-saved-spent neither-above c h = absurd (omega arith)
-saved-spent spent c h = refl
-saved-spent too-large c h = absurd (omega arith)
-saved-spent rules-full c h = absurd (omega arith)
-saved-spent log-full c h = absurd (omega arith)
+saved-spent e c h = ⊎-elim (λ q. q) (λ none. absurd (omega (arith, ap length none))) (saved-or-none e c)
 
 -- The theorem: "For records that the engine wrote the delivery theorem holds".
 pub delivered : (T : Theory) (f : Finished) → EngineRan T f → Delivered T f (leaves T f)

@@ -3,35 +3,33 @@
 -- Read first: specs/Checkpoint, items/proofs/Back (placed, pair-back).
 use mathlib.Core.Path.{_≡_, refl, sym, ap, _∙_}
 use mathlib.Core.Bool.{Bool, true, false, _&&_, _||_}
-use mathlib.Core.List.{List, [], _∷_, _++_, flatMap, append-nil}
+use mathlib.Core.List.{List, [], _∷_, _++_, flatMap}
 use Prim.Native.Nat.{ℕ, suc, _+_, _%_, _≤_, _<_}
 use native.Mathlib.Omega.{arith}
 use lib.Dec.{eqb, ltb, leb}
-use lib.ListN.{length, length-append}
+use lib.ListN.{length}
 use lib.Seq.{drop-at}
 use borrow.Author.Tests.{le-ltb, le-leb, eqb-false}
-use Rattle.limits.specs.Limits.{most-symbols, most-nodes, most-number, most-next, byte-values, two-byte-values}
+use Rattle.limits.specs.Limits.{most-symbols, most-number, most-next, byte-values, two-byte-values}
 use Rattle.terms.specs.Base.{if_then_else_, number-bytes}
-use Rattle.terms.specs.Term.{Term, Pair, size, term-bytes}
-use Rattle.terms.proofs.Bytes.{length-bytes}
+use Rattle.terms.specs.Term.{Pair}
 use Rattle.terms.proofs.Numerals.{number-back}
 use Rattle.terms.proofs.Shape.{zero≢one}
 use Rattle.reading.specs.Answers.{symbols-of}
 use Rattle.reading.proofs.Reading.{bind-ok}
 use Rattle.reading.proofs.Tables.{read-is}
-use Rattle.problem.specs.Problem.{ok, _>>=_, refuse-if, ReadField, Symbol, symbol-field, read-side, read-pair}
-use Rattle.problem.specs.Over.{Over}
-use Rattle.problem.proofs.Reading.{from-bind, ok-injective, passed, read-back}
+use Rattle.problem.specs.Problem.{ok, ReadField, Symbol, symbol-field}
+use Rattle.problem.proofs.Reading.{from-bind, ok-injective, passed}
 use Rattle.completion.specs.Turn.{Origin, waiting-input, removed-rule, scanned-input, overlapping, Candidate, Entry}
 use Rattle.completion.specs.Calls.{pair-bytes, origin-bytes, entry-field}
 use Rattle.completion.specs.Keeps.{PairKeeps}
-use Rattle.completion.proofs.Held.{HeldTo, HeldPair}
+use Rattle.completion.proofs.Held.{HeldPair}
 use Rattle.completion.proofs.Over.{OverPair}
 use Rattle.completion.proofs.ReadBack.{two-back}
 use Rattle.completion.proofs.Widths.{origin-bytes-length, entry-length}
 use Rattle.fields.specs.Puts.{tagged}
 use Rattle.items.proofs.OneField.{demand-kept}
-use Rattle.items.proofs.Back.{placed, read-number-back, pair-back}
+use Rattle.items.proofs.Back.{placed, read-number-back, sides-back, pair-back}
 use Rattle.checkpoint.specs.Checkpoint.{symbol-bytes, equation-field-of, waiting-field, read-equation, read-next, origin-with}
 use Rattle.checkpoint.specs.Checkpoint.{read-origin, read-waiting, read-entry, read-put-back, few-entries}
 
@@ -89,27 +87,11 @@ unfolding few-entries
 entries-enough made entries h = le-ltb (suc entries) (suc made) (omega arith)
 
 module _ (Σ : List Symbol) (few : length Σ ≤ most-symbols) where
-  -- two sides, renamed or not
-  side-back : (t : Term) (at : ℕ) (rest : List ℕ) → Over Σ t → HeldTo (length Σ) 16 t →
-      read-side Σ at (term-bytes t ++ rest) ≡ ok (record { part = t; end = at + size t; rest = rest })
-  unfolding read-side _>>=_ refuse-if
-  side-back t at rest o h =
-      let l = length-append (term-bytes t) rest in
-      rw (read-back Σ few t (suc (length (term-bytes t ++ rest))) at (at + size t) rest o (h .made) (omega (arith, length-bytes t)) refl)
-      (rw (le-ltb most-nodes (size t) (h .small)) refl)
-
-  sides-back : (e : Pair) (at : ℕ) → HeldPair (length Σ) 16 e → OverPair Σ e → read-pair Σ at (pair-bytes e) ≡ ok e
-  unfolding read-pair pair-bytes _>>=_ refuse-if
-  sides-back e at h o =
-      let b : term-bytes (e .right) ≡ term-bytes (e .right) ++ [] = sym (append-nil (term-bytes (e .right))) in
-      rw (side-back (e .left) at (term-bytes (e .right)) (o .0) (h .left))
-      (rw (ap (read-side Σ (at + size (e .left))) b ∙ side-back (e .right) (at + size (e .left)) [] (o .1) (h .right)) refl)
-
   -- 03
   pub equation-back : (e : Pair) → HeldPair (length Σ) 16 e × OverPair Σ e → (at : ℕ) (rest : List ℕ) →
       read-equation Σ (placed at (equation-field-of e) rest) ≡ ok e
   unfolding read-equation equation-field-of
-  equation-back e h at rest = sides-back e (at + 3) (h .0) (h .1)
+  equation-back e h at rest = sides-back Σ few e (at + 3) (h .0) (h .1)
 
   -- 21
   pub waiting-back : (c : Candidate) → OriginWide (c .origin) → PairKeeps Σ (c .sides) → (at : ℕ) (rest : List ℕ) →
@@ -131,15 +113,19 @@ middle-of true b c h = absurd (zero≢one (cc))
 middle-of false true c h = absurd (zero≢one (cc))
 middle-of false false c h = refl
 
--- so symbols that were read are read from their bytes
-pub symbols-back : (f : ReadField) (Σ : List Symbol) → symbol-field f ≡ ok Σ → (tag end : ℕ) (rest : List ℕ) →
-    symbol-field (record { first = f .first; tag = tag; contents = symbol-bytes Σ; end = end; rest = rest }) ≡ ok Σ
+-- the symbols are read from their bytes, at the record's front
+abbrev pub SymbolsRead : List Symbol → Type 0
+SymbolsRead Σ = (end : ℕ) (rest : List ℕ) →
+    symbol-field (record { first = 0; tag = 0x01; contents = symbol-bytes Σ; end = end; rest = rest }) ≡ ok Σ
+
+-- those that were read there are
+pub symbols-back : (f : ReadField) (Σ : List Symbol) → f .first ≡ 0 → symbol-field f ≡ ok Σ → SymbolsRead Σ
 unfolding symbol-field
-symbols-back f Σ e tag end rest =
+symbols-back f Σ z e end rest =
     let n : ℕ = length (f .contents) in
     let q : symbol-bytes Σ ≡ f .contents =
     from-bind _ _ Σ e λ u t h.
     from-bind _ _ Σ (sym (read-is (f .first + 3) (f .contents)) ∙ h) λ _ _ h.
     ap symbol-bytes (sym (ok-injective h))
     ∙ table-bytes (f .contents) (eqb-false (n % 2) 1 (middle-of (eqb n 0) (eqb (n % 2) 1) (ltb 32 n) (passed _ 5 (f .first) u t))) in
-    rw q e
+    rw q (rw z at e)

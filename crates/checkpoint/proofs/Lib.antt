@@ -6,4 +6,7 @@ pub mod NoBudget
 pub mod Finishes
 pub mod Exists
 pub mod Delivers
+pub mod ReadItems
+pub mod ReadState
+pub mod Refusals
 pub mod Instances

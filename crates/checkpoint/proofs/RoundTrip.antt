@@ -1,7 +1,7 @@
 -- A saved record that keeps the limits is read back as what was saved, and has at most 17,781 bytes. Assumes nothing.
 -- Read first: specs/Checkpoint, proofs/Items, items/proofs/Back (Backs, there-back, rules-at-back).
 use mathlib.Core.Path.{_≡_, refl, ap, _∙_}
-use mathlib.Core.Bool.{Bool, true, false}
+use mathlib.Core.Bool.{Bool, false}
 use mathlib.Core.List.{List, [], _∷_, _++_, map, flatMap}
 use mathlib.Core.Option.{Option, none, some}
 use Prim.Native.Nat.{ℕ, suc, _+_, _-_, _*_, _≤_, _<_}
@@ -26,19 +26,15 @@ use Rattle.completion.specs.Keeps.{PairKeeps, RulesKeep}
 use Rattle.completion.proofs.Held.{HeldPair}
 use Rattle.completion.proofs.Over.{OverPair}
 use Rattle.completion.proofs.Widths.{flat, flat-cons, pair-bytes-length, rule-length, origin-bytes-length, entry-length}
-use Rattle.items.specs.Fields.{one-field, fields-there, number-before, rules-of, read-rule-at}
+use Rattle.items.specs.Fields.{one-field, fields-there, number-before, read-rule-at}
 use Rattle.items.specs.Readers.{rules-at}
 use Rattle.items.proofs.Walking.{OtherTag}
 use Rattle.items.proofs.Back.{placed, one-back, end-of, Backs, none-back, one-more, there-back, rules-at-back}
-use Rattle.items.proofs.Slotted.{length-rules-at}
+use Rattle.items.proofs.Slotted.{length-rules-at, rules-of-at}
 use Rattle.checkpoint.specs.Checkpoint.{Checkpoint, symbol-bytes, equation-field-of, waiting-field, checkpoint-fields, checkpoint-bytes}
 use Rattle.checkpoint.specs.Checkpoint.{read-equation, read-next, read-waiting, read-entry, read-put-back, read-checkpoint}
-use Rattle.checkpoint.proofs.Items.{OriginWide, EntryWide, entry-back, next-back, put-back-back, entries-enough, equation-back, waiting-back}
-
--- the symbols are read from their bytes, at the record's front
-abbrev pub SymbolsRead : List Symbol → Type 0
-SymbolsRead Σ = (end : ℕ) (rest : List ℕ) →
-    symbol-field (record { first = 0; tag = 0x01; contents = symbol-bytes Σ; end = end; rest = rest }) ≡ ok Σ
+use Rattle.checkpoint.proofs.Items.{OriginWide, EntryWide, SymbolsRead, entry-back, next-back, put-back-back, entries-enough, equation-back}
+use Rattle.checkpoint.proofs.Items.{waiting-back}
 
 -- a waiting equation that can be saved
 pub record WaitingKeeps (Σ : List Symbol) (c : Candidate) : Type 0 where
@@ -60,12 +56,6 @@ pub record Writable (c : Checkpoint) : Type 0 where
   pub log-few : length (c .state .log) ≤ most-entries
   pub log-fit : Every EntryWide (c .state .log)
   pub put-back-few : c .state .put-back ≤ length (c .state .waiting)
-
--- rules without their places
-pub rules-of-at : (at : ℕ) (rules : List Rule) → rules-of (rules-at at rules) ≡ rules
-unfolding rules-at
-rules-of-at at [] = refl
-rules-of-at at (r ∷ rules) = ap (λ l. r ∷ l) (rules-of-at _ rules)
 
 -- Items of one tag that do not ask for the one before them.
 module _ {A : Type 0} (tag : ℕ) (read : ReadField → Reading A) (field : A → Field) (Q : A → Type 0) (has-tag : (a : A) → field a .tag ≡ tag)
@@ -217,13 +207,14 @@ module _ (c : Checkpoint) (w : Writable c) where
   last-is : suc (s .made) - 1 ≡ s .made
   last-is = omega arith
 
-  back-12 : (at : ℕ) → fields-there wrong-saved 0x12 (read-rule-at Σ true (suc (s .made) - 1)) most-rules none at from12 ≡ ok
+  -- whether they are to go down or not
+  back-12 : (ordered : Bool) (at : ℕ) → fields-there wrong-saved 0x12 (read-rule-at Σ ordered (suc (s .made) - 1)) most-rules none at from12 ≡ ok
       (record { part = rules-at at (s .rules); end = end-of at (map rule-field (s .rules)); rest = from21 })
   unfolding field-bytes waiting-field entry-field number-before
-  back-12 at =
+  back-12 ordered at =
       rw last-is
-      (there-back wrong-saved 0x12 (read-rule-at Σ true (s .made))
-      (rules-at-back Σ (w .few) true (s .made) at none (s .rules) (w .rules-keep) (w .rules-old))
+      (there-back wrong-saved 0x12 (read-rule-at Σ ordered (s .made))
+      (rules-at-back Σ (w .few) ordered (s .made) at none (s .rules) (w .rules-keep) (w .rules-old))
       most-rules (omega (arith, length-rules-at at (s .rules), w .rules-few)) from21
       (other-group 0x12 waiting-field (s .waiting) from13 (λ a. refl) (other-group 0x12 entry-field (s .log) from22 (λ a. refl) refl)))
 
@@ -257,7 +248,7 @@ module _ (c : Checkpoint) (w : Writable c) where
       ∙ bind-ok _ (back-03 _)
       ∙ bind-ok _ (one-back wrong-saved read-next _ f20 from12 (suc (s .made)) (omega (arith, length-number-bytes 2 (suc (s .made))))
       (next-back (s .made) made-few _ _))
-      ∙ bind-ok _ (back-12 _)
+      ∙ bind-ok _ (back-12 _ _)
       ∙ bind-ok _ (back-21 _ _)
       ∙ bind-ok _ (back-13 _)
       ∙ bind-ok _ (not-refused _ _ _ (entries-enough (s .made) (length (s .log)) (w .made-few)))

@@ -12,9 +12,7 @@ use lib.Dec.{ltb}
 use lib.ListN.{length}
 use Rattle.limits.specs.Limits.{most-budget}
 use Rattle.terms.proofs.Every.{every-map, every-both}
-use Rattle.terms.proofs.Shape.{zero≢one}
-use Rattle.rewriting.specs.Rewrite.{End, complete, neither-above, spent, too-large, rules-full, log-full}
-use Rattle.problem.specs.Problem.{ok, refused, _>>=_, refuse-if, due, ReadField, symbol-field, Theory, Problem, theory, parse}
+use Rattle.problem.specs.Problem.{ok, refused, _>>=_, refuse-if, due, ReadField, Theory, Problem, theory, parse}
 use Rattle.reading.specs.Stops.{wrong-saved, large-budget}
 use Rattle.reading.specs.Answers.{field-at}
 use Rattle.reading.proofs.Reading.{bind-ok}
@@ -33,27 +31,25 @@ use Rattle.completion.proofs.Renamed.{reachable-renamed}
 use Rattle.completion.proofs.Keeping.{run-keeps}
 use Rattle.completion.proofs.Accepts.{accepts, budget-accepted}
 use Rattle.items.specs.Fields.{or-refuse, one-field}
-use Rattle.checkpoint.specs.Checkpoint.{Checkpoint, checkpoint-bytes, symbol-bytes, read-checkpoint}
+use Rattle.checkpoint.specs.Checkpoint.{Checkpoint, checkpoint-bytes, read-checkpoint}
 use Rattle.checkpoint.specs.Resume.{leaves, resumed, read-resumption}
 use Rattle.checkpoint.specs.Wrote.{EngineRan, begun, again, EngineSaved}
-use Rattle.checkpoint.proofs.Again.{saved-is, nothing-saved}
-use Rattle.checkpoint.proofs.Items.{OriginWide, symbols-back}
-use Rattle.checkpoint.proofs.RoundTrip.{SymbolsRead, Writable, checkpoint-back}
+use Rattle.checkpoint.proofs.Again.{saved-is, saved-or-none}
+use Rattle.checkpoint.proofs.Items.{OriginWide, SymbolsRead, symbols-back}
+use Rattle.checkpoint.proofs.RoundTrip.{Writable, checkpoint-back}
 
 -- The symbols of a problem that was read, from their bytes.
 pub problem-symbols : (bytes : List ℕ) (P : Problem) → parse bytes ≡ ok P → SymbolsRead (P .symbols)
 unfolding parse
-problem-symbols bytes P e end rest =
+problem-symbols bytes P e =
     from-bind _ _ P e λ _ _ e.
     from-bind _ _ P e λ f d e.
     from-bind _ _ P e λ Σ a e.
     from-bind _ _ P e λ b _ e.
     from-bind _ _ P e λ budget _ e.
     from-bind _ _ P e λ es _ e.
-    let q : Σ ≡ P .symbols = ap (λ (p : Problem). p .symbols) (ok-injective e) in
     let first : f .first ≡ 0 = unfold field-at in ap (λ (g : ReadField). g .first) (due-at 0x01 bytes 0 f d .is) in
-    rw (← q) (subst (λ n. symbol-field (record { first = n; tag = 0x01; contents = symbol-bytes Σ; end = end; rest = rest }) ≡ ok Σ) first
-    (symbols-back f Σ a 0x01 end rest))
+    subst SymbolsRead (ap (λ (p : Problem). p .symbols) (ok-injective e)) (symbols-back f Σ first a)
 
 -- numbers of a run fit their bytes
 origin-wide : (made : ℕ) → made ≤ 512 → (o : Origin) → OriginFits made o → OriginWide o
@@ -126,21 +122,11 @@ read-budget bytes budget c e =
 -- Resuming from what such a run left goes on in its state.
 resumes : (T : Theory) (f : Finished) (c : Checkpoint) (budget : ℕ) → Known T f → read-resumption (leaves T f .saved) budget ≡ ok c →
     c ≡ record { theory = T; state = f .state }
-resumes T f c budget k e = go (f .end) refl
-  where
-    read : read-checkpoint (leaves T f .saved) ≡ ok c
-    read = read-budget _ budget c e .0
-
-    other : (f .end ≡ spent → ⊥) → c ≡ record { theory = T; state = f .state }
-    other n = absurd (nothing-read c (ap read-checkpoint (sym (nothing-saved T f n)) ∙ read))
-
-    go : (end : End) → f .end ≡ end → c ≡ record { theory = T; state = f .state }
-    go spent q = ok-injective (sym read ∙ ap read-checkpoint (saved-is T f q) ∙ known-back T f k)
-    go complete q = other (λ r. absurd (zero≢one (cc)))
-    go neither-above q = other (λ r. absurd (zero≢one (cc)))
-    go too-large q = other (λ r. absurd (zero≢one (cc)))
-    go rules-full q = other (λ r. absurd (zero≢one (cc)))
-    go log-full q = other (λ r. absurd (zero≢one (cc)))
+unfolding leaves
+resumes T f c budget k e =
+    let read : read-checkpoint (leaves T f .saved) ≡ ok c = read-budget _ budget c e .0 in
+    ⊎-elim (λ q. ok-injective (sym read ∙ ap read-checkpoint (saved-is T f q) ∙ known-back T f k))
+    (λ none. absurd (nothing-read c (ap read-checkpoint (sym none) ∙ read))) (saved-or-none (f .end) (record { theory = T; state = f .state }))
 
 known-again : (T : Theory) (f g : Finished) (c : Checkpoint) (budget : ℕ) → Known T f → read-resumption (leaves T f .saved) budget ≡ ok c →
     g ≡ resumed c budget → Known T g

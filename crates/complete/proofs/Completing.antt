@@ -1,27 +1,23 @@
--- The call complete from the promises of its parts: the run's result, an accepted problem, and the three answers. Assumes nothing.
--- Read first: specs/Answer, completion/specs/Calls (complete-call, after-complete), run/specs/Runs (Runs), state/specs/Run (Leaves), proofs/Delivering.
-use mathlib.Core.Path.{_≡_, refl, sym, ap, _∙_, subst}
+-- The call complete from the promises of its parts: the run's result of an accepted problem, and the three answers. Assumes nothing.
+-- Read first: specs/Answer, completion/specs/Calls (complete-call, after-complete), run/specs/Runs (Runs), run/proofs/Begun, proofs/Delivering.
+use mathlib.Core.Path.{_≡_, refl, sym, ap, _∙_}
 use mathlib.Core.List.{List}
-use Prim.Native.Nat.{ℕ, _-_, _<_, _≤_}
-use native.Mathlib.Omega.{arith}
-use lib.ListN.{length, take, drop, length-map}
+use Prim.Native.Nat.{ℕ, _<_, _≤_}
+use lib.ListN.{length}
 use borrow.Author.Tests.{lt-ltb}
-use Rattle.limits.specs.Limits.{most-equations, most-budget, least-buffer}
-use Rattle.order.specs.Walk.{rank}
-use Rattle.problem.specs.Problem.{Reading, ok, refused, _>>=_, refuse-if, rank-of, Equation, Problem, theory, parse}
-use Rattle.problem.specs.Parser.{ParsedAt}
-use Rattle.completion.specs.Turn.{initial, run-from, run}
+use Rattle.limits.specs.Limits.{least-buffer}
+use Rattle.problem.specs.Problem.{Reading, ok, refused, _>>=_, refuse-if, Problem, parse}
+use Rattle.completion.specs.Turn.{run}
 use Rattle.completion.specs.Calls.{result-bytes, enough, complete-call, counted, after-complete, Writes}
 use Rattle.report.specs.Report.{Reports}
-use Rattle.completion.proofs.Accepts.{accepts, budget-accepted}
-use Rattle.completion.proofs.Ranks.{ranks-are}
 use Rattle.completion.proofs.Writing.{complete-is}
 use Rattle.slots.specs.declared.Pairs.{Pairs}
+use Rattle.items.specs.Readers.{part}
 use Rattle.inputs.specs.Inputs.{InputsRead}
-use Rattle.inputs.proofs.Fields.{problem-fields}
-use Rattle.state.specs.Run.{Leaves}
 use Rattle.run.specs.Runs.{Runs}
 use Rattle.run.specs.declared.Ran.{Ran}
+use Rattle.run.proofs.Begun.{begun-leaves}
+pub use Rattle.run.proofs.Begun.{accepted-needs}
 use Rattle.complete.specs.Answer.{completed-told, Delivery, WritesProblem}
 use Rattle.complete.specs.declared.Completed.{Completed}
 use Rattle.complete.specs.declared.Completed.the-variants.{Written, Refused}
@@ -29,33 +25,9 @@ use Rattle.complete.proofs.Delivering.{delivery}
 
 -- `accepted`
 pub accepted-run : (l : List ℕ) (e b at n : ℕ) (inputs : Pairs) (before after : List ℕ) (o : Ran) (r : ℕ) →
-    InputsRead (take (e - 3) (drop 3 l)) l at n inputs → Runs (take (e - 3) (drop 3 l)) inputs b o →
-    Reports (o .state) (o .end) (o .paid) before after r → WritesProblem l e b at n before after r
-unfolding run
-accepted-run l e b at n inputs before after o r I R W P A =
-    let tab : List ℕ = take (e - 3) (drop 3 l) in
-    let ranks : rank-of (P .symbols) ≡ rank tab = ap rank-of (A .symbols-are) ∙ ranks-are tab (A .table .table) in
-    let f = problem-fields l e b at n P A in
-    W .writes tab (run P)
-    (subst (λ k. Leaves tab (run-from (theory P) (initial (theory P)) k) (o .state) (o .end) (o .paid)) (sym (A .budget-is))
-    (R .answer (theory P) (record { ranks = ranks; held = I .held (theory P .equations) (f .0) (f .1) })))
-
-pub record Needs (l : List ℕ) (e b n : ℕ) : Type 0 where
-  pub low : 3 ≤ e
-  pub within : e ≤ length l
-  pub small : length l ≤ 65536
-  pub few : n ≤ most-equations
-  pub budget : b ≤ most-budget
-
-pub accepted-needs : (l : List ℕ) (e b at n : ℕ) → ((P : Problem) × ParsedAt l e b at n P) → Needs l e b n
-accepted-needs l e b at n (P, A) =
-    record {
-      low = omega (arith, A .table .low);
-      within = A .table .within;
-      small = omega (arith, A .small);
-      few = omega (arith, A .number, accepts l P (A .is) .equations-few, length-map (P .equations) (λ (e : Equation). e .sides));
-      budget = omega (arith, A .budget-is, budget-accepted l P (A .is));
-    }
+    InputsRead (part l 3 e) l at n inputs → Runs (part l 3 e) inputs b o → Reports (o .state) (o .end) (o .paid) before after r →
+    WritesProblem l e b at n before after r
+accepted-run l e b at n inputs before after o r I R W P A = W .writes (part l 3 e) (run P) (begun-leaves l e b at n inputs o I R P A)
 
 -- `complete`
 pub record Answered (problem before after : List ℕ) (r : Completed) : Type 0 where

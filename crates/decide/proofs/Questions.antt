@@ -2,7 +2,7 @@
 -- Read first: specs/Asking (ask-call, Asks), record/specs/Reader (IsRecord), only_equation/specs/Places (SidesAt).
 use mathlib.Core.Path.{_≡_, refl, sym, _∙_, ap}
 use mathlib.Core.Bool.{not}
-use mathlib.Core.List.{List, [], _∷_}
+use mathlib.Core.List.{List}
 use Prim.Native.Nat.{ℕ, zero, suc, _+_, _-_, _≤_}
 use native.Mathlib.Omega.{arith}
 use lib.Dec.{eqb}
@@ -23,19 +23,13 @@ use Rattle.slots.specs.Slots.{Sides}
 use Rattle.only_equation.specs.Places.{table, left-side, right-side, SidesAt}
 use Rattle.items.specs.Fields.{rules-of}
 use Rattle.items.specs.Readers.{rules-at, InSlots}
-use Rattle.items.proofs.Slotted.{slots-store}
+use Rattle.items.proofs.Slotted.{rules-of-at, slots-store}
 use Rattle.record.specs.Record.{Record, read-record}
 use Rattle.decide.specs.Decide.{all-above, Question, read-question, Answer, answer, decide-call}
 use Rattle.decide.specs.Answers.{decided-told}
 use Rattle.decide.specs.Asking.{above-told, FirstNotAbove, FormsCompared, ask-call, Asks}
 use Rattle.decide.specs.declared.Decided.{Decided}
 use Rattle.decide.specs.declared.Decided.the-variants.{Refused}
-
--- rules without their places
-rules-back : (at : ℕ) (rs : List Rule) → rules-of (rules-at at rs) ≡ rs
-unfolding rules-at
-rules-back at [] = refl
-rules-back at (r ∷ rs) = ap (λ l. r ∷ l) (rules-back _ rs)
 
 -- `ask`
 module _ (tab kept : List ℕ) (budget : ℕ) where
@@ -54,7 +48,7 @@ module _ (tab kept : List ℕ) (budget : ℕ) where
       behind : (e : Pair) → ask-call (symbols-of tab) e budget kept ≡
           (all-above (symbols-of tab) (rules-at 11 rs) >>= λ _. ok (answer (normalise-pair rs e budget)))
       unfolding ask-call _>>=_ refuse-if
-      behind e = bind-ok _ h ∙ rw (eq-eqb end 0 z, rules-back 11 rs) refl
+      behind e = bind-ok _ h ∙ rw (eq-eqb end 0 z, rules-of-at 11 rs) refl
 
       pub rule-refused : {slots : List ℕ} {count : ℕ} → InSlots tab slots count rs → (left right : List ℕ) (p : ℕ) → (p ≡ 0 → ⊥) →
           FirstNotAbove tab slots count p → Asks tab left right budget kept (Refused 15 p)

@@ -141,9 +141,9 @@ fn ask(table: &[u8], left: &[u8], right: &[u8], budget: u32, kept: &[u8]) -> Dec
 }
 
 // Whether the two sides of the problem's one equation are the same by the rules of a kept result. For every input the answer is the definition's.
-// Of every record that passes, 'same' says that both sides have one last term by its rules, and 'different' that they have two. Of a record that
-// complete wrote with end 0 for a problem with the same symbol field, 'same' says that its equations lead from one side to the other, and 'different'
-// that they do not. No record that complete wrote for the same symbol field is refused with 13 or 15.
+// Of every record that passes, 'same' says that both sides have one last term by its rules, and 'different' that they have two. Of a record that the
+// engine wrote with end 0 for a problem with the same symbol field, 'same' says that its equations lead from one side to the other, and 'different'
+// that they do not. No record that the engine wrote for the same symbol field is refused with 13 or 15.
 pub fn decide(problem: &[u8], kept: &[u8]) -> Decided
     ensures answer { λ r. ⌜ decided-told r ≡ decide-call (now (problem .entry)) (now (kept .entry)) ⌝ }
     ensures rules { λ r. ⌜ AboutRules (now (problem .entry)) (now (kept .entry)) (decided-told r) ⌝ }

@@ -25,6 +25,7 @@ use Rattle.problem.specs.Over.{Over}
 use Rattle.problem.proofs.Reading.{read-back}
 use Rattle.completion.specs.Calls.{pair-bytes, rule-field, origin-bytes, entry-field}
 use Rattle.completion.specs.Keeps.{PairKeeps, RuleKeeps, RulesKeep}
+use Rattle.completion.proofs.Over.{OverPair}
 use Rattle.completion.proofs.Held.{HeldTo, HeldPair, keeps-held}
 use Rattle.order.specs.Order.{above}
 use Rattle.rewriting.specs.Overlap.{Rule}
@@ -102,17 +103,17 @@ module _ (Σ : List Symbol) (few : length Σ ≤ most-symbols) where
       rw (read-back Σ few t (suc (length (term-bytes t ++ rest))) at (at + size t) rest o (h .made) (omega (arith, length-bytes t)) refl)
       (rw (le-ltb most-nodes (size t) (h .small)) refl)
 
-  sides-back : (e : Pair) (at : ℕ) → PairKeeps Σ e → read-pair Σ at (pair-bytes e) ≡ ok e
+  -- renamed or not
+  pub sides-back : (e : Pair) (at : ℕ) → HeldPair (length Σ) 16 e → OverPair Σ e → read-pair Σ at (pair-bytes e) ≡ ok e
   unfolding read-pair pair-bytes _>>=_ refuse-if
-  sides-back e at k =
-      let h : HeldPair (length Σ) 16 e = keeps-held Σ e k in
+  sides-back e at h o =
       let b : term-bytes (e .right) ≡ term-bytes (e .right) ++ [] = sym (append-nil (term-bytes (e .right))) in
-      rw (side-back (e .left) at (term-bytes (e .right)) (k .left-over) (h .left))
-      (rw (ap (read-side Σ (at + size (e .left))) b ∙ side-back (e .right) (at + size (e .left)) [] (k .right-over) (h .right)) refl)
+      rw (side-back (e .left) at (term-bytes (e .right)) (o .0) (h .left))
+      (rw (ap (read-side Σ (at + size (e .left))) b ∙ side-back (e .right) (at + size (e .left)) [] (o .1) (h .right)) refl)
 
   pub pair-back : (e : Pair) (at : ℕ) → PairKeeps Σ e → renamed-pair Σ at (pair-bytes e) ≡ ok e
   unfolding renamed-pair _>>=_
-  pair-back e at k = rw (sides-back e at k) (rw (demand-true _ (renamed-dec e .1 (k .unchanged))) refl)
+  pair-back e at k = rw (sides-back e at (keeps-held Σ e k) (k .left-over, k .right-over)) (rw (demand-true _ (renamed-dec e .1 (k .unchanged))) refl)
 
 -- Field 12: rules with numbers of at most `most`.
 module _ (Σ : List Symbol) (few : length Σ ≤ most-symbols) (ordered : Bool) (most : ℕ) where

@@ -15,7 +15,7 @@ use Rattle.rewriting.specs.Overlap.{Rule, sides-of}
 use Rattle.slots.specs.Slots.{slot-width, numbered-bytes, Sides, Marked, MarkedAt, Stored, Holds, PutMark, PutSides}
 use Rattle.slots.proofs.Listing.{all-none, stored-of, holds-next}
 use Rattle.slots.proofs.Layouts.{layout-put, layout-more}
-use Rattle.items.specs.Fields.{read-rule, RuleAt, number-before, read-rule-at}
+use Rattle.items.specs.Fields.{read-rule, RuleAt, rules-of, number-before, read-rule-at}
 use Rattle.items.specs.Written.{row}
 use Rattle.items.specs.Readers.{part, OneAt, OneBad, There, ThereBad, RuleIs, HoldsPair, rules-at, InSlots}
 use Rattle.items.proofs.OneField.{more-bad, more-read}
@@ -69,6 +69,12 @@ pub length-rules-at : (at : ℕ) (rules : List Rule) → length (rules-at at rul
 unfolding rules-at
 length-rules-at at [] = refl
 length-rules-at at (r ∷ rules) = ap suc (length-rules-at (behind-rule at r) rules)
+
+-- rules without their places
+pub rules-of-at : (at : ℕ) (rules : List Rule) → rules-of (rules-at at rules) ≡ rules
+unfolding rules-at
+rules-of-at at [] = refl
+rules-of-at at (r ∷ rules) = ap (λ l. r ∷ l) (rules-of-at (behind-rule at r) rules)
 
 -- over a table: rules are ordered or not, and have numbers of at most so much
 module _ (tab : List ℕ) (ordered : Bool) (top : ℕ) where

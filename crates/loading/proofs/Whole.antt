@@ -21,7 +21,7 @@ use Rattle.completion.specs.Turn.{Candidate, Entry}
 use Rattle.items.specs.Fields.{fields-there, read-rule-at, rules-of}
 use Rattle.items.specs.Written.{row}
 use Rattle.items.specs.Readers.{part, OneAt, OneBad, There, ThereBad, rules-at, InSlots}
-use Rattle.items.proofs.Slotted.{length-rules-at}
+use Rattle.items.proofs.Slotted.{length-rules-at, rules-of-at}
 use Rattle.checkpoint.specs.Checkpoint.{Checkpoint, read-equation, read-next, read-waiting, read-entry, read-put-back, few-entries, read-checkpoint}
 use Rattle.inputs.specs.Inputs.{marked}
 use Rattle.candidates.specs.Candidates.{InRows}
@@ -68,12 +68,6 @@ module _ (l : List ℕ) (at next waiting : ℕ) where
             bind-ok _ (L .is wrong-saved) ∙ goes-on _ wrong-saved e _ (le-ltb (suc (length es)) next enough) ∙ bind-ok _ (B .is wrong-saved)
             ∙ goes-on _ wrong-saved (e + 4) _ (le-ltb 0 (length (drop (e + 4) l)) (omega (arith, length-drop (e + 4) l)))
 
--- rules without their places
-rules-back : (at : ℕ) (rules : List Rule) → rules-of (rules-at at rules) ≡ rules
-unfolding rules-at
-rules-back at [] = refl
-rules-back at (r ∷ rules) = ap (λ l. r ∷ l) (rules-back _ rules)
-
 -- `read_pairs`
 module _ (tab l : List ℕ) (at next : ℕ) where
   -- what is read behind the rules and the waiting equations
@@ -92,7 +86,7 @@ module _ (tab l : List ℕ) (at next : ℕ) where
         (fields-there wrong-saved 0x21 (λ _ f. read-waiting (symbols-of tab) f) (most-pairs - length rules) none m (drop m l) >>= λ w.
         k rules (w .part) (w .end) (w .rest))
     unfolding read-pairs
-    rules-then k = bind-ok _ (R .is wrong-saved) ∙ rw (length-rules-at at rules, rules-back at rules) refl
+    rules-then k = bind-ok _ (R .is wrong-saved) ∙ rw (length-rules-at at rules, rules-of-at at rules) refl
 
     pairs-read : (ws : List Candidate) (e : ℕ) → There 0x21 (λ _ f. read-waiting (symbols-of tab) f) (most-pairs - length rules) l m e ws →
         (k : Behind) → read-pairs k (symbols-of tab) next at (drop at l) ≡ k rules ws e (drop e l)

@@ -5,7 +5,7 @@ use mathlib.Core.Path.{_≡_}
 use mathlib.Core.List.{List, []}
 use Prim.Native.Nat.{ℕ, _-_, _≤_}
 use lib.ListN.{length, take}
-use Rattle.limits.specs.Limits.{most-budget}
+use Rattle.limits.specs.Limits.{most-budget, most-result}
 use Rattle.reading.specs.Stops.{wrong-saved}
 use Rattle.reading.specs.Answers.{symbols-of}
 use Rattle.problem.specs.Problem.{Reading, ok, refused, Theory}
@@ -46,16 +46,25 @@ pub record RunsRecord (l : List ℕ) (front : Front) (first : State) (o : Ran) :
       (s : RunState) → Represents (part l 3 (front .table)) first s →
       Leaves (part l 3 (front .table)) (run-from T s (first .units)) (o .state) (o .end) (o .paid)
 
--- `read_resumption`
+-- `read_resumption`: a record that is read, and a budget that is not too large
+pub record TakenAt (l : List ℕ) (budget : ℕ) (front : Front) (slots log : List ℕ) (counts : Counts) (c : Checkpoint) : Type 0 where
+  pub is : read-resumption l budget ≡ ok c
+  pub loaded : LoadedAt l front slots log counts c
+  pub budget-few : budget ≤ most-budget
+
 abbrev pub IsTaken : List ℕ → ℕ → List ℕ → List ℕ → Taken → Type 0
-IsTaken l budget slots log (Takes front counts) =
-    (c : Checkpoint) × LoadedAt l front slots log counts c × (read-resumption l budget ≡ ok c) × (budget ≤ most-budget)
+IsTaken l budget slots log (Takes front counts) = (c : Checkpoint) × TakenAt l budget front slots log counts c
 IsTaken l budget slots log (NotTaken n p) = read-resumption l budget ≡ refused n p
 
 -- the count of result bytes, or the refusal's number and place
 unfoldable pub resumed-told : Resumed → Reading ℕ
 resumed-told (Written count) = ok count
 resumed-told (Refused number place) = refused number place
+
+-- at most so many result bytes, whatever record is taken up
+unfoldable pub ResumedFew : Resumed → Type 0
+ResumedFew (Written count) = count ≤ most-result
+ResumedFew (Refused number place) = Unit {0}
 
 -- Of a record that the engine wrote for a problem's theory T, f being what that run left: "16 .. never for one that the engine wrote"; what is written is
 -- the result of the run that goes on in the state of f with the new budget, and delivers for T. [21.18 to 21.21]

@@ -9,7 +9,7 @@ ghost use Rattle.items.specs.Written.{logged-width};
 ghost use Rattle.completion.specs.Calls.{counted, after-complete};
 ghost use Rattle.checkpoint.specs.Resume.{resume-call};
 ghost use Rattle.state.specs.Run.{Fine};
-ghost use Rattle.resume.specs.Resumes.{state-of, RunsRecord, IsTaken, resumed-told, Redelivers};
+ghost use Rattle.resume.specs.Resumes.{state-of, RunsRecord, IsTaken, resumed-told, Redelivers, ResumedFew};
 use limits::FIELD_HEAD;
 use loading::Counts;
 use loading::Front;
@@ -55,14 +55,14 @@ pub fn state_of(
 }
 
 // Turns from a state, for the theory of a record whose front is this.
-pub fn go_on(record: &[u8], front: Front, first: State) -> Ran
-    requires { ⌜ (length (now record) ≤ most-saved) × SymbolsAt (now record) (front .table) × (front .equations ≤ most-equations) × Fine first ⌝ }
-    ensures { λ r. ⌜ RunsRecord (now (record .entry)) front first r ⌝ }
+pub fn go_on(kept: &[u8], front: Front, first: State) -> Ran
+    requires { ⌜ (length (now kept) ≤ most-saved) × SymbolsAt (now kept) (front .table) × (front .equations ≤ most-equations) × Fine first ⌝ }
+    ensures { λ r. ⌜ RunsRecord (now (kept .entry)) front first r ⌝ }
 {
     let end = front.table;
     let count = front.equations;
-    let table = &record[FIELD_HEAD..end];
-    let inputs = inputs::read(record, table, end, count);
+    let table = &kept[FIELD_HEAD..end];
+    let inputs = inputs::read(kept, table, end, count);
     run::run_from(first, inputs, table)
 }
 
@@ -73,11 +73,11 @@ pub enum Taken {
 }
 
 // A saved record, read for a new budget: 2, 16, then 17.
-pub fn read_resumption(record: &[u8], budget: u64, pairs: &mut [u8], log: &mut [u8]) -> Taken
+pub fn read_resumption(kept: &[u8], budget: u64, pairs: &mut [u8], log: &mut [u8]) -> Taken
     requires { ⌜ (slot-width * most-pairs ≤ length (now pairs)) × (logged-width * most-entries ≤ length (now log)) ⌝ }
-    ensures { λ r. ⌜ IsTaken (now (record .entry)) budget (now (pairs .exit)) (now (log .exit)) r ⌝ }
+    ensures { λ r. ⌜ IsTaken (now (kept .entry)) budget (now (pairs .exit)) (now (log .exit)) r ⌝ }
 {
-    match loading::load(record, pairs, log) {
+    match loading::load(kept, pairs, log) {
         Loaded::Long => Taken::Refused {
             number: problem::LONG_PROBLEM,
             place: limits::SAVED,
@@ -107,10 +107,11 @@ pub enum Resumed {
 
 // A saved record taken up again with a new budget. For every record the answer and the lent result bytes are the definition's. Of a record that the
 // engine wrote: it is not refused with 16, and what is written delivers for the problem that its run began with.
-pub fn resume(record: &[u8], budget: u64, result: &mut [u8]) -> Resumed
-    ensures answer { λ r. ⌜ resumed-told r ≡ counted (resume-call (now (record .entry)) budget (length (now (result .entry)))) ⌝ }
-    ensures bytes { λ r. ⌜ now (result .exit) ≡ after-complete (resume-call (now (record .entry)) budget (length (now (result .entry)))) (now (result .entry)) ⌝ }
-    ensures delivery { λ r. ⌜ Redelivers (now (record .entry)) budget (now (result .exit)) r ⌝ }
+pub fn resume(kept: &[u8], budget: u64, result: &mut [u8]) -> Resumed
+    ensures answer { λ r. ⌜ resumed-told r ≡ counted (resume-call (now (kept .entry)) budget (length (now (result .entry)))) ⌝ }
+    ensures bytes { λ r. ⌜ now (result .exit) ≡ after-complete (resume-call (now (kept .entry)) budget (length (now (result .entry)))) (now (result .entry)) ⌝ }
+    ensures delivery { λ r. ⌜ Redelivers (now (kept .entry)) budget (now (result .exit)) r ⌝ }
+    ensures few { λ r. ⌜ ResumedFew r ⌝ }
 {
     if result.len() < limits::BUFFER {
         return Resumed::Refused {
@@ -120,11 +121,11 @@ pub fn resume(record: &[u8], budget: u64, result: &mut [u8]) -> Resumed
     }
     let mut pairs = [0u8; slots::ROOM];
     let mut log = [0u8; state::LOG];
-    match read_resumption(record, budget, &mut pairs, &mut log) {
+    match read_resumption(kept, budget, &mut pairs, &mut log) {
         Taken::Refused { number, place } => Resumed::Refused { number, place },
         Taken::Fine { front, counts } => {
             let first = state_of(front.next, counts, pairs, log, budget as u32);
-            let ran = go_on(record, front, first);
+            let ran = go_on(kept, front, first);
             let end = ran.end;
             let n = report::report(ran.state, end, ran.paid, result);
             Resumed::Written(n)

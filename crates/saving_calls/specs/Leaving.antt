@@ -2,9 +2,12 @@
 -- docs/DEFINITION.md. Assumes nothing.
 -- Read first: checkpoint/specs/Resume, checkpoint/specs/Wrote, saving/specs/Saves, report/specs/Report.
 use mathlib.Core.Path.{_≡_}
+use mathlib.Core.Bool.{Bool, _||_}
 use mathlib.Core.List.{List}
 use Prim.Native.Nat.{ℕ, _≤_}
+use lib.Dec.{ltb}
 use lib.ListN.{length, take}
+use Rattle.limits.specs.Limits.{least-buffer, least-saved, most-result, longest-saved}
 use Rattle.reading.specs.Stops.{wrong-saved}
 use Rattle.reading.specs.Answers.{symbols-of, Table}
 use Rattle.problem.specs.Problem.{Reading, ok, refused, Theory, Problem, theory, parse}
@@ -12,7 +15,6 @@ use Rattle.problem.specs.Parser.{ParsedAt}
 use Rattle.completion.specs.Turn.{Finished, run-from, run}
 use Rattle.completion.specs.Calls.{Writes}
 use Rattle.items.specs.Readers.{part}
-use Rattle.inputs.specs.Inputs.{InFields}
 use Rattle.checkpoint.specs.Checkpoint.{Checkpoint}
 use Rattle.checkpoint.specs.Resume.{Left as LeftBytes, saved-at, leaves}
 use Rattle.checkpoint.specs.Wrote.{EngineSaved, Delivered}
@@ -22,6 +24,7 @@ use Rattle.rewriting.specs.declared.End.{End as Ending}
 use Rattle.state.specs.declared.State.{State}
 use Rattle.state.specs.Run.{Fine, Represents, Leaves}
 use Rattle.run.specs.declared.Ran.{Ran}
+use Rattle.saving.specs.Saves.{FillFields}
 use Rattle.saving_calls.specs.declared.Left.{Left}
 use Rattle.saving_calls.specs.declared.Left.the-variants.{Written, Refused}
 
@@ -39,15 +42,25 @@ unfoldable pub lengths : Reading LeftBytes → Reading Lengths
 lengths (ok l) = ok (record { result = length (l .result); saved = length (l .saved) })
 lengths (refused number place) = refused number place
 
--- the theory stands in l: its symbols are the table's, and its equations stand in fields from a place on
+-- at most so many bytes of either, whatever is completed or taken up
+unfoldable pub LeftFew : Left → Type 0
+LeftFew (Written n m) = (n ≤ most-result) × (m ≤ longest-saved)
+LeftFew (Refused number place) = Unit {0}
+
+-- `short`: one of two lent buffers of these lengths is too short
+unfoldable pub one-short : ℕ → ℕ → Bool
+one-short result saved = ltb result least-buffer || ltb saved least-saved
+
+-- the theory stands in l: its symbols are the table's, and its equations fill fields from a place on
 pub record TheoryAt (tab l : List ℕ) (from count : ℕ) (T : Theory) : Type 0 where
   pub table : Table tab
   pub symbols-are : T .symbols ≡ symbols-of tab
-  pub equations : InFields tab l from (T .equations)
+  pub equations : FillFields l from (T .equations)
   pub number : length (T .equations) ≡ count
 
 -- `save_if`: of whatever theory and run
 pub record SavesIf (st : State) (end : Ending) (tab l : List ℕ) (from count : ℕ) (before after : List ℕ) (r : ℕ) : Type 0 where
+  pub few : r ≤ longest-saved
   pub writes : (c : Checkpoint) (e : End) → end ≡ ending e → TheoryAt tab l from count (c .theory) → Represents tab st (c .state) →
       Writes before (saved-at e c) after r
 
@@ -57,6 +70,7 @@ LeavesAs y before after before′ after′ (Written n m) = Writes before (y .res
 LeavesAs y before after before′ after′ (Refused number place) = ⊥
 
 pub record LeavesBoth (o : Ran) (l : List ℕ) (e from count : ℕ) (before after before′ after′ : List ℕ) (r : Left) : Type 0 where
+  pub few : LeftFew r
   pub both : (T : Theory) (f : Finished) → TheoryAt (part l 3 e) l from count T → Leaves (part l 3 e) f (o .state) (o .end) (o .paid) →
       LeavesAs (leaves T f) before after before′ after′ r
 

@@ -1,14 +1,12 @@
 // The calls that save a run that was stopped: completion, and a saved run taken up again.
 ghost use mathlib.Core.Path.{_≡_};
-ghost use mathlib.Core.Bool.{_||_};
-ghost use Prim.Native.Nat.{_≤_};
-ghost use lib.Dec.{ltb};
+ghost use Prim.Native.Nat.{_*_, _≤_};
 ghost use lib.ListN.{length};
-ghost use Rattle.limits.specs.Limits.{most-equations, most-symbols, most-budget, most-result, longest-saved, field-head, two-byte-values};
-ghost use Rattle.limits.specs.Limits.{least-buffer, least-saved};
+ghost use Rattle.limits.specs.Limits.{most-equations, most-symbols, most-budget, most-result, longest-saved, field-head, symbols-width};
+ghost use Rattle.limits.specs.Limits.{two-byte-values};
 ghost use Rattle.state.specs.Run.{Fine};
 ghost use Rattle.checkpoint.specs.Resume.{complete-saving-call, resume-saving-call, after-result, after-saved};
-ghost use Rattle.saving_calls.specs.Leaving.{left-told, lengths, SavesIf, LeavesBoth, RunsProblem, SavingDelivers, SavingRedelivers};
+ghost use Rattle.saving_calls.specs.Leaving.{one-short, left-told, lengths, SavesIf, LeavesBoth, RunsProblem, SavingDelivers, SavingRedelivers, LeftFew};
 use limits::FIELD_HEAD;
 use resume::Taken;
 use rewriting::End;
@@ -24,7 +22,7 @@ pub enum Left {
 
 // Whether one of two lent buffers of these lengths is too short.
 fn short(result: usize, saved: usize) -> bool
-    ensures { λ r. ⌜ r ≡ (ltb result least-buffer || ltb saved least-saved) ⌝ }
+    ensures { λ r. ⌜ r ≡ one-short result saved ⌝ }
 {
     if result < limits::BUFFER {
         return true;
@@ -63,13 +61,21 @@ fn leave(
     saved: &mut [u8],
 ) -> Left
     requires { ⌜ (most-result ≤ length (now result)) × (longest-saved ≤ length (now saved)) × Fine (ran .state) ⌝ }
-    requires { ⌜ (field-head ≤ «table_end») × («table_end» ≤ length (now source)) × («table_end» ≤ 35) × (count ≤ most-equations) ⌝ }
+    requires { ⌜ (field-head ≤ «table_end») × («table_end» ≤ length (now source)) × («table_end» ≤ symbols-width) × (count ≤ most-equations) ⌝ }
     ensures { λ r. ⌜ LeavesBoth ran (now (source .entry)) «table_end» from count (now (result .entry)) (now (result .exit))
         (now (saved .entry)) (now (saved .exit)) r ⌝ }
 {
     let end = ran.end;
     let n = report::report(ran.state, end, ran.paid, result);
-    let m = save_if(ran.state, end, &source[FIELD_HEAD..table_end], source, from, count, saved);
+    let m = save_if(
+        ran.state,
+        end,
+        &source[FIELD_HEAD..table_end],
+        source,
+        from,
+        count,
+        saved,
+    );
     Left::Written {
         result: n,
         saved: m,
@@ -97,6 +103,7 @@ pub fn complete_saving(problem: &[u8], result: &mut [u8], saved: &mut [u8]) -> L
     ensures saved { λ r. ⌜ now (saved .exit) ≡ after-saved
         (complete-saving-call (now (problem .entry)) (length (now (result .entry))) (length (now (saved .entry)))) (now (saved .entry)) ⌝ }
     ensures delivery { λ r. ⌜ SavingDelivers (now (problem .entry)) (now (result .exit)) (now (saved .exit)) r ⌝ }
+    ensures few { λ r. ⌜ LeftFew r ⌝ }
 {
     if short(result.len(), saved.len()) {
         return Left::Refused {
@@ -120,14 +127,15 @@ pub fn complete_saving(problem: &[u8], result: &mut [u8], saved: &mut [u8]) -> L
 
 // A saved record taken up again, as `resume` does it, and on end 21 again a saved record of the run. For every input the answer and both lent buffers
 // are the definition's. Of a record that the engine wrote: it is not refused with 16, and what is written delivers and counts as written by the engine.
-pub fn resume_saving(record: &[u8], budget: u64, result: &mut [u8], saved: &mut [u8]) -> Left
+pub fn resume_saving(kept: &[u8], budget: u64, result: &mut [u8], saved: &mut [u8]) -> Left
     ensures answer { λ r. ⌜ left-told r ≡ lengths
-        (resume-saving-call (now (record .entry)) budget (length (now (result .entry))) (length (now (saved .entry)))) ⌝ }
+        (resume-saving-call (now (kept .entry)) budget (length (now (result .entry))) (length (now (saved .entry)))) ⌝ }
     ensures result { λ r. ⌜ now (result .exit) ≡ after-result
-        (resume-saving-call (now (record .entry)) budget (length (now (result .entry))) (length (now (saved .entry)))) (now (result .entry)) ⌝ }
+        (resume-saving-call (now (kept .entry)) budget (length (now (result .entry))) (length (now (saved .entry)))) (now (result .entry)) ⌝ }
     ensures saved { λ r. ⌜ now (saved .exit) ≡ after-saved
-        (resume-saving-call (now (record .entry)) budget (length (now (result .entry))) (length (now (saved .entry)))) (now (saved .entry)) ⌝ }
-    ensures delivery { λ r. ⌜ SavingRedelivers (now (record .entry)) budget (now (result .exit)) (now (saved .exit)) r ⌝ }
+        (resume-saving-call (now (kept .entry)) budget (length (now (result .entry))) (length (now (saved .entry)))) (now (saved .entry)) ⌝ }
+    ensures delivery { λ r. ⌜ SavingRedelivers (now (kept .entry)) budget (now (result .exit)) (now (saved .exit)) r ⌝ }
+    ensures few { λ r. ⌜ LeftFew r ⌝ }
 {
     if short(result.len(), saved.len()) {
         return Left::Refused {
@@ -137,14 +145,14 @@ pub fn resume_saving(record: &[u8], budget: u64, result: &mut [u8], saved: &mut 
     }
     let mut pairs = [0u8; slots::ROOM];
     let mut log = [0u8; state::LOG];
-    match resume::read_resumption(record, budget, &mut pairs, &mut log) {
+    match resume::read_resumption(kept, budget, &mut pairs, &mut log) {
         Taken::Refused { number, place } => Left::Refused { number, place },
         Taken::Fine { front, counts } => {
             let first = resume::state_of(front.next, counts, pairs, log, budget as u32);
-            let ran = resume::go_on(record, front, first);
+            let ran = resume::go_on(kept, front, first);
             let table_end = front.table;
             let count = front.equations;
-            leave(ran, record, table_end, table_end, count, result, saved)
+            leave(ran, kept, table_end, table_end, count, result, saved)
         }
     }
 }

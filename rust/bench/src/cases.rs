@@ -1,7 +1,7 @@
-//! The fixed problems of the benchmark. Those of decide and the pairs of
-//! terms of lower stand apart.
+//! The fixed problems of the benchmark. Those of decide, the pairs of terms of
+//! lower and the saved records stand apart.
 
-use crate::{decisions, pairs};
+use crate::{decisions, pairs, resumed};
 use kb_cases::full_log;
 use kb_cases::notation::Theory;
 use kb_cases::put_back::rounds::ladder;
@@ -9,10 +9,25 @@ use kb_cases::put_back::simplified::groups_with_unit;
 use kb_cases::theories::{self, monoid, power, PAPERS};
 use kb_compare::call::{Bytes, Call};
 
-/// A named call.
+/// What is timed, under a name.
 pub struct Case {
     pub name: String,
-    pub call: Call<'static>,
+    pub work: Work,
+}
+
+pub enum Work {
+    Call(Call<'static>),
+    Slices(Slices),
+}
+
+/// A run from a saved record, resumed in slices until it ends or so many are
+/// done.
+pub struct Slices {
+    pub record: Vec<u8>,
+    pub units: u32,
+    pub most: u32,
+    /// The case that is the same run in one piece.
+    pub one_piece: String,
 }
 
 const BUDGET: u32 = 1_000_000;
@@ -23,8 +38,10 @@ pub fn case(name: &str, call: fn(Bytes<'static>) -> Call<'static>, theory: Theor
 }
 
 pub fn made(name: &str, call: Call<'static>) -> Case {
-    let name = name.to_string();
-    Case { name, call }
+    Case {
+        name: name.to_string(),
+        work: Work::Call(call),
+    }
 }
 
 /// All cases in the order of the table.
@@ -38,6 +55,7 @@ pub fn all() -> Vec<Case> {
     list.extend(read());
     list.extend(decisions::all());
     list.extend(pairs::all());
+    list.extend(resumed::all());
     list
 }
 

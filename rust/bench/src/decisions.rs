@@ -51,14 +51,18 @@ fn ten_rules() -> Vec<u8> {
     result_of(&RustEngine, &problem).expect("the rules are accepted")
 }
 
-/// As many entries and rules as a record can have, 120 nodes on each side.
-fn long_record(end: u8) -> Vec<u8> {
+/// As many rules as there can be, 120 nodes on each side.
+pub fn long_rules() -> Theory {
     let rule = |k| format!("{} = {}", comb("f", k), comb("g", k));
-    let rules = (0..MAX_RULES).fold(Theory::new(LONG), |theory, k| theory.equation(&rule(k)));
+    (0..MAX_RULES).fold(Theory::new(LONG), |theory, k| theory.equation(&rule(k)))
+}
+
+/// As many entries and rules as a record can have.
+fn long_record(end: u8) -> Vec<u8> {
     Kept {
         end,
         entries: vec![vec![4, 0, 1, 0, 2, 3, 0, 0]; MAX_LOG],
-        ..Kept::of_theory(&rules)
+        ..Kept::of_theory(&long_rules())
     }
     .bytes()
 }

@@ -1,9 +1,9 @@
-//! Times the proved library against the Rust engine on fixed problems and
-//! pairs of terms.
+//! Times the proved library against the Rust engine on fixed problems, pairs of
+//! terms and saved records.
 //!
 //! Each case runs on both engines in turn; the least processor time of
-//! several samples counts. The result buffer has the least length that is
-//! accepted and is not cleared in between.
+//! several samples counts. The buffers have the least lengths that are
+//! accepted and are not cleared in between.
 //! An argument restricts the table to the cases whose name contains it.
 
 mod cases;
@@ -11,78 +11,124 @@ mod clock;
 mod decisions;
 mod pairs;
 mod provers;
+mod resumed;
 
-use cases::Case;
+use cases::{Case, Slices, Work};
 use kb_compare::call::{decode, Call};
 use kb_compare::{Engine, ProvedEngine, RustEngine};
 use kb_engine::fields::{split_fields, TAG_RULE};
-use kb_engine::MIN_RESULT;
+use kb_engine::{MIN_RESULT, MIN_SAVED};
 use std::hint::black_box;
 
 const SAMPLES: usize = 9;
 const SAMPLE_SECONDS: f64 = 0.008;
 
-fn call(engine: &dyn Engine, case: &Case, result: &mut [u8]) -> u64 {
-    engine.run(black_box(&case.call), [result, &mut []])
+/// The buffers that every call is lent.
+#[derive(Clone, PartialEq)]
+struct Lent {
+    result: Vec<u8>,
+    saved: Vec<u8>,
 }
 
-/// Seconds a call, over so many calls.
-fn sample(engine: &dyn Engine, case: &Case, result: &mut [u8], calls: u32) -> f64 {
-    let start = clock::seconds();
-    for _ in 0..calls {
-        black_box(call(engine, case, result));
+impl Lent {
+    fn new() -> Lent {
+        Lent {
+            result: vec![0; MIN_RESULT],
+            saved: vec![0; MIN_SAVED],
+        }
     }
-    (clock::seconds() - start) / calls as f64
+
+    fn call(&mut self, engine: &dyn Engine, call: &Call) -> u64 {
+        engine.run(black_box(call), [&mut self.result, &mut self.saved])
+    }
+
+    /// The last answer of a run in slices.
+    fn slices(&mut self, engine: &dyn Engine, slices: &Slices) -> u64 {
+        let (mut record, mut answer) = (slices.record.clone(), 0);
+        for _ in 0..slices.most {
+            let call = Call::ResumeSaving(record.as_slice().into(), slices.units.into());
+            answer = self.call(engine, &call);
+            let (_, length, _) = decode(answer);
+            if length == 0 {
+                break;
+            }
+            record.clear();
+            record.extend_from_slice(&self.saved[..length as usize]);
+        }
+        answer
+    }
+
+    fn run(&mut self, engine: &dyn Engine, case: &Case) -> u64 {
+        match &case.work {
+            Work::Call(call) => self.call(engine, call),
+            Work::Slices(slices) => self.slices(engine, slices),
+        }
+    }
 }
 
-/// Calls that fill a sample.
-fn calls_for(engine: &dyn Engine, case: &Case, result: &mut [u8]) -> u32 {
-    let once = sample(engine, case, result, 1).max(1e-9);
+/// Seconds a run of the case, over so many runs.
+fn sample(engine: &dyn Engine, case: &Case, lent: &mut Lent, runs: u32) -> f64 {
+    let start = clock::seconds();
+    for _ in 0..runs {
+        black_box(lent.run(engine, case));
+    }
+    (clock::seconds() - start) / runs as f64
+}
+
+/// Runs that fill a sample.
+fn runs_for(engine: &dyn Engine, case: &Case, lent: &mut Lent) -> u32 {
+    let once = sample(engine, case, lent, 1).max(1e-9);
     (SAMPLE_SECONDS / once).clamp(1.0, 1e6) as u32
 }
 
-/// What a call answered, in words.
+/// What a case answered, in words.
 fn answer_text(case: &Case, answer: u64, result: &[u8]) -> String {
     let (kind, number, low) = decode(answer);
-    match (&case.call, kind) {
+    let call = match &case.work {
+        Work::Call(call) => call,
+        Work::Slices(_) => return ended(&result[..low as usize]),
+    };
+    match (call, kind) {
         (Call::Subterm(..), _) => format!("{} bytes", low),
         (Call::Lower(..), _) => ["refused", "first", "second"][low as usize].to_string(),
         (_, 0) => format!("refused {number}"),
         (Call::Compare(..), _) => format!("answer {low}"),
-        (Call::Complete(..), _) => {
-            let units = result[7..11].iter().fold(0, |n, b| n << 8 | *b as u32);
-            let rules = rule_count(&result[..low as usize]);
-            format!("end {}, {units} units, {rules} rules", result[3])
-        }
         (Call::Unify(..), 1) => format!("{} nodes", low - 3),
         (Call::Unify(..), 2) => "none".to_string(),
         (Call::Decide(..), 1) if low == 1 => "same".to_string(),
         (Call::Decide(..), 1) => "different".to_string(),
         (Call::Unify(..) | Call::Decide(..), _) => format!("number {number}"),
+        (Call::ResumeSaving(_, 0), _) => format!("{number} bytes saved"),
+        _ => ended(&result[..low as usize]),
     }
 }
 
-fn rule_count(result: &[u8]) -> usize {
-    split_fields(result)
-        .filter(|(tag, _)| *tag == TAG_RULE)
-        .count()
+/// End, units and rules of a result.
+fn ended(result: &[u8]) -> String {
+    let units = result[7..11].iter().fold(0, |n, b| n << 8 | *b as u32);
+    let rules = split_fields(result).filter(|(tag, _)| *tag == TAG_RULE);
+    let (end, rules) = (result[3], rules.count());
+    format!("end {end}, {units} units, {rules} rules")
 }
 
-fn print_case(case: &Case) {
+/// Microseconds of processor time on the proved library and on the Rust engine.
+type Times = [f64; 2];
+
+fn print_case(case: &Case) -> Times {
     let (proved, rust): (&dyn Engine, &dyn Engine) = (&ProvedEngine, &RustEngine);
-    let mut result = vec![0; MIN_RESULT];
-    let expected = call(rust, case, &mut result);
-    let text = answer_text(case, expected, &result);
-    let bytes = result.clone();
-    let agree = call(proved, case, &mut result) == expected && result == bytes;
-    let calls = [
-        calls_for(proved, case, &mut result),
-        calls_for(rust, case, &mut result),
+    let mut lent = Lent::new();
+    let expected = lent.run(rust, case);
+    let text = answer_text(case, expected, &lent.result);
+    let left = lent.clone();
+    let agree = lent.run(proved, case) == expected && lent == left;
+    let runs = [
+        runs_for(proved, case, &mut lent),
+        runs_for(rust, case, &mut lent),
     ];
     let mut least = [f64::MAX; 2];
     for _ in 0..SAMPLES {
         for (i, engine) in [proved, rust].into_iter().enumerate() {
-            least[i] = least[i].min(sample(engine, case, &mut result, calls[i]));
+            least[i] = least[i].min(sample(engine, case, &mut lent, runs[i]));
         }
     }
     let [a, b] = least.map(|seconds| seconds * 1e6);
@@ -92,6 +138,23 @@ fn print_case(case: &Case) {
         case.name,
         a / b
     );
+    [a, b]
+}
+
+/// What a run in slices takes, against the run in one piece.
+fn print_slices(timed: &[(&Case, Times)]) {
+    for (case, [a, b]) in timed {
+        let Work::Slices(slices) = &case.work else {
+            continue;
+        };
+        let whole = timed.iter().find(|(c, _)| c.name == slices.one_piece);
+        if let Some((_, [c, d])) = whole {
+            let (name, units, proved, rust) = (&case.name, slices.units, a / c, b / d);
+            println!(
+                "{name} of {units} units, against one piece: proved {proved:.2}, rust {rust:.2}"
+            );
+        }
+    }
 }
 
 fn main() -> std::io::Result<()> {
@@ -101,11 +164,10 @@ fn main() -> std::io::Result<()> {
         "case", "answer", "proved us", "rust us", "ratio"
     );
     let cases = cases::all();
-    cases
-        .iter()
-        .filter(|case| case.name.contains(&wanted))
-        .for_each(print_case);
-    println!("processor time, least of {SAMPLES} samples; result buffer not cleared between calls");
+    let chosen = cases.iter().filter(|case| case.name.contains(&wanted));
+    let timed: Vec<(&Case, Times)> = chosen.map(|case| (case, print_case(case))).collect();
+    println!("processor time, least of {SAMPLES} samples; buffers not cleared between calls");
+    print_slices(&timed);
     if wanted.is_empty() || wanted == "provers" {
         provers::print()?;
     }

@@ -5,7 +5,7 @@
 
 use crate::notation::Theory;
 use kb_engine::checkpoint::{TAG_NEXT, TAG_PUT_BACK, TAG_WAITING};
-use kb_engine::fields::{push_field, split_fields, TAG_ENTRY, TAG_RULE};
+use kb_engine::fields::{push_field, TAG_ENTRY, TAG_RULE};
 use kb_engine::problem::{TAG_EQUATION, TAG_SYMBOLS};
 
 /// The fields of a saved record.
@@ -38,25 +38,34 @@ impl Checkpoint {
         }
     }
 
-    /// The fields of a well-formed saved record.
-    pub fn of_record(record: &[u8]) -> Checkpoint {
-        let mut checkpoint = Checkpoint::default();
-        for (tag, contents) in split_fields(record) {
-            match (tag, contents) {
-                (TAG_SYMBOLS, symbols) => checkpoint.symbols = symbols.to_vec(),
-                (TAG_EQUATION, sides) => checkpoint.equations.push(sides.to_vec()),
-                (TAG_NEXT, [high, low]) => checkpoint.next = u16::from_be_bytes([*high, *low]),
-                (TAG_RULE, [high, low, sides @ ..]) => {
-                    let number = u16::from_be_bytes([*high, *low]);
-                    checkpoint.rules.push((number, sides.to_vec()));
-                }
-                (TAG_WAITING, equation) => checkpoint.waiting.push(equation.to_vec()),
-                (TAG_ENTRY, entry) => checkpoint.entries.push(entry.to_vec()),
-                (TAG_PUT_BACK, [count]) => checkpoint.put_back = *count,
-                (other, _) => unreachable!("a saved record has no such field {other:02x}"),
-            }
+    /// The fields of a record, none if it is not made of such fields in their
+    /// order.
+    pub fn of_record(record: &[u8]) -> Option<Checkpoint> {
+        let (mut checkpoint, mut rest) = (Checkpoint::default(), record);
+        while let Some((&[tag, high, low], behind)) = rest.split_first_chunk() {
+            let length = u16::from_be_bytes([high, low]);
+            let (contents, behind) = behind.split_at_checked(length.into())?;
+            checkpoint.add(tag, contents)?;
+            rest = behind;
         }
-        checkpoint
+        (checkpoint.bytes() == record).then_some(checkpoint)
+    }
+
+    fn add(&mut self, tag: u8, contents: &[u8]) -> Option<()> {
+        match (tag, contents) {
+            (TAG_SYMBOLS, symbols) => self.symbols = symbols.to_vec(),
+            (TAG_EQUATION, sides) => self.equations.push(sides.to_vec()),
+            (TAG_NEXT, [high, low]) => self.next = u16::from_be_bytes([*high, *low]),
+            (TAG_RULE, [high, low, sides @ ..]) => {
+                let number = u16::from_be_bytes([*high, *low]);
+                self.rules.push((number, sides.to_vec()));
+            }
+            (TAG_WAITING, equation) => self.waiting.push(equation.to_vec()),
+            (TAG_ENTRY, entry) => self.entries.push(entry.to_vec()),
+            (TAG_PUT_BACK, [count]) => self.put_back = *count,
+            _ => return None,
+        }
+        Some(())
     }
 
     /// The record's bytes.

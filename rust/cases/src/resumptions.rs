@@ -151,7 +151,16 @@ fn put_back() -> Vec<Case> {
         ends("two stuck", &two(2), ended(1, &[&entry])),
         ends("one of two put back", &two(1), twice),
         spent("put back", &commutes, 1, &back),
+        spent("two wait", &two_wait(), 0, &two_wait()),
     ]
+}
+
+/// The second equation waits before the first.
+fn two_wait() -> Checkpoint {
+    let theory = Theory::new(GROUP).equations(&["x*y = y*x", "i(x) = x"]);
+    let mut checkpoint = Checkpoint::of_theory(&theory);
+    checkpoint.waiting.reverse();
+    checkpoint
 }
 
 /// Kinds, numbers and positions that no run of this problem gives.

@@ -65,7 +65,7 @@ fn accepted(name: &'static str) -> impl Iterator<Item = Checkpoint> {
     let records = records.map(|index| generated(1, index).record);
     let records = records.map(|record| Resumption { record, budget: 0 });
     let accepted = records.filter(|resumption| answer(resumption) == "end 21");
-    accepted.map(|resumption| Checkpoint::of_record(&resumption.record))
+    accepted.filter_map(|resumption| Checkpoint::of_record(&resumption.record))
 }
 
 /// What no run leaves is accepted: 33 that wait, origins of any numbers, all

@@ -37,6 +37,12 @@ fn resumed(record: &[u8], budget: u32) -> (Vec<u8>, Vec<u8>) {
     (result, saved)
 }
 
+/// The fields of the record that a problem's run leaves.
+fn state(problem: &[u8]) -> Checkpoint {
+    let (_, record) = started(problem);
+    Checkpoint::of_record(&record).expect("a record")
+}
+
 /// The last result of a run that is cut and goes on in slices, and the units of
 /// all slices.
 fn in_slices(problem: &[u8], cut: u32, slices: Slices) -> (Vec<u8>, u64) {
@@ -175,12 +181,13 @@ fn a_saved_record_is_as_written_out() {
 #[test]
 fn equations_are_kept_as_given() {
     let theory = theories::one_rank("f(x) = g(x)").raw_equation(vec![1, 0x87, 2, 0x83]);
-    let checkpoint = Checkpoint::of_record(&started(&theory.problem(0)).1);
+    let checkpoint = state(&theory.problem(0));
     assert_eq!(checkpoint.equations, theory.all_sides());
     assert_eq!(checkpoint.waiting[1][6..], [1, 0x80, 2, 0x81]);
     // Resuming keeps them, too.
-    let again = resumed(&checkpoint.bytes(), 1).1;
-    assert_eq!(Checkpoint::of_record(&again).equations, theory.all_sides());
+    let again = Checkpoint::of_record(&resumed(&checkpoint.bytes(), 1).1);
+    let equations = again.map(|checkpoint| checkpoint.equations);
+    assert_eq!(equations, Some(theory.all_sides()));
 }
 
 /// A stop inside a turn leaves everything as at its beginning: at every budget
@@ -191,7 +198,7 @@ fn a_stop_leaves_the_turn_unbegun() {
     for run in put_back::runs() {
         let mut last: Option<Checkpoint> = None;
         for budget in 0..run.units {
-            let checkpoint = Checkpoint::of_record(&started(&run.theory.problem(budget)).1);
+            let checkpoint = state(&run.theory.problem(budget));
             let same_turn = |c: &Checkpoint| c.entries.len() == checkpoint.entries.len();
             if let Some(last) = last.filter(same_turn) {
                 assert_eq!(last, checkpoint, "{}, budget {budget}", run.name);

@@ -5,6 +5,7 @@
 //! down it went. For x86-64 Linux with glibc.
 
 pub mod cases;
+mod checkpoints;
 pub mod table;
 
 use std::ffi::{c_int, c_void};

@@ -7,7 +7,7 @@ mod common;
 use common::Other;
 use kb_cases::generate::pairs::{exhaustive, pair};
 use kb_cases::{chains, pairs};
-use kb_compare::call::{chosen, Call};
+use kb_compare::call::{chosen, Buffers, Call};
 use kb_compare::check::Checker;
 use kb_compare::inputs::Input;
 use kb_compare::lent::{Lent, LAYOUTS};
@@ -18,7 +18,7 @@ type Lower = fn(&[u8], &[u8], &[u8]) -> u64;
 
 /// The Rust engine with another lower.
 fn with_lower(lower: Lower) -> impl Engine {
-    Other(move |call: &Call, _: &mut [u8]| match call {
+    Other(move |call: &Call, _: &mut Buffers| match call {
         Call::Lower(symbols, first, second) => Some(lower(symbols, first, second)),
         _ => None,
     })

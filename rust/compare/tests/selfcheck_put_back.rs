@@ -11,7 +11,7 @@ use definitions::literal_run::{run_with, Rounds, Taken, Waiting, ROUNDS};
 use kb_cases::generate;
 use kb_cases::kept::Kept;
 use kb_cases::put_back;
-use kb_compare::call::{encode, result_of, Call};
+use kb_compare::call::{encode, result_of, Buffers, Call};
 use kb_compare::check::Checker;
 use kb_compare::fixed::faults;
 use kb_compare::inputs::Input;
@@ -31,8 +31,8 @@ type Complete = fn(&[u8], &mut [u8]) -> u64;
 
 /// The Rust engine with another complete.
 fn with_complete(complete: Complete) -> impl Engine {
-    Other(move |call: &Call, result: &mut [u8]| match call {
-        Call::Complete(problem) => Some(complete(problem, result)),
+    Other(move |call: &Call, buffers: &mut Buffers| match call {
+        Call::Complete(problem) => Some(complete(problem, buffers[0])),
         _ => None,
     })
 }

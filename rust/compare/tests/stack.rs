@@ -5,7 +5,7 @@
 mod common;
 
 use common::Other;
-use kb_compare::call::Call;
+use kb_compare::call::{Buffers, Call};
 use kb_compare::stack::cases::{cases, Case, Kind};
 use kb_compare::stack::table::{Row, LIMIT, NODES};
 use kb_compare::stack::{Stack, STACK};
@@ -76,7 +76,7 @@ fn every_written_byte_counts() {
 }
 
 /// Subterm, which goes down a frame for each byte before.
-fn recursing_subterm(call: &Call, _: &mut [u8]) -> Option<u64> {
+fn recursing_subterm(call: &Call, _: &mut Buffers) -> Option<u64> {
     if let Call::Subterm(problem, _) = call {
         assert_eq!(recursing(problem.len()), problem.len());
     }
@@ -84,7 +84,7 @@ fn recursing_subterm(call: &Call, _: &mut [u8]) -> Option<u64> {
 }
 
 /// Lower, with the other term.
-fn other_term(call: &Call, _: &mut [u8]) -> Option<u64> {
+fn other_term(call: &Call, _: &mut Buffers) -> Option<u64> {
     match call {
         Call::Lower(..) => Some(RustEngine.run(call, Default::default()) ^ 3),
         _ => None,

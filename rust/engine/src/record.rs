@@ -6,13 +6,13 @@ use crate::reader::Reader;
 use crate::run::{ENDS, END_UNORIENTABLE};
 use crate::term::Term;
 use crate::{MAX_BUDGET, MAX_LOG, MAX_RECORD, MAX_RULES, MAX_RULE_NUMBER};
-use std::ops::Range;
+use std::ops::{Range, RangeInclusive};
 
 /// The number of "against the layout of a record".
 pub const MALFORMED: u8 = 13;
 const ENTRY_BYTES: usize = 8;
 /// Kinds of log entries.
-const KINDS: std::ops::RangeInclusive<u8> = 1..=4;
+const KINDS: RangeInclusive<u8> = 1..=4;
 
 /// A rule of a record, renamed.
 #[derive(Debug)]
@@ -66,7 +66,7 @@ fn record(reader: &mut Reader, signature: &Signature) -> Option<Record> {
 pub(crate) fn rule(
     reader: &Reader,
     contents: Range<usize>,
-    numbers: std::ops::RangeInclusive<u16>,
+    numbers: RangeInclusive<u16>,
     signature: &Signature,
 ) -> Option<RecordRule> {
     let (number, sides) = reader.number(contents)?;

@@ -106,7 +106,7 @@ pub struct State {
 enum Change {
     Settled,
     /// The live rules, the new one last, and those it removes.
-    Rule(RuleSet, Vec<Rc<Rule>>),
+    Rule(Box<RuleSet>, Vec<Rc<Rule>>),
     PutBack(Equation),
 }
 
@@ -131,7 +131,7 @@ impl State {
                 Made::Settled
             }
             Change::Rule(rules, removed) => {
-                self.rules = rules;
+                self.rules = *rules;
                 self.waiting.join(&removed);
                 self.waiting.changed();
                 self.next += 1;
@@ -318,7 +318,7 @@ impl Run<'_> {
             return Err(Stop::RulesFull);
         }
         let rules = self.compose(RuleSet::new(live))?;
-        Ok(Change::Rule(rules, removed))
+        Ok(Change::Rule(Box::new(rules), removed))
     }
 
     /// Older rules parted in those whose left side the new rule rewrites and

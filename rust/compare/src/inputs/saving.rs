@@ -127,7 +127,7 @@ impl Saving<'_, '_> {
         };
         let spent = left.result.get(3) == Some(&SPENT);
         if spent == left.saved.is_empty() {
-            let what = format!("{call}, a saved record and another end than 21, or none");
+            let what = format!("{call}, a saved record with another end than 21, or none with it");
             return Err(Difference::of_both(&what, answer));
         }
         self.notes.push(note(call, answer, &left.result));
@@ -135,20 +135,20 @@ impl Saving<'_, '_> {
     }
 
     /// The last result of a run from a record: but for the units that of the
-    /// run in one piece, if that one ends.
+    /// run in one piece, if that one ends by another cause than its budget.
     fn in_slices(
         &mut self,
         record: &[u8],
         slices: Slices,
         whole: &[u8],
     ) -> Result<Vec<u8>, Difference> {
-        let ends = whole[3] != SPENT;
+        let ends = whole.get(3).is_some_and(|end| *end != SPENT);
         let most = if ends { MOST_SLICES } else { FEW_SLICES };
         let (mut units, mut record) = (slices.units(), record.to_vec());
         let (mut finished, mut result) = (true, Vec::new());
         for _ in 0..most {
             let budget = units.next(finished).into();
-            let left = self.saving(&Call::ResumeSaving((&record).into(), budget))?;
+            let left = self.slice(&record, budget)?;
             result = left.result;
             if left.saved.is_empty() {
                 self.resume(&record, budget, &result)?;
@@ -162,6 +162,18 @@ impl Saving<'_, '_> {
             return Err(Difference::of_both(&what, encode(1, 0, result.len())));
         }
         Ok(result)
+    }
+
+    /// A slice of a run: what was saved is never refused.
+    fn slice(&mut self, record: &[u8], budget: u64) -> Result<Left, Difference> {
+        let left = self.saving(&Call::ResumeSaving(record.into(), budget))?;
+        match left.result.is_empty() {
+            true => {
+                let what = "resume_saving, a saved record is refused";
+                Err(Difference::of_both(what, left.answer))
+            }
+            false => Ok(left),
+        }
     }
 
     /// Resume, which leaves the result of resume_saving.

@@ -1,8 +1,10 @@
 //! The calls whose stack is measured, on chains of unary symbols.
 //!
 //! A chain of n nodes is a unary symbol n - 1 times over a leaf. Each case is
-//! given for any n from 2 to 120, with the answer due.
+//! given for any n from 2 to 120, with the answer due. Those of runs that are
+//! saved and resumed stand apart.
 
+use super::checkpoints;
 use crate::call::{chosen, compared, decided, encode, handed_back, refused, result_of, unified};
 use crate::call::{Bytes, Call, RustEngine};
 use kb_cases::kept::Kept;
@@ -13,11 +15,11 @@ use kb_cases::theories::power;
 use kb_engine::{CompareAnswer, DecideAnswer, Order, Refusal, UnifyAnswer, Which};
 
 /// i is above j and below k, and has one rank with l.
-const SYMBOLS: &str = "e/0/0 i/1/2 j/1/1 k/1/3 l/1/2";
+pub(super) const SYMBOLS: &str = "e/0/0 i/1/2 j/1/1 k/1/3 l/1/2";
 /// Where the left side of the first equation begins.
 const LEFT: usize = 23;
 /// The nodes i and x.
-const I: u8 = 1;
+pub(super) const I: u8 = 1;
 const X: u8 = 0x80;
 /// More than the units of any case.
 const BUDGET: u32 = 1000;
@@ -25,7 +27,7 @@ const BUDGET: u32 = 1000;
 const LONG: usize = 8000;
 
 /// A call on chains of so many nodes, and its answer.
-type Prepared = fn(usize) -> (Call<'static>, u64);
+pub(super) type Prepared = fn(usize) -> (Call<'static>, u64);
 
 /// What a case does with its chains.
 #[derive(Clone, Copy, Debug, PartialEq)]
@@ -54,11 +56,12 @@ pub fn cases() -> Vec<Case> {
         unifiers(),
         decisions(),
         completions(),
+        checkpoints::cases(),
     ];
     walks.into_iter().chain(deep).flatten().collect()
 }
 
-fn walk(name: &'static str, prepared: Prepared) -> Case {
+pub(super) fn walk(name: &'static str, prepared: Prepared) -> Case {
     Case {
         name,
         kind: Kind::Walk,
@@ -66,14 +69,14 @@ fn walk(name: &'static str, prepared: Prepared) -> Case {
     }
 }
 
-fn looped(name: &'static str, prepared: Prepared) -> Case {
+pub(super) fn looped(name: &'static str, prepared: Prepared) -> Case {
     Case {
         kind: Kind::Loop,
         ..walk(name, prepared)
     }
 }
 
-fn deep(name: &'static str, prepared: Prepared) -> Case {
+pub(super) fn deep(name: &'static str, prepared: Prepared) -> Case {
     Case {
         kind: Kind::Deep,
         ..walk(name, prepared)
@@ -81,17 +84,17 @@ fn deep(name: &'static str, prepared: Prepared) -> Case {
 }
 
 /// The symbol n - 1 times over the leaf.
-fn chain(symbol: &str, n: usize, leaf: &str) -> String {
+pub(super) fn chain(symbol: &str, n: usize, leaf: &str) -> String {
     power(symbol, n - 1, leaf)
 }
 
 /// i n - 2 times over k(x), a chain that has no overlap with itself.
-fn alone(n: usize) -> String {
+pub(super) fn alone(n: usize) -> String {
     power("i", n - 2, "k(x)")
 }
 
 /// The problem of these equations.
-fn problem(equations: &[[&str; 2]]) -> Bytes<'static> {
+pub(super) fn problem(equations: &[[&str; 2]]) -> Bytes<'static> {
     let texts = equations.iter().map(|sides| sides.join(" = "));
     let theory = Theory::new(SYMBOLS);
     let theory = texts.fold(theory, |theory, text| theory.equation(&text));
@@ -127,7 +130,7 @@ fn bad(nodes: Vec<u8>, number: u8, place: usize) -> (Bytes<'static>, u64) {
 }
 
 /// The left chain is cut: the walk ends with the field, a subterm owed.
-fn cut(n: usize) -> (Bytes<'static>, u64) {
+pub(super) fn cut(n: usize) -> (Bytes<'static>, u64) {
     bad(vec![I; n], 10, LEFT + n)
 }
 

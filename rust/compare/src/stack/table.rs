@@ -3,7 +3,7 @@
 use super::cases::{Case, Kind};
 use super::Stack;
 use crate::call::{decode, Engine};
-use kb_engine::MIN_RESULT;
+use kb_engine::{MIN_RESULT, MIN_SAVED};
 use std::fmt;
 
 /// Nodes of the chains.
@@ -24,12 +24,12 @@ pub struct Row {
 impl Row {
     /// Runs the case on the three chains.
     pub fn measured(stack: &mut Stack, engine: &(dyn Engine + Sync), case: &Case) -> Row {
-        let mut result = vec![0; MIN_RESULT];
+        let (mut result, mut saved) = (vec![0; MIN_RESULT], vec![0; MIN_SAVED]);
         let mut wrong = Vec::new();
         let taken = NODES.map(|nodes| {
             let (call, due) = (case.prepared)(nodes);
             let mut answer = 0;
-            let taken = stack.taken(|| answer = engine.run(&call, [&mut result, &mut []]));
+            let taken = stack.taken(|| answer = engine.run(&call, [&mut result, &mut saved]));
             if answer != due {
                 wrong.push((nodes, answer));
             }

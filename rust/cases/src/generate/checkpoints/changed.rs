@@ -8,7 +8,8 @@ use crate::resumptions::Resumption;
 
 /// One to three changes of a saved state.
 pub fn state(random: &mut Random, save: Save) -> Resumption {
-    let mut checkpoint = Checkpoint::of_record(&saved_record(random, save));
+    let saved = Checkpoint::of_record(&saved_record(random, save));
+    let mut checkpoint = saved.unwrap_or_default();
     for _ in 0..random.between(1, 3) {
         change(random, &mut checkpoint);
     }
@@ -36,7 +37,7 @@ fn change(random: &mut Random, checkpoint: &mut Checkpoint) {
         7 => other_origin(random, waiting),
         8 => other_origin(random, entries),
         9 => checkpoint.put_back = random.below(waiting.len() + 2) as u8,
-        10 => checkpoint.next = (checkpoint.next + random.below(4) as u16) - 1,
+        10 => checkpoint.next = (checkpoint.next + random.below(4) as u16).saturating_sub(1),
         _ => checkpoint.next = entries.len() as u16 + 1,
     }
 }
