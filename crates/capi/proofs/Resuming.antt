@@ -55,13 +55,13 @@ code-of-resumed : (kept : List ℕ) (budget : ℕ) (after : List ℕ) (r : ℕ) 
     Redelivers kept budget after a → CodeResumes kept budget after r
 unfolding resumed-told Redelivers CodeResumes CodeLeaves
 code-of-resumed kept budget after r (Written n) u d = λ T f w. (
-      λ k. subst (λ (m : ℕ). Delivered T (run-from T (f .state) budget) (record { result = take m after; saved = [] })) (sym (u .value-is)) (d T f w),
-      λ k. absurd (omega (arith, u .kind-is)),
-    )
+  λ k. subst (λ (m : ℕ). Delivered T (run-from T (f .state) budget) (record { result = take m after; saved = [] })) (sym (u .value-is)) (d T f w),
+  λ k. absurd (omega (arith, u .kind-is)),
+)
 code-of-resumed kept budget after r (Refused n at) u d = λ T f w. (
-      λ k. absurd (omega (arith, u .kind-is)),
-      λ k q. d T f w (sym (u .number-is) ∙ q),
-    )
+  λ k. absurd (omega (arith, u .kind-is)),
+  λ k q. d T f w (sym (u .number-is) ∙ q),
+)
 
 pub code-resumes : (kept : List ℕ) (budget buffer : ℕ) (after : List ℕ) (a : Resumed) (r : ℕ) →
     resumed-told a ≡ counted (resume-call kept budget buffer) → ResumedFew a → Redelivers kept budget after a →
@@ -86,21 +86,22 @@ code-of-saved : (problem after after′ : List ℕ) (r : ℕ) (a : Left) → Unp
     CodeSaves problem after after′ r
 unfolding left-told SavingDelivers CodeSaves
 code-of-saved problem after after′ r (WrittenBoth n m) u d = λ k P e.
-    subst₂ (λ (x y : ℕ). Delivered (theory P) (run P) (record { result = take x after; saved = take y after′ })) (sym (u .value-is)) (sym (u .number-is)) (d P e)
+    subst₂ (λ (x y : ℕ). Delivered (theory P) (run P) (record { result = take x after; saved = take y after′ }))
+    (sym (u .value-is)) (sym (u .number-is)) (d P e)
 code-of-saved problem after after′ r (RefusedBoth n at) u d = λ k. absurd (omega (arith, u .kind-is))
 
 code-of-both : (kept : List ℕ) (budget : ℕ) (after after′ : List ℕ) (r : ℕ) (a : Left) → UnpacksLeft r (left-told a) →
     SavingRedelivers kept budget after after′ a → CodeResumesSaving kept budget after after′ r
 unfolding left-told SavingRedelivers CodeResumesSaving CodeLeaves
 code-of-both kept budget after after′ r (WrittenBoth n m) u d = λ T f w. (
-      λ k. subst₂ (λ (x y : ℕ). Delivered T (run-from T (f .state) budget) (record { result = take x after; saved = take y after′ }))
-          (sym (u .value-is)) (sym (u .number-is)) (d T f w),
-      λ k. absurd (omega (arith, u .kind-is)),
-    )
+  λ k. subst₂ (λ (x y : ℕ). Delivered T (run-from T (f .state) budget) (record { result = take x after; saved = take y after′ }))
+      (sym (u .value-is)) (sym (u .number-is)) (d T f w),
+  λ k. absurd (omega (arith, u .kind-is)),
+)
 code-of-both kept budget after after′ r (RefusedBoth n at) u d = λ T f w. (
-      λ k. absurd (omega (arith, u .kind-is)),
-      λ k q. d T f w (sym (u .number-is) ∙ q),
-    )
+  λ k. absurd (omega (arith, u .kind-is)),
+  λ k q. d T f w (sym (u .number-is) ∙ q),
+)
 
 pub code-saves : (problem : List ℕ) (buffer lent : ℕ) (after after′ : List ℕ) (a : Left) (r : ℕ) →
     left-told a ≡ lengths (complete-saving-call problem buffer lent) → LeftFew a → SavingDelivers problem after after′ a →

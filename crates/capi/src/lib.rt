@@ -143,7 +143,12 @@ pub extern "C" fn vb_resume(kept: &[u8], budget: u64, result: &mut [u8]) -> u64
 }
 
 #[no_mangle]
-pub extern "C" fn vb_resume_saving(kept: &[u8], budget: u64, result: &mut [u8], saved: &mut [u8]) -> u64
+pub extern "C" fn vb_resume_saving(
+    kept: &[u8],
+    budget: u64,
+    result: &mut [u8],
+    saved: &mut [u8],
+) -> u64
     ensures { λ r. ⌜ r ≡ left-code (lengths
         (resume-saving-call (now (kept .entry)) budget (length (now (result .entry))) (length (now (saved .entry))))) ⌝ }
     ensures { λ r. ⌜ now (result .exit) ≡ after-result

@@ -3,6 +3,7 @@
 -- Read first: specs/Leaving, report/specs/Report (Reports), saving/specs/Saves (Saves), saving/proofs/Filling, run/proofs/Begun.
 use mathlib.Core.Path.{_≡_, refl, sym, ap, subst, _∙_}
 use mathlib.Core.List.{List, []}
+use mathlib.Core.Logic.{⊎-elim}
 use Prim.Native.Nat.{ℕ, _-_, _*_, _≤_}
 use native.Mathlib.Omega.{arith}
 use lib.ListN.{length, drop, length-take, length-map}
@@ -19,6 +20,7 @@ use Rattle.items.specs.Readers.{part}
 use Rattle.slots.specs.declared.Pairs.{Pairs}
 use Rattle.checkpoint.specs.Checkpoint.{Checkpoint, checkpoint-bytes}
 use Rattle.checkpoint.specs.Resume.{saved-at, leaves}
+use Rattle.checkpoint.proofs.Again.{saved-or-none}
 use Rattle.inputs.specs.Inputs.{InputsRead}
 use Rattle.loading.specs.declared.Front.{Front}
 use Rattle.loading.specs.declared.Counts.{Counts}
@@ -35,13 +37,8 @@ use Rattle.saving_calls.specs.declared.Left.the-variants.{Written}
 
 -- `save_if`: with end 21 the record, with another nothing
 saved-none : (e : End) (c : Checkpoint) → (ending e ≡ Spent → ⊥) → saved-at e c ≡ []
-unfolding saved-at ending
-saved-none complete c h = refl
-saved-none neither-above c h = refl
-saved-none spent c h = absurd (h refl)
-saved-none too-large c h = refl
-saved-none rules-full c h = refl
-saved-none log-full c h = refl
+unfolding ending
+saved-none e c h = ⊎-elim (λ q. absurd (h (ap ending q))) (λ q. q) (saved-or-none e c)
 
 saved-spent : (e : End) (c : Checkpoint) → ending e ≡ Spent → saved-at e c ≡ checkpoint-bytes c
 unfolding saved-at ending

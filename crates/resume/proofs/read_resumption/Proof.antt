@@ -1,5 +1,6 @@
 -- `read_resumption`: what `loading::load` refuses is refused, and then a budget that is too large. Assumes nothing.
 -- Read first: specs/Resumes (IsTaken), loading/specs/Loads (IsLoaded), proofs/Answering (taken-refused, taken-large, taken-fine).
+use native.Mathlib.Omega.{arith}
 use borrow.Author.Needs.{needs}
 use Rattle.resume.proofs.Answering.{taken-refused, taken-large, taken-fine}
 use Rattle.resume.proofs.read_resumption.Statement.{statement}
@@ -10,7 +11,7 @@ returns c =
     let at-front : tie.After-front = search depth 0 in
     let at-load : tie.After-load = search depth 0 in
     let q = rw (at-front .front .given .1) at (at-load .load .ensures) in
-    taken-large _ _ (q .1 .is) (c .if1 .taken)
+    taken-large _ _ (q .1 .is) (omega (arith, c .if1 .taken))
 
 returns-2 : tie.Need-returns-2
 returns-2 c =
@@ -28,7 +29,7 @@ returns-4 c =
     let at-front : tie.After-front = search depth 0 in
     let at-load : tie.After-load = search depth 0 in
     let q = rw (at-front .front .given .1) at (at-load .load .ensures) in
-    (q .0, taken-fine _ _ (q .1) (c .if1 .left))
+    (q .0, taken-fine _ _ (q .1) (omega (arith, c .if1 .left)))
 
 pub read-resumption-spec : {M : Type 1} → statement M
 read-resumption-spec =

@@ -22,7 +22,8 @@ pub(super) fn cases() -> Vec<Case> {
     list.extend(waits());
     list.extend(entries());
     list.extend(counts());
-    list.extend(whole());
+    list.extend(cut());
+    list.extend(not_due());
     list.extend(budgets());
     list
 }
@@ -188,15 +189,10 @@ fn counts() -> Vec<Case> {
     ]
 }
 
-/// Fields that are missing, cut, out of order or behind the last one.
-fn whole() -> Vec<Case> {
+/// Fields that are missing or cut.
+fn cut() -> Vec<Case> {
     let record = second_turn().bytes();
     let cut = |name: &str, length: usize, place| refused(name, record[..length].to_vec(), place);
-    let joined = |name: &str, parts: &[&[u8]], place| refused(name, parts.concat(), place);
-    let budget = [2, 0, 4, 0, 0, 0, 9];
-    let (problem, state) = record.split_at(NEXT);
-    let (rule, entry) = (&record[RULE..ENTRY], &record[ENTRY..COUNT]);
-    let count = &record[COUNT..];
     vec![
         cut("empty", 0, 0),
         cut("a header cut", 2, 0),
@@ -208,30 +204,28 @@ fn whole() -> Vec<Case> {
         cut("no log", ENTRY, ENTRY),
         cut("no count", COUNT, COUNT),
         cut("the count cut", COUNT + 3, COUNT),
-        joined("a byte behind", &[&record, &[0]], COUNT + 4),
-        joined("the count twice", &[&record, count], COUNT + 4),
-        joined(
-            "a budget",
-            &[&record[..EQUATION], &budget, &record[EQUATION..]],
-            EQUATION,
-        ),
-        joined("no symbols", &[&record[EQUATION..]], 0),
-        joined("no problem", &[state], 0),
-        joined(
-            "an entry before a rule",
-            &[problem, &state[..5], entry, rule, count],
-            ENTRY + 2,
-        ),
-        joined(
-            "a count of no byte",
-            &[&record[..COUNT], &[0x22, 0, 0]],
-            COUNT,
-        ),
-        joined(
-            "a count of two bytes",
-            &[&record[..COUNT], &[0x22, 0, 2, 0, 0]],
-            COUNT,
-        ),
+    ]
+}
+
+/// Fields that are not due where they stand, or behind the last one.
+fn not_due() -> Vec<Case> {
+    let record = second_turn().bytes();
+    let joined = |name: &str, parts: &[&[u8]], place| refused(name, parts.concat(), place);
+    let budget = [2, 0, 4, 0, 0, 0, 9];
+    let (symbols, behind) = record.split_at(EQUATION);
+    let (before, count) = record.split_at(COUNT);
+    let (next, rule) = (&record[..RULE], &record[RULE..ENTRY]);
+    let entry = &record[ENTRY..COUNT];
+    let end = record.len();
+    vec![
+        joined("a byte behind", &[&record, &[0]], end),
+        joined("the count twice", &[&record, count], end),
+        joined("a budget", &[symbols, &budget, behind], EQUATION),
+        joined("no symbols", &[behind], 0),
+        joined("no problem", &[&record[NEXT..]], 0),
+        joined("an entry first", &[next, entry, rule, count], RULE + 11),
+        joined("a count of no byte", &[before, &[0x22, 0, 0]], COUNT),
+        joined("a count of two", &[before, &[0x22, 0, 2, 0, 0]], COUNT),
     ]
 }
 
