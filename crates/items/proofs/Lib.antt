@@ -7,3 +7,4 @@ pub mod Back
 pub mod Refusals
 pub mod Computes
 pub mod Writing
+pub mod Each

@@ -88,6 +88,6 @@ SavingDelivers problem result saved (Refused number place) = Unit {0}
 -- What `resume_saving` leaves of a record that the engine wrote, f being what its run had left: of the run that goes on in the state of f with the new
 -- budget; "16 .. never for one that the engine wrote". [21.18 to 21.21]
 unfoldable pub SavingRedelivers : List ℕ → ℕ → List ℕ → List ℕ → Left → Type 0
-SavingRedelivers record′ budget result saved (Written n m) = (T : Theory) (f : Finished) → EngineSaved T f record′ →
+SavingRedelivers kept budget result saved (Written n m) = (T : Theory) (f : Finished) → EngineSaved T f kept →
     Delivered T (run-from T (f .state) budget) (record { result = take n result; saved = take m saved })
-SavingRedelivers record′ budget result saved (Refused number place) = (T : Theory) (f : Finished) → EngineSaved T f record′ → number ≡ wrong-saved → ⊥
+SavingRedelivers kept budget result saved (Refused number place) = (T : Theory) (f : Finished) → EngineSaved T f kept → number ≡ wrong-saved → ⊥
