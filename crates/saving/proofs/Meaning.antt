@@ -24,14 +24,8 @@ use Rattle.state.specs.declared.State.{State}
 use Rattle.state.specs.Run.{Represents}
 use Rattle.state.proofs.Written.{rules-written, log-written}
 use Rattle.checkpoint.specs.Checkpoint.{Checkpoint, symbol-bytes, equation-field-of, waiting-field, checkpoint-fields, checkpoint-bytes}
+use Rattle.checkpoint.proofs.Items.{table-bytes}
 use Rattle.saving.specs.Saves.{waiting-slot, state-bytes, PutsEquations, Saves}
-
--- Field 01: two bytes a symbol.
-table-back : (tab : List ℕ) → length (symbols-of tab) + length (symbols-of tab) ≡ length tab → symbol-bytes (symbols-of tab) ≡ tab
-unfolding symbols-of symbol-bytes flatMap
-table-back [] even = refl
-table-back (a ∷ []) even = absurd (omega arith)
-table-back (a ∷ r ∷ tab) even = ap (λ (l : List ℕ). a ∷ r ∷ l) (table-back tab (omega arith))
 
 -- Fields 21.
 module _ (tab slots : List ℕ) where
@@ -65,7 +59,7 @@ module _ (tab : List ℕ) (st : State) (c : Checkpoint) (R : Represents tab st (
   next-is = omega (arith, R .made)
 
   symbols-are : Table tab → c .theory .symbols ≡ symbols-of tab → tab ≡ symbol-bytes (c .theory .symbols)
-  symbols-are T e = sym (ap symbol-bytes e ∙ table-back tab (T .even))
+  symbols-are T e = sym (ap symbol-bytes e ∙ table-bytes tab (λ odd. omega (arith, T .even)))
 
   bytes-are : (eqs : List ℕ) → tab ≡ symbol-bytes (c .theory .symbols) → eqs ≡ flatMap field-bytes (map equation-field-of (c .theory .equations)) →
       field-bytes (tagged 0x01 tab) ++ (eqs ++ state-bytes st) ≡ checkpoint-bytes c
