@@ -77,15 +77,12 @@ struct Saving<'c, 'e> {
 }
 
 impl Saving<'_, '_> {
-    /// The first record is resumed in all slices, further ones in each in turn.
+    /// Each record is resumed in all slices.
     fn run(&mut self, sliced: &Sliced) -> Result<(), Difference> {
         let whole = self.saving(&Call::CompleteSaving((&sliced.problem).into()))?;
-        let records = self.records(sliced)?;
-        let mut turns = sliced.slices.iter().cycle();
-        for (number, record) in records.iter().enumerate().step_by(step(&whole.result)) {
-            let count = if number == 0 { sliced.slices.len() } else { 1 };
-            for slices in turns.by_ref().take(count) {
-                let last = self.in_slices(record, *slices, &whole.result)?;
+        for record in self.records(sliced)? {
+            for slices in &sliced.slices {
+                let last = self.in_slices(&record, *slices, &whole.result)?;
                 self.decide(&sliced.problem, &last)?;
             }
         }
@@ -203,20 +200,6 @@ impl Saving<'_, '_> {
         }
         self.notes.push(question::note(answer));
         Ok(())
-    }
-}
-
-/// Runs of more units than this are long, and so many of their records are
-/// passed over for one that is resumed.
-const LONG_RUN: u32 = 2000;
-const PASSED_OVER: usize = 7;
-
-/// From one record that is resumed to the next.
-fn step(whole: &[u8]) -> usize {
-    let units = whole.get(7..11).and_then(|bytes| bytes.try_into().ok());
-    match units.map(u32::from_be_bytes) {
-        Some(units) if units > LONG_RUN => PASSED_OVER + 1,
-        _ => 1,
     }
 }
 
