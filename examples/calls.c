@@ -60,6 +60,8 @@ int main(void) {
     printf("decide: kind %u, number %u, value %u\n", vb_kind(decided), vb_number(decided), vb_value(decided));
     uint64_t cut = vb_decide(question, sizeof question, result, vb_value(kept) - 1);
     printf("cut record: kind %u, number %u, value %u\n", vb_kind(cut), vb_number(cut), vb_value(cut));
+    uint64_t outermost = vb_outermost(question, sizeof question, result, vb_value(kept));
+    printf("outermost: kind %u, number %u, value %u\n", vb_kind(outermost), vb_number(outermost), vb_value(outermost));
 
     const uint8_t *first = question + 19, *second = question + 24;
     uint64_t lower = vb_lower(question, 9, first, 5, second, 3);

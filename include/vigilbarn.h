@@ -1,16 +1,16 @@
 /* The proved calls, from C. Each takes a problem: `problem_bytes` bytes at `problem` (docs/FORMAT.md). It reads no others,
- * changes none of them, keeps no pointer, and calls nothing of C. `vb_decide` is lent a record beside it, of which the same holds; `vb_lower` is lent no
- * problem but three runs of bytes, and `vb_resume` and `vb_resume_saving` a saved record in the place of the problem, of which the same holds. These may
- * overlap.
+ * changes none of them, keeps no pointer, and calls nothing of C. `vb_decide` and `vb_outermost` are lent a record beside it, of which the same holds;
+ * `vb_lower` is lent no problem but three runs of bytes, and `vb_resume` and `vb_resume_saving` a saved record in the place of the problem, of which the
+ * same holds. These may overlap.
  *
  * A pointer must be valid for as many bytes as its length says, and a buffer that is written may overlap neither the bytes that are read nor another
  * such buffer. Nothing is taken from the heap; how much stack a call takes is measured, not proved (docs/ASSUMPTIONS.md): 1 MiB is enough for all that
  * is tested.
  *
  * An answer is one number. But for vb_subterm and vb_lower it has a kind in the bits from 48 up, the number of a refusal or an end (docs/FORMAT.md) in
- * bits 32 to 47, and a value in bits 0 to 31. No part is ever cut off: numbers are at most 22, a refusal's place at most 8,192 (of vb_decide 16,384, of
- * the calls that resume 49,152), counts of result bytes at most 13,726 and of a saved record's at most 17,781 (proved: crates/capi/proofs/Unpacked and
- * Resuming, over the Refusals of reading, problem, completion, record, checkpoint and decide).
+ * bits 32 to 47, and a value in bits 0 to 31. No part is ever cut off: numbers are at most 22, a refusal's place at most 8,192 (of vb_decide and
+ * vb_outermost 16,384, of the calls that resume 49,152), counts of result bytes at most 13,726 and of a saved record's at most 17,781, units at most
+ * 1,000,000 (proved: crates/capi/proofs/Unpacked and Resuming, over the Refusals of reading, problem, completion, record, checkpoint and decide).
  */
 #ifndef VIGILBARN_H
 #define VIGILBARN_H
@@ -57,6 +57,15 @@ uint64_t vb_unify(const uint8_t *problem, size_t problem_bytes, uint8_t *result,
  * value 1 exactly if that problem's equations lead from one side to the other, and 2 exactly if they do not. For any other record the answer speaks of
  * the record's rules only. */
 uint64_t vb_decide(const uint8_t *problem, size_t problem_bytes, const uint8_t *record, size_t record_bytes);
+
+/* As vb_decide, by rewriting from the outside in: a step at the earliest node in preorder that a rule matches, by the lowest rule there. Nothing is
+ * written.
+ * kind 0: refused, with the number and the place of vb_decide.
+ * kind 1: number 1 (same) or 2 (different), value the units paid, one a step.
+ * kind 3: number 21 (the problem's budget is spent) or 22 (a term is over 120 nodes), value the units paid.
+ * For a result as named at vb_decide, kind 1 has the number 1 exactly if that problem's equations lead from one side to the other, and 2 exactly if
+ * they do not: where both calls answer kind 1, they say the same. The units may differ, and one may answer kind 3 where the other does not. */
+uint64_t vb_outermost(const uint8_t *problem, size_t problem_bytes, const uint8_t *record, size_t record_bytes);
 
 /* The part of the problem's bytes that is the subterm at a position of the left side of its one equation.
  * 0: refused, and only that. Else bits 32 to 63 are the place of the part's first byte, and bits 0 to 31 how many bytes it has, which is above 0. */

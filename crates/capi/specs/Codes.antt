@@ -14,7 +14,7 @@ use Rattle.completion.specs.Promise.{Delivers}
 use Rattle.checkpoint.specs.Resume.{Left}
 use Rattle.checkpoint.specs.Wrote.{EngineSaved, Delivered}
 use Rattle.saving_calls.specs.Leaving.{Lengths}
-use Rattle.decide.specs.Decide.{Answer, are-same, are-different, numbered}
+use Rattle.decide.specs.Decide.{Answer, are-same, are-different, numbered, Counted}
 use Rattle.decide.specs.Answers.{WroteFor, Leads}
 use Rattle.lower.specs.declared.Which.{Which}
 use Rattle.lower.specs.declared.Which.the-variants.{First, Second, Neither}
@@ -52,6 +52,17 @@ decide-code (ok are-different) = code 1 0 2
 decide-code (ok (numbered n)) = code 3 n 0
 decide-code (refused n at) = code 0 n at
 
+-- outermost: kind 1 with the number 1 for "same" or 2 for "different", kind 3 with the number 21 or 22, and the units as the value; or kind 0 with the
+-- refusal's number and place [15.10]
+unfoldable pub counted-code : Answer → ℕ → ℕ
+counted-code are-same units = code 1 1 units
+counted-code are-different units = code 1 2 units
+counted-code (numbered n) units = code 3 n units
+
+unfoldable pub outermost-code : Reading Counted → ℕ
+outermost-code (ok c) = counted-code (c .answer) (c .units)
+outermost-code (refused n at) = code 0 n at
+
 -- complete_saving and resume_saving: kind 1 with the count of result bytes as the value and that of the saved record's as the number, or kind 0 with the
 -- refusal's number and place [15.9]
 unfoldable pub left-code : Reading Lengths → ℕ
@@ -87,11 +98,16 @@ start-in r = r / value-end
 unfoldable pub CodeDelivers : List ℕ → List ℕ → ℕ → Type 0
 CodeDelivers problem result r = kind-in r ≡ 1 → Delivers problem (take (value-in r) result)
 
--- What decide's answer is right about, for C: of a record that the engine wrote for a problem with the same symbol field, where the kind is 1, the value
--- is 1 exactly if that problem's equations lead from one side to the other, and 2 exactly if they do not. [15.7]
-pub record CodeDecides (problem kept : List ℕ) (r : ℕ) : Type 0 where
+-- What an answer is right about, for C: of a record that the engine wrote for a problem with the same symbol field, where the kind is 1, `said` is 1
+-- exactly if that problem's equations lead from one side to the other, and 2 exactly if they do not. It is the value of decide's answer [15.7] and the
+-- number of outermost's [15.11].
+pub record CodeDecides (said : ℕ → ℕ) (problem kept : List ℕ) (r : ℕ) : Type 0 where
   pub exactly : (w : WroteFor problem kept) → kind-in r ≡ 1 →
-      ((value-in r ≡ 1) ↔ Leads (w .theory) (w .asked)) × ((value-in r ≡ 2) ↔ (Leads (w .theory) (w .asked) → ⊥))
+      ((said r ≡ 1) ↔ Leads (w .theory) (w .asked)) × ((said r ≡ 2) ↔ (Leads (w .theory) (w .asked) → ⊥))
+
+-- Of such a record d, decide's answer, and o, outermost's, say the same where the kind of both is 1. [15.12]
+unfoldable pub CodesAgree : List ℕ → List ℕ → ℕ → ℕ → Type 0
+CodesAgree problem kept d o = WroteFor problem kept → kind-in d ≡ 1 → kind-in o ≡ 1 → value-in d ≡ number-in o
 
 -- What the calls that save and resume leave, for C: where the kind is 1, of as many bytes of the result as the value says and as many of the saved record
 -- as the number says. Of a saved record that the engine wrote the answer is not refusal 16. [15.9]

@@ -8,10 +8,11 @@ ghost use Rattle.completion.specs.Calls.{counted};
 ghost use Rattle.calls.specs.Answers.{unify-returns, subterm-refused};
 ghost use Rattle.checkpoint.specs.Resume.{resume-call, complete-saving-call, resume-saving-call, after-result, after-saved};
 ghost use Rattle.saving_calls.specs.Leaving.{left-told, lengths};
-ghost use Rattle.decide.specs.Decide.{decide-call};
+ghost use Rattle.decide.specs.Decide.{decide-call, outermost-call};
+ghost use Rattle.decide.specs.Answers.{without-units};
 ghost use Rattle.lower.specs.Lower.{which, lower-refused};
-ghost use Rattle.capi.specs.Codes.{code, answer-code, unify-code, decide-code, left-code, lower-code, part-code};
-ghost use Rattle.capi.specs.Codes.{CodeDelivers, CodeDecides, CodeSaves, CodeResumes, CodeResumesSaving};
+ghost use Rattle.capi.specs.Codes.{code, value-in, number-in, answer-code, unify-code, decide-code, outermost-code, left-code, lower-code, part-code};
+ghost use Rattle.capi.specs.Codes.{CodeDelivers, CodeDecides, CodesAgree, CodeSaves, CodeResumes, CodeResumesSaving};
 use saving_calls::Left;
 
 // The values of 32 bits, 2^32, which is what a number counts; and what a kind counts, 2^48.
@@ -63,17 +64,36 @@ pub extern "C" fn vb_subterm(problem: &[u8], position: usize) -> u64
     start as u64 % VALUES * VALUES + bytes as u64 % VALUES
 }
 
-// The second promise says of what the answer is right: of a record that the engine wrote.
+// The second promise says of what the answer is right: of a record that the engine wrote; the third, that outermost's answer does not contradict it.
 #[no_mangle]
 pub extern "C" fn vb_decide(problem: &[u8], kept: &[u8]) -> u64
-    ensures { λ r. ⌜ r ≡ decide-code (decide-call (now (problem .entry)) (now (kept .entry))) ⌝ }
-    ensures equations { λ r. ⌜ CodeDecides (now (problem .entry)) (now (kept .entry)) r ⌝ }
+    ensures { λ r. ⌜ r ≡ decide-code (without-units (decide-call (now (problem .entry)) (now (kept .entry)))) ⌝ }
+    ensures equations { λ r. ⌜ CodeDecides value-in (now (problem .entry)) (now (kept .entry)) r ⌝ }
+    ensures agrees { λ r. ⌜ CodesAgree (now (problem .entry)) (now (kept .entry)) r
+        (outermost-code (outermost-call (now (problem .entry)) (now (kept .entry)))) ⌝ }
 {
     match decide::decide(problem, kept) {
-        decide::Decided::Same => code(1, 0, 1),
-        decide::Decided::Different => code(1, 0, 2),
-        decide::Decided::Spent => code(3, rewriting::number(rewriting::End::Spent), 0),
-        decide::Decided::TooLarge => code(3, rewriting::number(rewriting::End::TooLarge), 0),
+        decide::Decided::Same(_) => code(1, 0, 1),
+        decide::Decided::Different(_) => code(1, 0, 2),
+        decide::Decided::Spent(_) => code(3, rewriting::number(rewriting::End::Spent), 0),
+        decide::Decided::TooLarge(_) => code(3, rewriting::number(rewriting::End::TooLarge), 0),
+        decide::Decided::Refused { number, place } => code(0, number, place),
+    }
+}
+
+// The same by the other strategy, with the units.
+#[no_mangle]
+pub extern "C" fn vb_outermost(problem: &[u8], kept: &[u8]) -> u64
+    ensures { λ r. ⌜ r ≡ outermost-code (outermost-call (now (problem .entry)) (now (kept .entry))) ⌝ }
+    ensures equations { λ r. ⌜ CodeDecides number-in (now (problem .entry)) (now (kept .entry)) r ⌝ }
+    ensures agrees { λ r. ⌜ CodesAgree (now (problem .entry)) (now (kept .entry))
+        (decide-code (without-units (decide-call (now (problem .entry)) (now (kept .entry))))) r ⌝ }
+{
+    match decide::outermost(problem, kept) {
+        decide::Decided::Same(units) => code(1, 1, units as usize),
+        decide::Decided::Different(units) => code(1, 2, units as usize),
+        decide::Decided::Spent(units) => code(3, rewriting::number(rewriting::End::Spent), units as usize),
+        decide::Decided::TooLarge(units) => code(3, rewriting::number(rewriting::End::TooLarge), units as usize),
         decide::Decided::Refused { number, place } => code(0, number, place),
     }
 }

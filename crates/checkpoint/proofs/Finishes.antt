@@ -16,7 +16,7 @@ use Rattle.order.specs.Order.{above}
 use Rattle.order.proofs.Decide.{above-dec}
 use Rattle.rewriting.specs.Overlap.{Rule, Overlap, Place, sides-of}
 use Rattle.rewriting.specs.Rewrite.{step, End, complete, neither-above, spent, too-large, rules-full, log-full, Paid, done, stop, Paying, return, end-with}
-use Rattle.rewriting.specs.Rewrite.{and-then, _>>=_, end-if, pay, hold, normalise, normalise-pair}
+use Rattle.rewriting.specs.Rewrite.{and-then, _>>=_, end-if, pay, hold, normalise, normalise-pair, normalise-by, both-by}
 use Rattle.rewriting.proofs.Relations.{Below, Of}
 use Rattle.rewriting.proofs.Stepping.{StepBy, step-sound}
 use Rattle.rewriting.proofs.Order.{order-ends}
@@ -118,17 +118,17 @@ module _ (rank : ℕ → ℕ) where
 
   module _ (rules : List Rule) (d : DownRules rules) where
     normalise-from : {t : Term} → Acc (Below (StepBy rules)) t → Ending (normalise rules t)
-    unfolding normalise
+    unfolding normalise-by
     normalise-from (Acc·intro t h) = go (step rules t) refl (λ u s. normalise-from (h u s))
       where
         go : (o : Option Term) → step rules t ≡ o → ((u : Term) → StepBy rules t u → Ending (normalise rules u)) → Ending (normalise rules t)
-        go none e ih = record { steady-is = normalise-steady rules t; units = 0; over = rw (e, normalise) tt }
+        go none e ih = record { steady-is = normalise-steady rules t; units = 0; over = rw (e, normalise-by) tt }
         go (some u) e ih =
             let k : Ending (normalise rules u) = ih u (step-sound rules t u e) in
             record {
               steady-is = normalise-steady rules t;
               units = suc (k .units);
-              over = rw (e, normalise) (if-over (ltb 120 (size u)) (stop too-large (k .units)) (normalise rules u (k .units)) tt (k .over));
+              over = rw (e, normalise-by) (if-over (ltb 120 (size u)) (stop too-large (k .units)) (normalise rules u (k .units)) tt (k .over));
             }
 
     -- "Normalising: while some rule's left side matches a node, rewrite." It ends.
@@ -136,7 +136,7 @@ module _ (rank : ℕ → ℕ) where
     normalise-ending t = normalise-from (order-ends (above-order rank) (λ l r i. above-dec rank l r .0 (of-every Down d l r i)) t)
 
     pair-ending : (e : Pair) → Ending (normalise-pair rules e)
-    unfolding normalise-pair
+    unfolding both-by
     pair-ending e = then-ending _ _ (normalise-ending (e .left)) λ l. then-ending _ _ (normalise-ending (e .right)) λ r. return-ending _
 
     overlap-ending : (o : Option Overlap) → Ending (scan-overlap rules o)

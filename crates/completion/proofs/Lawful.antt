@@ -11,7 +11,7 @@ use Rattle.terms.specs.Base.{if_then_else_}
 use Rattle.terms.specs.Term.{Term, Pair, same, size, renamed}
 use Rattle.rewriting.specs.Overlap.{Rule, Overlap, Place}
 use Rattle.rewriting.specs.Rewrite.{End, complete, neither-above, spent, too-large, rules-full, log-full, Paying, return, end-with, _>>=_, end-if}
-use Rattle.rewriting.specs.Rewrite.{pay, hold, normalise, normalise-pair}
+use Rattle.rewriting.specs.Rewrite.{pay, hold, normalise, normalise-pair, both-by}
 use Rattle.problem.specs.Problem.{Theory}
 use Rattle.completion.specs.Turn.{Origin, Candidate, State, Taken, scan-overlap, if-different, if-different-overlap, scan-inputs, scan}
 use Rattle.completion.specs.Turn.{take-pair, normalise-rights, if-oriented, make-rule, settled, end-if-all-put-back, turn}
@@ -47,7 +47,7 @@ module _ (L : (A : Type 0) → Paying A → Type 0) (k : Lawful L) where
   hold-lawful t = end-if-lawful (ltb 120 (size t)) too-large tt
 
   pair-lawful : (rules : List Rule) (e : Pair) → L Pair (normalise-pair rules e)
-  unfolding normalise-pair
+  unfolding both-by
   pair-lawful rules e =
       k .bound _ _ _ _ (k .normalised rules (e .left)) λ l.
       k .bound _ _ _ _ (k .normalised rules (e .right)) λ r.

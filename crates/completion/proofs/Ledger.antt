@@ -14,7 +14,7 @@ use Rattle.terms.specs.Term.{Term, Pair, same, size, pair-variables, renamed}
 use Rattle.terms.proofs.Every.{every-append}
 use Rattle.rewriting.specs.Overlap.{Rule, Overlap, overlap, Place, all-places}
 use Rattle.rewriting.specs.Rewrite.{step, End, complete, neither-above, too-large, rules-full, log-full, Paid, done, stop, Paying, return, end-with}
-use Rattle.rewriting.specs.Rewrite.{and-then, _>>=_, end-if, pay, hold, normalise, normalise-pair}
+use Rattle.rewriting.specs.Rewrite.{and-then, _>>=_, end-if, pay, hold, normalise, normalise-pair, normalise-by, both-by}
 use Rattle.problem.specs.Problem.{Theory}
 use Rattle.completion.specs.Turn.{Origin, Candidate, State, Taken, Finished, scan-overlap, if-different, if-different-overlap, scan-inputs, scan}
 use Rattle.completion.specs.Turn.{take-pair, orient, normalise-rights, if-oriented, make-rule, settled, end-if-all-put-back, turn, turns, run-from}
@@ -184,22 +184,22 @@ step-books rules t u left false p events e h =
     record { counted = omega arith; valid = of-cons e (h .valid) }
 
 pub normalise-books : (rules : List Rule) (t : Term) (left : ℕ) → Booked left (left-of (normalise rules t left)) (normalise-events rules t left)
-unfolding normalise normalise-events left-of
+unfolding normalise-by normalise-events left-of
 normalise-books rules t zero = go (step rules t) refl
   where
     go : (o : Option Term) → step rules t ≡ o → Booked zero (left-of (normalise rules t zero)) []
-    go none e = rw (e, normalise) (record { counted = refl; valid = of-none })
-    go (some u) e = rw (e, normalise) (record { counted = refl; valid = of-none })
+    go none e = rw (e, normalise-by) (record { counted = refl; valid = of-none })
+    go (some u) e = rw (e, normalise-by) (record { counted = refl; valid = of-none })
 normalise-books rules t (suc left) = go (step rules t) refl (λ u. normalise-books rules u left)
   where
     go : (o : Option Term) → step rules t ≡ o → ((u : Term) → Booked left (left-of (normalise rules u left)) (normalise-events rules u left)) →
         Booked (suc left) (left-of (normalise rules t (suc left))) (normalise-events rules t (suc left))
-    go none e ih = rw (e, normalise, normalise-events) (record { counted = omega arith; valid = of-none })
+    go none e ih = rw (e, normalise-by, normalise-events) (record { counted = omega arith; valid = of-none })
     go (some u) e ih =
-        rw (e, normalise, normalise-events) (step-books rules t u left (ltb 120 (size u)) (normalise rules u left) (normalise-events rules u left) e (ih u))
+        rw (e, normalise-by, normalise-events) (step-books rules t u left (ltb 120 (size u)) (normalise rules u left) (normalise-events rules u left) e (ih u))
 
 pair-books : (rules : List Rule) (e : Pair) → Books (normalise-pair rules e) (pair-events rules e)
-unfolding normalise-pair pair-events
+unfolding both-by pair-events
 pair-books rules e =
     bind-books (normalise rules (e .left)) _ (normalise-events rules (e .left)) _ (normalise-books rules (e .left)) λ l.
     last-books (normalise rules (e .right)) _ (normalise-events rules (e .right)) (normalise-books rules (e .right))

@@ -13,7 +13,7 @@ use Rattle.terms.specs.Term.{Term, size}
 use Rattle.problem.specs.Problem.{Theory}
 use Rattle.rewriting.specs.Overlap.{Rule}
 use Rattle.rewriting.specs.Rewrite.{step, End, complete, neither-above, spent, too-large, rules-full, log-full, Paid, done, stop, Paying, return}
-use Rattle.rewriting.specs.Rewrite.{end-with, and-then, _>>=_, pay, normalise}
+use Rattle.rewriting.specs.Rewrite.{end-with, and-then, _>>=_, pay, normalise, normalise-by}
 use Rattle.completion.proofs.Lawful.{Unless, Other, Lawful, turn-lawful}
 use Rattle.completion.specs.Turn.{State, turn}
 
@@ -71,26 +71,26 @@ if-grown true p q p′ q′ k h l = h
 if-grown false p q p′ q′ k h l = l
 
 pub normalise-steady : (rules : List Rule) (t : Term) (left k more : ℕ) → more ≡ left + k → WithMore (normalise rules t left) k (normalise rules t more)
-unfolding normalise
+unfolding normalise-by
 normalise-steady rules t zero k zero e = go (step rules t) refl
   where
     go : (o : Option Term) → step rules t ≡ o → WithMore (normalise rules t zero) k (normalise rules t zero)
-    go none q = rw (q, normalise) (ap (done t) e)
-    go (some u) q = rw (q, normalise) refl
+    go none q = rw (q, normalise-by) (ap (done t) e)
+    go (some u) q = rw (q, normalise-by) refl
 normalise-steady rules t zero k (suc more) e = go (step rules t) refl
   where
     go : (o : Option Term) → step rules t ≡ o → WithMore (normalise rules t zero) k (normalise rules t (suc more))
-    go none q = rw (q, normalise) (ap (done t) e)
-    go (some u) q = rw (q, normalise) refl
+    go none q = rw (q, normalise-by) (ap (done t) e)
+    go (some u) q = rw (q, normalise-by) refl
 normalise-steady rules t (suc left) k zero e = absurd (omega arith)
 normalise-steady rules t (suc left) k (suc more) e = go (step rules t) refl (λ u e. normalise-steady rules u left k more e)
   where
     go : (o : Option Term) → step rules t ≡ o → ((u : Term) → more ≡ left + k → WithMore (normalise rules u left) k (normalise rules u more)) →
         WithMore (normalise rules t (suc left)) k (normalise rules t (suc more))
-    go none q ih = rw (q, normalise) (ap (done t) e)
+    go none q ih = rw (q, normalise-by) (ap (done t) e)
     go (some u) q ih =
         let l : more ≡ left + k = omega arith in
-        rw (q, normalise) (if-grown (ltb 120 (size u)) (stop too-large left) (normalise rules u left) (stop too-large more) (normalise rules u more) k
+        rw (q, normalise-by) (if-grown (ltb 120 (size u)) (stop too-large left) (normalise rules u left) (stop too-large more) (normalise rules u more) k
         (ap (stop too-large) l) (ih u l))
 
 pub steady : Lawful (λ A m. Steady m)

@@ -10,7 +10,7 @@ use Rattle.terms.specs.Base.{if_then_else_}
 use Rattle.terms.specs.Term.{Term}
 use Rattle.problem.specs.Problem.{Theory}
 use Rattle.rewriting.specs.Overlap.{Rule}
-use Rattle.rewriting.specs.Rewrite.{step, End, Paid, done, stop, Paying, return, end-with, and-then, _>>=_, pay, normalise}
+use Rattle.rewriting.specs.Rewrite.{step, End, Paid, done, stop, Paying, return, end-with, and-then, _>>=_, pay, normalise, normalise-by}
 use Rattle.completion.proofs.Lawful.{Lawful, rest-lawful}
 use Rattle.completion.specs.Turn.{State, turn}
 
@@ -50,17 +50,17 @@ if-left true p q n f g = f
 if-left false p q n f g = g
 
 pub normalise-fair : (rules : List Rule) (t : Term) (left : ℕ) → left-of (normalise rules t left) ≤ left
-unfolding normalise left-of
+unfolding normalise-by left-of
 normalise-fair rules t zero = go (step rules t) refl
   where
     go : (o : Option Term) → step rules t ≡ o → left-of (normalise rules t zero) ≤ zero
-    go none e = rw (e, normalise) (omega arith)
-    go (some u) e = rw (e, normalise) (omega arith)
+    go none e = rw (e, normalise-by) (omega arith)
+    go (some u) e = rw (e, normalise-by) (omega arith)
 normalise-fair rules t (suc left) = go (step rules t) refl (λ u. normalise-fair rules u left)
   where
     go : (o : Option Term) → step rules t ≡ o → ((u : Term) → left-of (normalise rules u left) ≤ left) → left-of (normalise rules t (suc left)) ≤ suc left
-    go none e ih = rw (e, normalise) (omega arith)
-    go (some u) e ih = let h = ih u in rw (e, normalise) (if-left _ _ _ (suc left) (omega arith) (omega arith))
+    go none e ih = rw (e, normalise-by) (omega arith)
+    go (some u) e ih = let h = ih u in rw (e, normalise-by) (if-left _ _ _ (suc left) (omega arith) (omega arith))
 
 pub fair : Lawful (λ A m. Fair m)
 unfolding Fair

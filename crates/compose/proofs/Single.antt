@@ -55,7 +55,7 @@ right-put tab rules k right rules′ before old after x e only here h =
     (stored-moved tab rules rules′ (suc k) (suc k) after (λ i q. only .others (suc k + i) (λ d. omega arith)) t)))
 
 module _ (tab rules : List ℕ) (k count units : ℕ) (t out out′ : List ℕ) (o : Reached) (y : Layout rules count) (lower : k < count)
-    (is : t ≡ right-of (slot rules k)) (s : Normalised tab rules count t out out′ units o) where
+    (is : t ≡ right-of (slot rules k)) (s : Normalised normalise tab rules count t out out′ units o) where
   module _ (before : List Rule) (old : Rule) (after : List Rule) (h : Amid tab rules k count before old after) where
     here : PairAt most-variables tab rules k (old .sides)
     here = rule-here tab rules k count before old after h

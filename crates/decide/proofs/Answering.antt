@@ -1,10 +1,12 @@
 -- A record that the engine wrote for the same symbol field: "same" and "different" are right about the buyer's equations, 13 and 15 are not given, and
--- 14 exactly if the run did not end with 0. This rests on what a reader of kept results knows (`Kept`), and on nothing else of a run. Assumes nothing.
+-- 14 exactly if the run did not end with 0: by whichever strategy the terms are normalised. This rests on what a reader of kept results knows (`Kept`),
+-- and on nothing else of a run. Assumes nothing.
 -- Read first: specs/Answers, proofs/Right, completion/proofs/Promised (Kept), checkpoint/proofs/Delivers (engine-kept), record/proofs/RoundTrip.
-use mathlib.Core.Path.{_≡_, refl, sym, ap, ap₂, subst, subst₂, _∙_}
+use mathlib.Core.Path.{_≡_, refl, sym, ap, ap₂, subst₂, _∙_}
 use mathlib.Core.Bool.{Bool, true, false}
 use mathlib.Core.List.{List, [], _∷_}
 use mathlib.Core.Logic.{_↔_, _⊎_, ⊎-elim}
+use mathlib.Core.Option.{Option}
 use Prim.Native.Nat.{ℕ}
 use native.Mathlib.Omega.{arith}
 use lib.Dec.{eqb}
@@ -14,7 +16,8 @@ use Rattle.reading.specs.Stops.{wrong-record, not-complete, not-above}
 use Rattle.problem.specs.Problem.{Reading, ok, refused, _>>=_, refuse-if, Symbol, Theory}
 use Rattle.problem.proofs.Reading.{ok-injective, no-ok}
 use Rattle.rewriting.specs.Overlap.{Rule}
-use Rattle.rewriting.specs.Rewrite.{End, complete, neither-above, spent, too-large, rules-full, log-full, end-number, normalise-pair}
+use Rattle.rewriting.specs.Rewrite.{End, complete, neither-above, spent, too-large, rules-full, log-full, end-number}
+use Rattle.rewriting.proofs.Lasting.{Rewrites}
 use Rattle.completion.specs.Turn.{Finished}
 use Rattle.completion.specs.Calls.{Single}
 use Rattle.completion.specs.Keeps.{RulesKeep}
@@ -27,10 +30,10 @@ use Rattle.items.specs.Fields.{RuleAt, rules-of}
 use Rattle.items.specs.Readers.{rules-at}
 use Rattle.record.specs.Record.{read-record}
 use Rattle.record.proofs.RoundTrip.{record-back}
-use Rattle.decide.specs.Decide.{all-above, Question, read-question, Answer, are-same, are-different, answer, decide-call}
-use Rattle.decide.specs.Answers.{OneLast, TwoLasts, AboutRules, WroteFor, Leads, AboutEquations, NotRefused}
+use Rattle.decide.specs.Decide.{all-above, Question, read-question, Answer, are-same, are-different, ask, question-call}
+use Rattle.decide.specs.Answers.{without-units, OneLast, TwoLasts, WroteFor, Leads, AboutEquations, NotRefused}
 use Rattle.decide.proofs.Asked.{Asked, asked}
-use Rattle.decide.proofs.Right.{Told, Answered, answered, about-rules}
+use Rattle.decide.proofs.Right.{Told, Answered, reply, answered}
 
 -- 0 is the number of `complete` alone
 zero-end : (e : End) → Says (e ≡ complete) (eqb (end-number e) 0)
@@ -91,31 +94,6 @@ module _ (problem kept : List ℕ) (w : WroteFor problem kept) where
         let c = rules-decide .same-last (q .sides .left) (q .sides .right) u v (k .sides-over .0) (k .sides-over .1) l r in
         (λ e. subst₂ Led asked-symbols asked-sides (c .0 e), λ m. c .1 (subst₂ Led (sym asked-symbols) (sym asked-sides) m))
 
-  same-leads : decide-call problem kept ≡ ok are-same → Leads T S
-  unfolding Told
-  same-leads h =
-      let a : Answered problem kept are-same = answered problem kept are-same h in
-      let t : OneLast (a .question) = a .is-told in
-      last-exactly (a .question) (asked problem kept _ (a .is-question)) (t .term) (t .term) (t .left-last) (t .right-last) .0 refl
-
-  different-leads : decide-call problem kept ≡ ok are-different → Leads T S → ⊥
-  unfolding Told
-  different-leads h m =
-      let a : Answered problem kept are-different = answered problem kept are-different h in
-      let t : TwoLasts (a .question) = a .is-told in
-      t .differ (last-exactly (a .question) (asked problem kept _ (a .is-question)) (t .left-term) (t .right-term) (t .left-last) (t .right-last) .1 m)
-
-  not-both : decide-call problem kept ≡ ok are-same → decide-call problem kept ≡ ok are-different → ⊥
-  not-both h d = different-leads d (same-leads h)
-
-  equations-exactly : (decide-call problem kept ≡ ok are-same) ⊎ (decide-call problem kept ≡ ok are-different) →
-      ((decide-call problem kept ≡ ok are-same) ↔ Leads T S) × ((decide-call problem kept ≡ ok are-different) ↔ (Leads T S → ⊥))
-  equations-exactly h =
-      ⊎-elim
-      (λ e. ((λ _. same-leads e, λ _. e), (λ d. absurd (not-both e d), λ n. absurd (n (same-leads e)))))
-      (λ d. ((λ e. absurd (not-both e d), λ m. absurd (different-leads d m)), (λ _. different-leads d, λ _. d)))
-      h
-
   -- What the record is read as.
   abbrev rules-left : List RuleAt
   rules-left = rules-at 11 (f .state .rules)
@@ -127,50 +105,70 @@ module _ (problem kept : List ℕ) (w : WroteFor problem kept) where
   above-passed : all-above (S .symbols) rules-left ≡ ok tt
   above-passed = ap (λ Σ. all-above Σ rules-left) (sym (w .same-symbols)) ∙ keep-above (T .symbols) 11 0 (f .state .rules) (promise .keeps .rules-keep)
 
-  when-complete : eqb (end-number (f .end)) 0 ≡ true →
-      decide-call problem kept ≡ ok (answer (normalise-pair (rules-of rules-left) (S .equation .sides) (S .budget)))
-  unfolding decide-call read-question _>>=_ refuse-if
-  when-complete z = rw (w .is-asked) (rw record-read (rw z (rw above-passed refl)))
+  -- by the steps of a strategy
+  module _ (next : List Rule → Term → Option Term) (R : (rules : List Rule) → Rewrites rules (next rules)) where
+    abbrev said : Reading Answer
+    said = reply next problem kept
 
-  when-not : eqb (end-number (f .end)) 0 ≡ false → decide-call problem kept ≡ refused not-complete 0
-  unfolding decide-call read-question _>>=_ refuse-if
-  when-not z = rw (w .is-asked) (rw record-read (rw z refl))
+    pub same-leads : said ≡ ok are-same → Leads T S
+    unfolding Told
+    same-leads h =
+        let a : Answered problem kept are-same = answered next R problem kept are-same h in
+        let t : OneLast (a .question) = a .is-told in
+        last-exactly (a .question) (asked problem kept _ (a .is-question)) (t .term) (t .term) (t .left-last) (t .right-last) .0 refl
 
-  -- 13 and 15 are not given, and 14 as the run's end says
-  record ByEnd (r : Reading Answer) : Type 0 where
-    never : (place : ℕ) → (r ≡ refused wrong-record place → ⊥) × (r ≡ refused not-above place → ⊥)
-    unfinished : (r ≡ refused not-complete 0) ↔ (f .end ≡ complete → ⊥)
+    pub different-leads : said ≡ ok are-different → Leads T S → ⊥
+    unfolding Told
+    different-leads h m =
+        let a : Answered problem kept are-different = answered next R problem kept are-different h in
+        let t : TwoLasts (a .question) = a .is-told in
+        t .differ (last-exactly (a .question) (asked problem kept _ (a .is-question)) (t .left-term) (t .right-term) (t .left-last) (t .right-last) .1 m)
 
-  by-end : (b : Bool) → eqb (end-number (f .end)) 0 ≡ b → Says (f .end ≡ complete) b → ByEnd (decide-call problem kept)
-  by-end true z e =
-      rw (when-complete z)
-      (record {
-        never = λ place. (λ h. no-ok (sym h), λ h. no-ok (sym h));
-        unfinished = (λ h. absurd (no-ok (sym h)), λ n. absurd (n e));
-      })
-  by-end false z n =
-      rw (when-not z)
-      (record {
-        never = λ place. (λ h. let d : not-complete ≡ wrong-record = cc in omega arith, λ h. let d : not-complete ≡ not-above = cc in omega arith);
-        unfinished = (λ _. n, λ _. refl);
-      })
+    not-both : said ≡ ok are-same → said ≡ ok are-different → ⊥
+    not-both h d = different-leads d (same-leads h)
 
-  engine-end : ByEnd (decide-call problem kept)
-  engine-end = by-end _ refl (zero-end (f .end))
+    equations-exactly : (said ≡ ok are-same) ⊎ (said ≡ ok are-different) →
+        ((said ≡ ok are-same) ↔ Leads T S) × ((said ≡ ok are-different) ↔ (Leads T S → ⊥))
+    equations-exactly h =
+        ⊎-elim
+        (λ e. ((λ _. same-leads e, λ _. e), (λ d. absurd (not-both e d), λ n. absurd (n (same-leads e)))))
+        (λ d. ((λ e. absurd (not-both e d), λ m. absurd (different-leads d m)), (λ _. different-leads d, λ _. d)))
+        h
 
-pub about-equations : (problem kept : List ℕ) → AboutEquations problem kept (decide-call problem kept)
-about-equations problem kept = record { exactly = λ w. equations-exactly problem kept w }
+    when-complete : eqb (end-number (f .end)) 0 ≡ true →
+        said ≡ ok (ask next (record { symbols = S .symbols; budget = S .budget; sides = S .equation .sides; rules = rules-of rules-left }) .answer)
+    unfolding question-call read-question _>>=_ refuse-if without-units
+    when-complete z = rw (w .is-asked) (rw record-read (rw z (rw above-passed refl)))
 
-pub not-refused : (problem kept : List ℕ) → NotRefused problem kept (decide-call problem kept)
-not-refused problem kept = record { never = λ w. engine-end problem kept w .never; unfinished = λ w. engine-end problem kept w .unfinished }
+    when-not : eqb (end-number (f .end)) 0 ≡ false → said ≡ refused not-complete 0
+    unfolding question-call read-question _>>=_ refuse-if without-units
+    when-not z = rw (w .is-asked) (rw record-read (rw z refl))
 
--- What `decide` promises of an answer that is the definition's.
-pub laws : (problem kept : List ℕ) (r : Reading Answer) → r ≡ decide-call problem kept →
-    (r ≡ decide-call problem kept) × (AboutRules problem kept r × (AboutEquations problem kept r × NotRefused problem kept r))
-laws problem kept r e = (
-  e,
-  (
-    subst (AboutRules problem kept) (sym e) (about-rules problem kept),
-    (subst (AboutEquations problem kept) (sym e) (about-equations problem kept), subst (NotRefused problem kept) (sym e) (not-refused problem kept)),
-  ),
-)
+    -- 13 and 15 are not given, and 14 as the run's end said
+    record ByEnd (r : Reading Answer) : Type 0 where
+      never : (place : ℕ) → (r ≡ refused wrong-record place → ⊥) × (r ≡ refused not-above place → ⊥)
+      unfinished : (r ≡ refused not-complete 0) ↔ (f .end ≡ complete → ⊥)
+
+    by-end : (b : Bool) → eqb (end-number (f .end)) 0 ≡ b → Says (f .end ≡ complete) b → ByEnd said
+    by-end true z e =
+        rw (when-complete z)
+        (record {
+          never = λ place. (λ h. no-ok (sym h), λ h. no-ok (sym h));
+          unfinished = (λ h. absurd (no-ok (sym h)), λ n. absurd (n e));
+        })
+    by-end false z n =
+        rw (when-not z)
+        (record {
+          never = λ place. (λ h. let d : not-complete ≡ wrong-record = cc in omega arith, λ h. let d : not-complete ≡ not-above = cc in omega arith);
+          unfinished = (λ _. n, λ _. refl);
+        })
+
+    engine-end : ByEnd said
+    engine-end = by-end _ refl (zero-end (f .end))
+
+module _ (next : List Rule → Term → Option Term) (R : (rules : List Rule) → Rewrites rules (next rules)) (problem kept : List ℕ) where
+  pub about-equations : AboutEquations problem kept (reply next problem kept)
+  about-equations = record { exactly = λ w. equations-exactly problem kept w next R }
+
+  pub not-refused : NotRefused problem kept (reply next problem kept)
+  not-refused = record { never = λ w. engine-end problem kept w next R .never; unfinished = λ w. engine-end problem kept w next R .unfinished }

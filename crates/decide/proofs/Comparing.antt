@@ -1,100 +1,67 @@
--- `compare_right` and `compare_forms` by their returns: a side that comes to no normal form, equal forms, different forms. Assumes nothing.
--- Read first: specs/Asking (RightCompared, FormsCompared), normaliser/proofs/Outcomes.
-use mathlib.Core.Path.{_≡_, refl, sym, _∙_, ap}
+-- `stopped`, and `compare_forms` by what the two terms came to: equal last terms, different ones, or an end; with the units paid. Assumes nothing.
+-- Read first: specs/Asking (stopped-by, FormsCompared), joining/specs/Joins (SidesJoined).
+use mathlib.Core.Path.{_≡_, refl}
 use mathlib.Core.Bool.{Bool, true, false}
 use mathlib.Core.List.{List}
 use Prim.Native.Nat.{ℕ, _-_}
-use lib.ListN.{take}
 use Rattle.terms.specs.Base.{if_then_else_}
-use Rattle.terms.specs.Term.{Term, Pair, same}
-use Rattle.terms.proofs.Shape.{zero≢one}
+use Rattle.terms.specs.Term.{Pair, same}
 use Rattle.problem.specs.Problem.{ok}
-use Rattle.rewriting.specs.Overlap.{Rule}
-use Rattle.rewriting.specs.Rewrite.{End, end-number, done, stop, return, and-then, _>>=_, normalise, normalise-pair}
-use Rattle.normaliser.specs.Settled.{Normalised}
-use Rattle.normaliser.proofs.Stopping.{Stopped, Stopping, no-unit, no-room}
-use Rattle.normaliser.proofs.Outcomes.{no-form, normal-form, same-by}
-use Rattle.normaliser.specs.declared.Reached.{Reached}
-use Rattle.normaliser.specs.declared.Form.{Form}
-use Rattle.normaliser.specs.declared.Form.the-variants.{Normal as NormalForm, Spent as SpentForm, TooLarge as TooLargeForm}
-use Rattle.decide.specs.Decide.{are-same, are-different, numbered, answer}
+use Rattle.rewriting.specs.Rewrite.{End, complete, neither-above, spent, too-large, rules-full, log-full, end-number, Paid, done, stop}
+use Rattle.rewriting.specs.declared.End.{End as CodeEnd}
+use Rattle.rewriting.specs.declared.End.the-variants.{Complete, NeitherAbove, Spent as SpentEnd, TooLarge as TooLargeEnd, RulesFull, LogFull}
+use Rattle.joining.specs.Joins.{FoundStops, LastsAre, JoinIs, SidesJoined}
+use Rattle.joining.specs.declared.Strategy.{Strategy}
+use Rattle.joining.specs.declared.Walk.{Walk}
+use Rattle.joining.specs.declared.Found.{Found}
+use Rattle.joining.specs.declared.Found.the-variants.{Equal, Different as DifferentForms, Ends}
+use Rattle.decide.specs.Decide.{are-same, are-different, numbered, answer, units-paid, counted}
 use Rattle.decide.specs.Answers.{decided-told}
-use Rattle.decide.specs.Asking.{with-left, RightCompared, FormsCompared}
+use Rattle.decide.specs.Asking.{stopped-by, FormsCompared}
 use Rattle.decide.specs.declared.Decided.{Decided}
-use Rattle.decide.specs.declared.Decided.the-variants.{Same, Different, Spent, TooLarge}
+use Rattle.decide.specs.declared.Decided.the-variants.{Same, Different, TooLarge}
 
--- what is answered where a side comes to no normal form
-abbrev ending : Form → Decided
-ending (NormalForm n) = TooLarge
-ending SpentForm = Spent
-ending TooLargeForm = TooLarge
+-- `stopped`
+pub other-end : (e : CodeEnd) (paid : ℕ) → (e ≡ SpentEnd → ⊥) → TooLarge paid ≡ stopped-by e paid
+unfolding stopped-by
+other-end SpentEnd paid n = absurd (n refl)
+other-end Complete paid n = refl
+other-end NeitherAbove paid n = refl
+other-end TooLargeEnd paid n = refl
+other-end RulesFull paid n = refl
+other-end LogFull paid n = refl
 
-ending-told : (x : End) (f : Form) → Stopping x f → decided-told (ending f) ≡ ok (numbered (end-number x))
-unfolding decided-told end-number
-ending-told x f (no-unit i h) = rw (h, i) refl
-ending-told x f (no-room i h) = rw (h, i) refl
+-- what is answered, by what the terms came to and the units paid
+abbrev pub decided : Found → ℕ → Decided
+decided Equal paid = Same paid
+decided DifferentForms paid = Different paid
+decided (Ends end) paid = stopped-by end paid
 
--- what the definition answers, by what the sides come to
-module _ (rs : List Rule) (u : ℕ) where
-  right-stops : (l t : Term) (x : End) (v : ℕ) → normalise rs t u ≡ stop x v → answer (with-left rs l t u) ≡ numbered (end-number x)
-  unfolding with-left _>>=_ and-then answer
-  right-stops l t x v q = rw q refl
+module _ (tab one : List ℕ) (f : Found) (paid : ℕ) where
+  lasts-told : (p : Pair) (b : Bool) → LastsAre tab one f p b →
+      decided-told (decided f paid) ≡ ok (record { answer = if b then are-same else are-different; units = paid })
+  unfolding if_then_else_ decided-told
+  lasts-told p true h = rw h refl
+  lasts-told p false h = rw (h .0) refl
 
-  right-is : (l t y : Term) (v : ℕ) → normalise rs t u ≡ done y v → answer (with-left rs l t u) ≡ (if same l y then are-same else are-different)
-  unfolding with-left _>>=_ and-then return answer
-  right-is l t y v q = rw q refl
+  end-told : (x : End) → FoundStops x f → decided-told (decided f paid) ≡ ok (record { answer = numbered (end-number x); units = paid })
+  unfolding stopped-by decided-told end-number
+  end-told spent h = rw h refl
+  end-told too-large h = rw h refl
+  end-told complete h = absurd h
+  end-told neither-above h = absurd h
+  end-told rules-full h = absurd h
+  end-told log-full h = absurd h
 
-  left-stops : (e : Pair) (x : End) (v : ℕ) → normalise rs (e .left) u ≡ stop x v → answer (normalise-pair rs e u) ≡ numbered (end-number x)
-  unfolding normalise-pair _>>=_ and-then answer
-  left-stops e x v q = rw q refl
+join-told : (tab one : List ℕ) (budget : ℕ) (w : Walk) (p : Paid Pair) → JoinIs tab one w p →
+    decided-told (decided (w .found) (budget - w .units)) ≡ ok (counted budget p)
+unfolding counted answer units-paid
+join-told tab one budget w (done p left) h = rw (h .0) (lasts-told tab one (w .found) (budget - left) p (same (p .left) (p .right)) (h .1))
+join-told tab one budget w (stop x left) h = rw (h .0) (end-told tab one (w .found) (budget - left) x (h .1))
 
-  left-is : (e : Pair) (y : Term) (v : ℕ) → normalise rs (e .left) u ≡ done y v → normalise-pair rs e u ≡ with-left rs y (e .right) v
-  unfolding normalise-pair with-left _>>=_ and-then
-  left-is e y v q = rw q refl
-
--- a side that was normalised
-module _ {tab rules : List ℕ} {count : ℕ} {t out out′ : List ℕ} {units : ℕ} {r : Reached} (hr : Normalised tab rules count t out out′ units r) where
-  -- it came to no normal form
-  module _ (f : Form) (s : Stopped f) (g : r .form ≡ f) where
-    pub right-ends : {first : List ℕ} → RightCompared tab rules count first t units (ending f)
-    right-ends = record {
-      is = λ rs st ct l x wl wx bl bx.
-          no-form hr f s g _ (hr .answer rs st ct x wx bx) λ z k q h _. ending-told z f h ∙ ap ok (sym (right-stops rs units l x z k q));
-    }
-
-    pub left-ends : {right : List ℕ} → FormsCompared tab rules count t right units (ending f)
-    left-ends = record {
-      is = λ rs st ct e S.
-          no-form hr f s g _ (hr .answer rs st ct (e .left) (S .left-wf) (S .left-bytes)) λ z k q h _.
-          ending-told z f h ∙ ap ok (sym (left-stops rs units e z k q));
-    }
-
-  -- it came to a normal form of n bytes
-  module _ {n : ℕ} (g : r .form ≡ NormalForm n) where
-    module _ {first : List ℕ} where
-      pub right-same : (b : Bool) → b ≡ true → (b ≡ true → first ≡ take (n - 0) out′) → RightCompared tab rules count first t units Same
-      unfolding decided-told if_then_else_
-      right-same b i agree = record {
-        is = λ rs st ct l x wl wx bl bx.
-            normal-form hr g _ (hr .answer rs st ct x wx bx) λ y k q _ by wy.
-            let s : same l y ≡ true = same-by tab l y wl wy bl by true (λ _. agree i) (λ _. refl) in
-            ap ok (sym (right-is rs units l x y k q ∙ rw s refl));
-      }
-
-      pub right-differs : (b : Bool) → b ≡ false → (first ≡ take (n - 0) out′ → b ≡ true) → RightCompared tab rules count first t units Different
-      unfolding decided-told if_then_else_
-      right-differs b i agreed = record {
-        is = λ rs st ct l x wl wx bl bx.
-            normal-form hr g _ (hr .answer rs st ct x wx bx) λ y k q _ by wy.
-            let s : same l y ≡ false = same-by tab l y wl wy bl by false (λ z. absurd (zero≢one (cc))) (λ z. sym i ∙ agreed z) in
-            ap ok (sym (right-is rs units l x y k q ∙ rw s refl));
-      }
-
-    pub left-form : {right : List ℕ} {d : Decided} → RightCompared tab rules count (take (n - 0) out′) right (units - r .paid) d →
-        FormsCompared tab rules count t right units d
-    left-form R = record {
-      is = λ rs st ct e S.
-          normal-form hr g _ (hr .answer rs st ct (e .left) (S .left-wf) (S .left-bytes)) λ y k q z by wy.
-          R .is rs st ct y (e .right) wy (S .right-wf) by (S .right-bytes)
-          ∙ ap (λ m. ok (answer m)) (sym (left-is rs units e y k q ∙ ap (with-left rs y (e .right)) z));
-    }
+-- `compare_forms`
+pub forms-compared : {strategy : Strategy} {tab rules : List ℕ} {count : ℕ} {left right one one′ : List ℕ} {budget : ℕ} {w : Walk} →
+    SidesJoined strategy tab rules count left right one one′ budget w → (f : Found) → w .found ≡ f →
+    FormsCompared strategy tab rules count left right budget (decided f (budget - w .units))
+forms-compared {tab = tab} {one′ = one′} {budget = budget} {w = w} J f e =
+    record { is = λ rs st ct p S. rw (← e) (join-told tab one′ budget w _ (J .answer rs st ct p S)) }

@@ -1,6 +1,8 @@
 pub mod Asked
 pub mod Right
 pub mod Answering
+pub mod Agreeing
+pub mod Units
 pub mod Refusals
 mod Comparing
 mod Downward

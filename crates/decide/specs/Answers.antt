@@ -1,4 +1,5 @@
--- Document 02, Three: what the answers "same" and "different" are right about, said of the bytes that are lent. Assumes nothing.
+-- Document 02, Three and Eight: what the answers "same" and "different" are right about, and that the two strategies come to the same last terms on
+-- delivered rule sets, said of the bytes that are lent. Assumes nothing.
 -- Read first: Decide, completion/specs/Delivery (Step, Replacement, Many, Last), checkpoint/specs/Wrote (EngineWrote).
 use mathlib.Core.Path.{_≡_}
 use mathlib.Core.List.{List}
@@ -7,22 +8,29 @@ use Prim.Native.Nat.{ℕ}
 use Rattle.terms.specs.Term.{Term}
 use Rattle.reading.specs.Stops.{wrong-record, not-complete, not-above}
 use Rattle.problem.specs.Problem.{Reading, ok, refused, Theory}
-use Rattle.rewriting.specs.Rewrite.{complete}
+use Rattle.problem.specs.Over.{Over}
+use Rattle.rewriting.specs.Rewrite.{complete, done, normalise}
+use Rattle.rewriting.specs.Outermost.{normalise-outer}
 use Rattle.completion.specs.Turn.{Finished}
 use Rattle.completion.specs.Delivery.{Replacement, Many, Last}
 use Rattle.completion.specs.Calls.{Single, parse-single}
 use Rattle.checkpoint.specs.Wrote.{EngineWrote}
-use Rattle.decide.specs.Decide.{Question, read-question, Answer, are-same, are-different, numbered}
+use Rattle.decide.specs.Decide.{Question, read-question, Answer, are-same, are-different, numbered, Counted, decide-call, outermost-call}
 use Rattle.decide.specs.declared.Decided.{Decided}
 use Rattle.decide.specs.declared.Decided.the-variants.{Same, Different, Spent, TooLarge, Refused}
 
--- "answers same, different, 21 or 22", or the refusal's number and place [18.12, 18.13]
-unfoldable pub decided-told : Decided → Reading Answer
-decided-told Same = ok are-same
-decided-told Different = ok are-different
-decided-told Spent = ok (numbered 21)
-decided-told TooLarge = ok (numbered 22)
+-- "answers same, different, 21 or 22 .., and adds the units it paid", or the refusal's number and place [18.12, 18.13, 22.5]
+unfoldable pub decided-told : Decided → Reading Counted
+decided-told (Same n) = ok (record { answer = are-same; units = n })
+decided-told (Different n) = ok (record { answer = are-different; units = n })
+decided-told (Spent n) = ok (record { answer = numbered 21; units = n })
+decided-told (TooLarge n) = ok (record { answer = numbered 22; units = n })
 decided-told (Refused number place) = refused number place
+
+-- the answer without the units
+unfoldable pub without-units : Reading Counted → Reading Answer
+without-units (ok c) = ok (c .answer)
+without-units (refused number place) = refused number place
 
 -- both terms have one last term by the record's rules
 pub record OneLast (q : Question) : Type 0 where
@@ -68,3 +76,17 @@ pub record AboutEquations (problem kept : List ℕ) (r : Reading Answer) : Type 
 pub record NotRefused (problem kept : List ℕ) (r : Reading Answer) : Type 0 where
   pub never : WroteFor problem kept → (place : ℕ) → (r ≡ refused wrong-record place → ⊥) × (r ≡ refused not-above place → ⊥)
   pub unfinished : (w : WroteFor problem kept) → (r ≡ refused not-complete 0) ↔ (w .left .end ≡ complete → ⊥)
+
+-- an answer that compares: "same" or "different"
+abbrev pub Compares : Answer → Type 0
+Compares are-same = Unit {0}
+Compares are-different = Unit {0}
+Compares (numbered n) = ⊥
+
+-- "For every rule set delivered as complete, the two engines give the same last term whenever both stay inside 120 nodes and their budgets." [22.7] So
+-- the two calls never contradict each other on one question. [22.8]
+pub record Agrees (problem kept : List ℕ) : Type 0 where
+  pub last-terms : (T : Theory) (f : Finished) → EngineWrote T f kept → f .end ≡ complete → (t u v : Term) (budget left budget′ left′ : ℕ) →
+      Over (T .symbols) t → normalise (f .state .rules) t budget ≡ done u left → normalise-outer (f .state .rules) t budget′ ≡ done v left′ → u ≡ v
+  pub answers : WroteFor problem kept → (a b : Counted) → decide-call problem kept ≡ ok a → outermost-call problem kept ≡ ok b →
+      Compares (a .answer) → Compares (b .answer) → a .answer ≡ b .answer

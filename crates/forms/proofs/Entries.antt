@@ -10,8 +10,8 @@ use Rattle.terms.specs.Base.{if_then_else_}
 use Rattle.terms.proofs.Shape.{zero≢one}
 use Rattle.rewriting.specs.declared.End.{End as Ending}
 use Rattle.rewriting.specs.declared.End.the-variants.{Complete, LogFull}
-use Rattle.forms.specs.declared.Found.{Found}
-use Rattle.forms.specs.declared.Found.the-variants.{Equal, Different, Ends}
+use Rattle.joining.specs.declared.Found.{Found}
+use Rattle.joining.specs.declared.Found.the-variants.{Equal, Different, Ends}
 use Rattle.forms.specs.declared.Due.{Due}
 use Rattle.forms.specs.declared.Due.the-variants.{Stop, Settle, Make}
 use Rattle.forms.specs.Forms.{with-room, due-after}

@@ -7,18 +7,18 @@ use lib.Dec.{leb}
 use lib.ListN.{length}
 use Rattle.limits.specs.Limits.{most-variables, most-apart, most-entries}
 use Rattle.terms.specs.Base.{if_then_else_}
-use Rattle.terms.specs.Term.{Term, Pair, term-bytes}
-use Rattle.terms.specs.Flat.{Wf}
+use Rattle.terms.specs.Term.{Pair}
 use Rattle.rewriting.specs.Overlap.{Rule, sides-of}
-use Rattle.rewriting.specs.Rewrite.{spent, too-large, done, stop, Paying, _>>=_, normalise, normalise-pair}
+use Rattle.rewriting.specs.Rewrite.{spent, too-large, done, stop, Paying, _>>=_, normalise-pair}
 use Rattle.rewriting.specs.declared.End.the-variants.{Complete, Spent, TooLarge, LogFull}
 use Rattle.completion.specs.Turn.{Origin, Candidate, if-different}
 use Rattle.completion.specs.Calls.{origin-bytes}
-use Rattle.slots.specs.Slots.{slot, mark-of, Layout, PairAt, Stored, KeptSlot}
-use Rattle.forms.specs.declared.Walk.{Walk}
+use Rattle.slots.specs.Slots.{slot, mark-of, Layout, PairAt, Stored}
+use Rattle.joining.specs.Joins.{WalkRoom}
+use Rattle.joining.specs.declared.Walk.{Walk}
 use Rattle.forms.specs.declared.Taken.{Taken}
-use Rattle.forms.specs.declared.Found.{Found}
-use Rattle.forms.specs.declared.Found.the-variants.{Equal, Different, Ends}
+use Rattle.joining.specs.declared.Found.{Found}
+use Rattle.joining.specs.declared.Found.the-variants.{Equal, Different, Ends}
 use Rattle.forms.specs.declared.Due.{Due}
 use Rattle.forms.specs.declared.Due.the-variants.{Stop, Settle, Make}
 
@@ -26,16 +26,11 @@ use Rattle.forms.specs.declared.Due.the-variants.{Stop, Settle, Make}
 abbrev pub ScanPart : Type 0
 ScanPart = Paying Candidate → Paying Candidate
 
--- a pair's two normal forms are compared; the right one with a left one that is known
+-- a pair's two normal forms are compared
 unfoldable pub compared : List Rule → Origin → Pair → ScanPart
 compared rules origin e next = do
   forms ← normalise-pair rules e
   if-different origin forms next
-
-unfoldable pub compared-right : List Rule → Origin → Term → Term → ScanPart
-compared-right rules origin l t next = do
-  r ← normalise rules t
-  if-different origin (record { left = l; right = r }) next
 
 -- The pair that was found stands in a slot: its forms, and where it came from.
 pub record Shows (tab one : List ℕ) (c : Candidate) : Type 0 where
@@ -48,18 +43,6 @@ pub data Walked (tab one : List ℕ) (d : ScanPart) (u : ℕ) (w : Walk) : Type 
   short : w .found ≡ Ends Spent → ((next : Paying Candidate) → d next u ≡ stop spent (w .units)) → Walked tab one d u w
   large : w .found ≡ Ends TooLarge → ((next : Paying Candidate) → d next u ≡ stop too-large (w .units)) → Walked tab one d u w
   on : w .found ≡ Equal → ((next : Paying Candidate) → d next u ≡ next (w .units)) → Walked tab one d u w
-
--- what every answer has
-pub record WalkRoom (one one′ : List ℕ) (units : ℕ) (w : Walk) : Type 0 where
-  pub kept : KeptSlot one one′
-  pub left-over : w .units ≤ units
-
--- `join_right`: the left form is known
-pub record RightWalk (tab rules : List ℕ) (count : ℕ) (first t one one′ : List ℕ) (units : ℕ) (w : Walk) : Type 0 where
-  pub room : WalkRoom one one′ units w
-  pub answer : (rs : List Rule) → Stored tab rules 0 (sides-of rs) → count ≡ length rs →
-      (o : Origin) (l x : Term) → mark-of (slot one 0) ≡ origin-bytes o → Wf most-apart tab l → Wf most-apart tab x → first ≡ term-bytes l → t ≡ term-bytes x →
-      Walked tab one′ (compared-right rs o l x) units w
 
 -- `join`: the pair in slot k of a list
 pub record PairWalk (tab list : List ℕ) (k : ℕ) (rules : List ℕ) (count : ℕ) (one one′ : List ℕ) (units : ℕ) (w : Walk) : Type 0 where

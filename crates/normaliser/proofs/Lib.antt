@@ -1,5 +1,4 @@
 pub mod Sequence
-pub mod Parts
 pub mod Settling
 pub mod Together
 pub mod Loading

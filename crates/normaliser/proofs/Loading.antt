@@ -1,23 +1,12 @@
--- `load` and `unload`: bytes as cells one after the other, and the cells' bytes back. Assumes nothing.
--- Read first: matching/specs/Cells (node-bytes), matching/proofs/Filling (Pasted).
-use mathlib.Core.Path.{_≡_, refl, sym, _∙_, ap, ap₂, subst}
-use mathlib.Core.List.{List, [], _∷_, _++_}
-use Prim.Native.Nat.{ℕ, zero, suc, _+_, _%_, _<_, _≤_}
+-- `load` and `unload`: one element after the other to the front of a buffer. Assumes nothing.
+-- Read first: matching/proofs/Filling (Pasted).
+use mathlib.Core.Path.{_≡_, sym, _∙_, ap, ap₂, subst}
+use mathlib.Core.List.{List, _++_}
+use Prim.Native.Nat.{ℕ, _+_, _<_, _≤_}
 use native.Mathlib.Omega.{arith}
-use lib.ListN.{length, length-map, getD, drop, set}
+use lib.ListN.{length, getD, drop, set}
 use lib.Seq.{take-all}
-use Rattle.matching.specs.Cells.{node-bytes}
 use Rattle.matching.proofs.Filling.{Pasted, paste-start, paste-more}
-
-pub bytes-length : (l : List ℕ) → length (node-bytes l) ≡ length l
-unfolding node-bytes
-bytes-length l = length-map l (λ c. c % 256)
-
-pub bytes-at : (l : List ℕ) (i : ℕ) → i < length l → getD (node-bytes l) i 0 ≡ getD l i 0 % 256
-unfolding node-bytes
-bytes-at [] i h = absurd (omega arith)
-bytes-at (c ∷ l) zero h = refl
-bytes-at (c ∷ l) (suc i) h = bytes-at l i (omega arith)
 
 pub load-start : (d s : List ℕ) → length s ≤ length d → Pasted d 0 s d 0
 load-start d s h = paste-start d 0 s (omega arith)

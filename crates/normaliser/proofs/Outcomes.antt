@@ -11,7 +11,8 @@ use Rattle.terms.specs.Term.{Term, same, size, term-bytes}
 use Rattle.terms.specs.Flat.{Wf}
 use Rattle.terms.proofs.Flats.{unique}
 use Rattle.terms.proofs.Shape.{same-dec}
-use Rattle.rewriting.specs.Rewrite.{End, Paid, done, stop}
+use Rattle.rewriting.specs.Overlap.{Rule}
+use Rattle.rewriting.specs.Rewrite.{End, Paid, done, stop, Paying}
 use Rattle.matching.proofs.Replacing.{take-less-zero}
 use Rattle.normaliser.specs.Settled.{FormStops, SmallForm, NormalIs, Normalised}
 use Rattle.normaliser.specs.declared.Reached.{Reached}
@@ -19,7 +20,9 @@ use Rattle.normaliser.specs.declared.Form.{Form}
 use Rattle.normaliser.specs.declared.Form.the-variants.{Normal as NormalForm}
 use Rattle.normaliser.proofs.Stopping.{Stopped, Stopping, stopping, stopped-form}
 
-module _ {tab rules : List ℕ} {count : ℕ} {t out out′ : List ℕ} {units : ℕ} {r : Reached} (hr : Normalised tab rules count t out out′ units r) where
+-- a side that was normalised, by whichever strategy
+module _ {by : List Rule → Term → Paying Term} {tab rules : List ℕ} {count : ℕ} {t out out′ : List ℕ} {units : ℕ} {r : Reached}
+    (hr : Normalised by tab rules count t out out′ units r) where
   -- it came to no normal form
   pub no-form : {A : Type 0} (f : Form) → Stopped f → r .form ≡ f → (p : Paid Term) → NormalIs tab out′ units r p →
       ((x : End) (k : ℕ) → p ≡ stop x k → Stopping x f → k ≡ units - r .paid → A) → A

@@ -11,7 +11,7 @@ use Rattle.limits.specs.Limits.{most-nodes}
 use Rattle.terms.specs.Base.{if_then_else_, mapped, or-else}
 use Rattle.terms.specs.Term.{Term, Terms, var, node, nil, cons, size, sizes}
 use Rattle.rewriting.specs.Overlap.{Rule}
-use Rattle.rewriting.specs.Rewrite.{step, step-in, root-step, Paid, done, stop, spent, too-large, Paying, and-then, normalise}
+use Rattle.rewriting.specs.Rewrite.{step, step-in, root-step, Paid, done, stop, spent, too-large, Paying, and-then, normalise, normalise-by}
 use Rattle.rewriting.proofs.Holds.{stop≢done}
 use Rattle.normaliser.specs.Inside.{pay-for, iterate, normalise-in, normalise-all}
 
@@ -156,15 +156,15 @@ normalise-cons rules big t ts left =
 
 -- the whole
 pub normalise-whole : (rules : List Rule) (left : ℕ) (t : Term) → normalise-in rules (ltb most-nodes) t left ≡ normalise rules t left
-unfolding normalise iterate pay-for
+unfolding normalise-by iterate pay-for
 normalise-whole rules zero t = go (step rules t) refl
   where
     go : (o : Option Term) → step rules t ≡ o → normalise-in rules (ltb most-nodes) t zero ≡ normalise rules t zero
-    go none e = rw (e, normalise, iterate, pay-for)
-    go (some u) e = rw (e, normalise, iterate, pay-for)
+    go none e = rw (e, normalise-by, iterate, pay-for)
+    go (some u) e = rw (e, normalise-by, iterate, pay-for)
 normalise-whole rules (suc left) t = go (step rules t) refl (λ u. normalise-whole rules left u)
   where
     go : (o : Option Term) → step rules t ≡ o → ((u : Term) → normalise-in rules (ltb most-nodes) u left ≡ normalise rules u left) →
         normalise-in rules (ltb most-nodes) t (suc left) ≡ normalise rules t (suc left)
-    go none e ih = rw (e, normalise, iterate, pay-for)
-    go (some u) e ih = rw (e, normalise, iterate, pay-for) (ap (λ p. if ltb most-nodes (size u) then stop too-large left else p) (ih u))
+    go none e ih = rw (e, normalise-by, iterate, pay-for)
+    go (some u) e ih = rw (e, normalise-by, iterate, pay-for) (ap (λ p. if ltb most-nodes (size u) then stop too-large left else p) (ih u))

@@ -1,5 +1,5 @@
 -- The turns of `normalise_in`: normalising the term at hand, with the units left, comes to what was asked; and a lemma for each return. Assumes nothing.
--- Read first: specs/Settled (Settled), redex/specs/Step (CellsHold, RewritesRoot), redex/specs/Marks, proofs/Sequence, proofs/Parts.
+-- Read first: specs/Settled (Settled), redex/specs/Step (CellsHold, RewritesRoot), redex/specs/Marks, proofs/Sequence, redex/proofs/Parts.
 use mathlib.Core.Path.{_≡_, refl, sym, _∙_, ap, ap₂, subst}
 use mathlib.Core.Bool.{Bool, true, false}
 use mathlib.Core.List.{List, [], _∷_, _++_}
@@ -9,6 +9,7 @@ use Prim.Native.Nat.{ℕ, zero, suc, _+_, _-_, _*_, _/_, _%_, _<_, _≤_}
 use native.Mathlib.Omega.{arith}
 use native.Mathlib.Nat.{mod-eq-of-lt}
 use lib.Dec.{ltb}
+use borrow.Author.Tests.{lt-ltb, le-ltb, ltb-true, ltb-false}
 use lib.ListN.{length, getD, drop, take, length-append, length-take}
 use lib.Seq.{take-take}
 use Rattle.limits.specs.Limits.{most-nodes, most-apart}
@@ -34,8 +35,7 @@ use Rattle.redex.specs.declared.Step.the-variants.{Normal, Rewritten, Spent, To
 use Rattle.normaliser.specs.Settled.{CellsHoldAll, LeftNormal, StepStops, EndsWith, EndsAll, Limit, Settled, SettledAll}
 use Rattle.normaliser.proofs.Sequence.{at-root, iterate-normal, normalise-normal, normalise-var, normalise-node, normalise-nil}
 use Rattle.redex.proofs.Marking.{marked-length}
-use Rattle.redex.proofs.Choosing.{head-of}
-use Rattle.normaliser.proofs.Parts.{back, from-take, back-length, back-take, ltb-less}
+use Rattle.redex.proofs.Parts.{head-of, back, from-take, back-length, back-take}
 
 -- `leave`
 pub leave-long : {c len units e : ℕ} {o : Out} → o ≡ out NoTerm units len 0 → e ≡ c / 256 → len < e → LeftNormal c len units o
@@ -54,6 +54,14 @@ stops-not spent h z = zero≢one (cc)
 stops-not too-large h z = zero≢one (cc)
 stops-not rules-full h z = h
 stops-not log-full h z = h
+
+-- the limit less what stands before
+pub ltb-less : (m x d : ℕ) → d ≤ m → ltb m (d + x) ≡ ltb (m - d) x
+ltb-less m x d h = go (ltb (m - d) x) refl
+  where
+    go : (b : Bool) → ltb (m - d) x ≡ b → ltb m (d + x) ≡ ltb (m - d) x
+    go true e = let l : m - d < x = ltb-true (m - d) x e in lt-ltb m (d + x) (omega arith) ∙ sym e
+    go false e = let l : x ≤ m - d = ltb-false (m - d) x e in le-ltb m (d + x) (omega arith) ∙ sym e
 
 -- A term's arguments, and the term with others.
 args : Term → Terms

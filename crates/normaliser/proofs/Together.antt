@@ -1,6 +1,6 @@
 -- The turns of `normalise_all`: the terms still to be normalised, behind those that are, come to what all come to; and a lemma for each return. Assumes
 -- nothing.
--- Read first: specs/Settled (Settled, SettledAll), proofs/Sequence, proofs/Parts.
+-- Read first: specs/Settled (Settled, SettledAll), proofs/Sequence, redex/proofs/Parts.
 use mathlib.Core.Path.{_≡_, refl, sym, _∙_, ap, ap₂, subst}
 use mathlib.Core.Bool.{Bool}
 use mathlib.Core.List.{List, _++_, append-assoc, append-nil}
@@ -25,10 +25,10 @@ use Rattle.redex.specs.Step.{CellsHold, out}
 use Rattle.normaliser.specs.Settled.{CellsHoldAll, EndsWith, EndsAll, Limit, Settled, SettledAll}
 use Rattle.redex.specs.declared.Out.{Out}
 use Rattle.redex.specs.declared.Step.the-variants.{Normal}
-use Rattle.normaliser.proofs.Settling.{stops-not}
+use Rattle.normaliser.proofs.Settling.{stops-not, ltb-less}
 use Rattle.normaliser.proofs.Sequence.{normalise-nil, normalise-cons, then-others}
 use Rattle.redex.proofs.Marking.{marked-lengths}
-use Rattle.normaliser.proofs.Parts.{back, from-take, back-length, back-take, ltb-less}
+use Rattle.redex.proofs.Parts.{back, from-take, back-length, back-take}
 
 -- Of n terms k are still to do, from the cell p on; `behind` puts those in front of them that are done, and all come to `goal`.
 pub record Ahead (tab : List ℕ) (rs : List Rule) (post t : List ℕ) (n most k p l u : ℕ) (goal : Paid Terms) : Type 0 where

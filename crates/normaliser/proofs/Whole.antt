@@ -1,6 +1,6 @@
 -- `normalise` and `reducible`: `normalise_in` with the limit 120 and nothing behind the term is the definition's; the units paid are those it takes; with
 -- none it stops exactly where there is a step. Assumes nothing.
--- Read first: specs/Settled (Settled, Normalised, Reducible), proofs/Sequence, proofs/Loading, redex/proofs/Marking (plain).
+-- Read first: specs/Settled (Settled, Normalised, Reducible), proofs/Sequence, redex/proofs/Marking (plain).
 use mathlib.Core.Path.{_≡_, refl, sym, _∙_, ap, ap₂, subst}
 use mathlib.Core.Bool.{true, false}
 use mathlib.Core.List.{List, [], _++_, append-nil}
@@ -17,7 +17,7 @@ use Rattle.terms.specs.Flat.{Wf}
 use Rattle.terms.proofs.Bytes.{length-bytes}
 use Rattle.terms.proofs.Shape.{zero≢one}
 use Rattle.rewriting.specs.Overlap.{Rule, sides-of}
-use Rattle.rewriting.specs.Rewrite.{End, complete, neither-above, spent, too-large, rules-full, log-full, Paid, done, stop, step, normalise}
+use Rattle.rewriting.specs.Rewrite.{End, complete, neither-above, spent, too-large, rules-full, log-full, Paid, done, stop, Paying, step, normalise}
 use Rattle.matching.specs.Cells.{cells, node-bytes}
 use Rattle.matching.proofs.Celled.{bytes-cells}
 use Rattle.slots.specs.Slots.{Stored}
@@ -25,11 +25,11 @@ use Rattle.redex.specs.declared.Out.{Out}
 use Rattle.redex.specs.declared.Step.{Step}
 use Rattle.redex.specs.declared.Step.the-variants.{Normal, Rewritten, Spent, TooLarge, NoTerm}
 use Rattle.redex.proofs.Marking.{plain}
+use Rattle.redex.proofs.Sizing.{bytes-length}
 use Rattle.normaliser.specs.Inside.{pay-for, normalise-in}
-use Rattle.normaliser.specs.Settled.{StepStops, EndsWith, Limit, Settled, form-after, FormStops, SmallForm, NormalIs, Normalised, Reducible}
+use Rattle.normaliser.specs.Settled.{StepStops, EndsWith, Limit, Settled, WholeEnds, form-after, FormStops, SmallForm, NormalIs, Normalised, Reducible}
 use Rattle.normaliser.specs.declared.Form.{Form}
 use Rattle.normaliser.specs.declared.Reached.{Reached}
-use Rattle.normaliser.proofs.Loading.{bytes-length}
 use Rattle.normaliser.proofs.Sequence.{iterate-step, normalise-normal, normalise-whole}
 
 form-stops : (e : End) (s : Step) (n : ℕ) → StepStops e s → FormStops e (form-after s n)
@@ -49,6 +49,43 @@ form-small Spent n h = tt
 form-small TooLarge n h = tt
 form-small NoTerm n h = tt
 
+-- What stands in the first cells of t at the end is unloaded, by whichever strategy it came there.
+module _
+    (tab t : List ℕ) (units : ℕ) (o : Out) (long : length t ≡ most-nodes) (few : o .len ≤ most-nodes) (less : o .units ≤ units)
+    (out out′ C : List ℕ) (f : Form) (room : most-nodes ≤ length out) (eC : C ≡ take (o .len) t)
+    (e′ : out′ ≡ node-bytes C ++ drop (length C) out) (ef : f ≡ form-after (o .step) (o .len)) where
+  length-C : length C ≡ o .len
+  length-C = ap length eC ∙ length-take-le (o .len) t (omega arith)
+
+  abbrev reached : Reached
+  reached = record { form = f; paid = units - o .units }
+
+  unload-go : (p : Paid Term) → WholeEnds tab t o p → NormalIs tab out′ units reached p
+  unfolding form-after
+  unload-go (done y left) e =
+      let b : node-bytes C ≡ term-bytes y = ap node-bytes (eC ∙ e .2) ∙ bytes-cells tab y (e .3) in
+      let k : length (node-bytes C) ≡ size y = ap length b ∙ length-bytes y in
+      let u : o .units ≡ left = e .1 in (
+        ef ∙ ap₂ form-after (e .0) (sym length-C ∙ sym (bytes-length C) ∙ k),
+        omega arith,
+        ap (take (size y)) e′ ∙ take-at (node-bytes C) (drop (length C) out) (size y) k ∙ b,
+        e .3,
+      )
+  unload-go (stop c left) e =
+      let u : o .units ≡ left = e .1 in
+      (subst (λ f. FormStops c f) (sym ef) (form-stops c (o .step) (o .len) (e .0)), omega arith)
+
+  pub unloaded : (by : List Rule → Term → Paying Term) (rules : List ℕ) (number : ℕ) (S : List ℕ) → ((rs : List Rule) → Stored tab rules 0 (sides-of rs) →
+      number ≡ length rs → (x : Term) → Wf most-apart tab x → S ≡ term-bytes x →
+      WholeEnds tab t o (by rs x units)) → Normalised by tab rules number S out out′ units reached
+  unloaded by rules number S ends = record {
+    same = ap length e′ ∙ length-append (node-bytes C) (drop (length C) out)
+        ∙ omega (arith, bytes-length C, length-C, length-drop (length C) out);
+    within = omega arith;
+    small = subst SmallForm (sym ef) (form-small (o .step) (o .len) few);
+    answer = λ rs st m x w b. unload-go (by rs x units) (ends rs st m x w b);
+  }
+
 -- The bytes S are loaded into 120 cells, t₁, that held z, and settled, t₂.
 module _
     {tab rules : List ℕ} {number : ℕ} (S z : List ℕ) {t₁ t₂ : List ℕ} {units : ℕ} {o : Out} (short : length S ≤ most-nodes) (lz : length z ≡ most-nodes)
@@ -65,41 +102,17 @@ module _
       s .answer rs st m x [] (record { wf = w; marks = term-bytes x; marked = plain rs x; text = text }) (ltb most-nodes) lim
 
   -- `normalise`
-  module _
-      (out : List ℕ) {out′ C : List ℕ} {f : Form} (room : most-nodes ≤ length out) (eC : C ≡ take (o .len) t₂)
-      (e′ : out′ ≡ node-bytes C ++ drop (length C) out) (ef : f ≡ form-after (o .step) (o .len)) where
-    length-C : length C ≡ o .len
-    length-C = ap length eC ∙ length-take-le (o .len) t₂ (omega (arith, settled-length, s .bounds .small))
+  whole-ends : (p : Paid Term) → EndsWith tab t₂ [] o p → WholeEnds tab t₂ o p
+  whole-ends (done y left) e = (e .0, e .1, e .3 ∙ append-nil (cells y), e .4)
+  whole-ends (stop c left) e = e
 
-    abbrev reached : Reached
-    reached = record { form = f; paid = units - o .units }
-
-    whole-go : (p : Paid Term) → EndsWith tab t₂ [] o p → NormalIs tab out′ units reached p
-    unfolding form-after
-    whole-go (done y left) e =
-        let b : node-bytes C ≡ term-bytes y = ap node-bytes (eC ∙ e .3 ∙ append-nil (cells y)) ∙ bytes-cells tab y (e .4) in
-        let k : length (node-bytes C) ≡ size y = ap length b ∙ length-bytes y in
-        let u : o .units ≡ left = e .1 in
-        let c = s .bounds .cost in (
-          ef ∙ ap₂ form-after (e .0) (sym length-C ∙ sym (bytes-length C) ∙ k),
-          omega arith,
-          ap (take (size y)) e′ ∙ take-at (node-bytes C) (drop (length C) out) (size y) k ∙ b,
-          e .4,
-        )
-    whole-go (stop c left) e =
-        let u : o .units ≡ left = e .1 in
-        let d = s .bounds .cost in
-        (subst (λ f. FormStops c f) (sym ef) (form-stops c (o .step) (o .len) (e .0)), omega arith)
-
-    pub whole : Normalised tab rules number S out out′ units reached
-    whole = record {
-      same = ap length e′ ∙ length-append (node-bytes C) (drop (length C) out)
-          ∙ omega (arith, bytes-length C, length-C, length-drop (length C) out, s .bounds .small);
-      within = omega arith;
-      small = subst SmallForm (sym ef) (form-small (o .step) (o .len) (s .bounds .small));
-      answer = λ rs st m x w b. whole-go (normalise rs x units)
-          (subst (λ p. EndsWith tab t₂ [] o p) (normalise-whole rs units x) (settled-term rs st m x w b));
-    }
+  pub whole : (out : List ℕ) {out′ C : List ℕ} {f : Form} → most-nodes ≤ length out → C ≡ take (o .len) t₂ →
+      out′ ≡ node-bytes C ++ drop (length C) out → f ≡ form-after (o .step) (o .len) →
+      Normalised normalise tab rules number S out out′ units (record { form = f; paid = units - o .units })
+  whole out {out′} {C} {f} room eC e′ ef =
+      let c = s .bounds .cost in
+      unloaded tab t₂ units o settled-length (s .bounds .small) (omega arith) out out′ C f room eC e′ ef normalise rules number S
+      λ rs st m x w b. whole-ends (normalise rs x units) (subst (λ p. EndsWith tab t₂ [] o p) (normalise-whole rs units x) (settled-term rs st m x w b))
 
   -- `reducible`
   module _ (no : units ≡ 0) where

@@ -10,7 +10,7 @@ use Rattle.terms.specs.Base.{is-some}
 use Rattle.terms.specs.Term.{Term, Terms, term-bytes, size, sizes, count}
 use Rattle.terms.specs.Flat.{Wf, Wfs}
 use Rattle.rewriting.specs.Overlap.{Rule, sides-of}
-use Rattle.rewriting.specs.Rewrite.{step, normalise, End, complete, neither-above, spent, too-large, rules-full, log-full, Paid, done, stop}
+use Rattle.rewriting.specs.Rewrite.{step, End, complete, neither-above, spent, too-large, rules-full, log-full, Paid, done, stop, Paying}
 use Rattle.matching.specs.Cells.{cells, cells-all}
 use Rattle.redex.specs.Marks.{MarkedAll}
 use Rattle.slots.specs.Slots.{Stored}
@@ -99,18 +99,23 @@ SmallForm (NormalForm n) = n ≤ most-nodes
 SmallForm SpentForm = Unit {0}
 SmallForm TooLargeForm = Unit {0}
 
--- `normalise`: exactly as the definition says, and the units paid are those it takes
+-- how a walk over a whole term ends, by whichever strategy: with a last term's cells, or with an end
+abbrev pub WholeEnds : List ℕ → List ℕ → Out → Paid Term → Type 0
+WholeEnds tab t o (done y left) = (o .step ≡ Normal) × (o .units ≡ left) × (take (o .len) t ≡ cells y) × Wf most-apart tab y
+WholeEnds tab t o (stop e left) = StepStops e (o .step) × (o .units ≡ left)
+
+-- `normalise`: exactly as the definition says, which is `by`, and the units paid are those it takes
 abbrev pub NormalIs : List ℕ → List ℕ → ℕ → Reached → Paid Term → Type 0
 NormalIs tab out units o (done y left) =
     (o .form ≡ NormalForm (size y)) × (o .paid + left ≡ units) × (take (size y) out ≡ term-bytes y) × Wf most-apart tab y
 NormalIs tab out units o (stop e left) = FormStops e (o .form) × (o .paid + left ≡ units)
 
-pub record Normalised (tab rules : List ℕ) (number : ℕ) (t out out′ : List ℕ) (units : ℕ) (o : Reached) : Type 0 where
+pub record Normalised (by : List Rule → Term → Paying Term) (tab rules : List ℕ) (number : ℕ) (t out out′ : List ℕ) (units : ℕ) (o : Reached) : Type 0 where
   pub same : length out′ ≡ length out
   pub within : o .paid ≤ units
   pub small : SmallForm (o .form)
   pub answer : (rs : List Rule) → Stored tab rules 0 (sides-of rs) → number ≡ length rs → (x : Term) → Wf most-apart tab x → t ≡ term-bytes x →
-      NormalIs tab out′ units o (normalise rs x units)
+      NormalIs tab out′ units o (by rs x units)
 
 -- `reducible`: whether the definition has a step
 pub record Reducible (tab rules : List ℕ) (number : ℕ) (t : List ℕ) (r : Bool) : Type 0 where

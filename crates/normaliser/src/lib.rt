@@ -4,6 +4,7 @@ ghost use mathlib.Core.List.{_++_};
 ghost use Prim.Native.Nat.{_≤_};
 ghost use lib.ListN.{length, drop};
 ghost use Rattle.limits.specs.Limits.{most-nodes, cell-base};
+ghost use Rattle.rewriting.specs.Rewrite.{normalise};
 ghost use Rattle.matching.specs.Cells.{node-bytes};
 ghost use Rattle.slots.specs.Slots.{Layout};
 ghost use Rattle.normaliser.specs.Settled.{LeftNormal, Settled, SettledAll, form-after, Normalised, Reducible};
@@ -108,7 +109,7 @@ fn cell(b: u8) -> u16
 }
 
 // The bytes of t as cells: nothing is known to be normal.
-fn load(t: &[u8], cells: &mut [u16])
+pub fn load(t: &[u8], cells: &mut [u16])
     requires { ⌜ length (now t) ≤ length (now cells) ⌝ }
     ensures { λ _. ⌜ now (cells .exit) ≡ now (t .entry) ++ drop (length (now (t .entry))) (now (cells .entry)) ⌝ }
 {
@@ -120,7 +121,7 @@ fn load(t: &[u8], cells: &mut [u16])
 }
 
 // The nodes' bytes to the front of t.
-fn unload(cells: &[u16], t: &mut [u8])
+pub fn unload(cells: &[u16], t: &mut [u8])
     requires { ⌜ length (now cells) ≤ length (now t) ⌝ }
     ensures { λ _. ⌜ now (t .exit) ≡ node-bytes (now (cells .entry)) ++ drop (length (now (cells .entry))) (now (t .entry)) ⌝ }
 {
@@ -164,7 +165,7 @@ pub struct Reached {
 }
 
 // How the walk over a term ended. Bytes that are no term do not come here.
-fn form_of(step: Step, len: usize) -> Form
+pub fn form_of(step: Step, len: usize) -> Form
     ensures { λ r. ⌜ r ≡ form-after step len ⌝ }
 {
     match step {
@@ -185,7 +186,7 @@ pub fn normalise(
 ) -> Reached
     requires { ⌜ Layout (now rules) count ⌝ }
     requires { ⌜ (length (now t) ≤ most-nodes) × (most-nodes ≤ length (now out)) ⌝ }
-    ensures { λ r. ⌜ Normalised (now (table .entry)) (now (rules .entry)) count (now (t .entry)) (now (out .entry)) (now (out .exit)) units r ⌝ }
+    ensures { λ r. ⌜ Normalised normalise (now (table .entry)) (now (rules .entry)) count (now (t .entry)) (now (out .entry)) (now (out .exit)) units r ⌝ }
 {
     let mut cells = [0u16; NODES];
     load(t, &mut cells);

@@ -1,15 +1,15 @@
 -- The lowest rule that matches at the root, found in the slots: the rules from k on decide the step as all do. Assumes nothing.
 -- Read first: slots/specs/Slots, specs/Step (Fitted, FoundRule), matching/specs/Held (Matched), rewriting/specs/Rewrite (root-step).
-use mathlib.Core.Path.{_≡_, refl, sym, _∙_, ap, subst}
+use mathlib.Core.Path.{_≡_, refl, sym, _∙_, subst}
 use mathlib.Core.Bool.{Bool, true, false, true≢false, false≢true}
-use mathlib.Core.List.{List, [], _∷_, nil≢cons}
+use mathlib.Core.List.{List, [], _∷_}
 use mathlib.Core.Option.{Option, none, some}
-use Prim.Native.Nat.{ℕ, zero, suc, _+_, _%_, _<_, _≤_}
+use Prim.Native.Nat.{ℕ, _+_, _%_, _<_, _≤_}
 use native.Mathlib.Omega.{arith}
 use native.Mathlib.Numerals.{add-one}
 use lib.Dec.{eqb}
-use lib.ListN.{length, getD, drop, take}
-use lib.Seq.{getD-take, getD-drop}
+use lib.ListN.{length, getD}
+use Rattle.limits.specs.Limits.{first-variable, cell-base}
 use Rattle.terms.specs.Base.{if_then_else_, mapped, or-else}
 use Rattle.terms.specs.Term.{Term, var, node, term-bytes, terms-bytes, size}
 use Rattle.terms.proofs.Shape.{Says, eqb-says}
@@ -21,18 +21,13 @@ use Rattle.matching.specs.Held.{MatchingIs, Matched}
 use Rattle.matching.proofs.Celled.{stands-byte}
 use Rattle.slots.specs.Slots.{left-at, slot, left-of, left-length, AllFrom, Stored}
 use Rattle.redex.specs.Step.{Fitted, Choice, FoundRule}
-
--- what stands first in a part of a list
-pub head-of : (t : List ℕ) (n a b : ℕ) (l : List ℕ) → take n (drop a t) ≡ b ∷ l → getD t a 0 ≡ b
-head-of t zero a b l e = absurd (nil≢cons e)
-head-of t (suc n) a b l e =
-    let i : a + 0 ≡ a = omega arith in
-    sym (getD-take (suc n) (drop a t) 0 0 (omega arith) ∙ getD-drop a t 0 0 ∙ ap (λ z. getD t z 0) i) ∙ ap (λ z. getD z 0 0) e
+use Rattle.redex.proofs.Parts.{head-of}
 
 -- a left side in the slot s whose first byte b is a symbol other than the term's does not match
-root-none : (s : List ℕ) (b : ℕ) → b ≡ getD s left-at 0 → b < 128 → (l x : Term) → left-of s ≡ term-bytes l → (root-byte x ≡ b → ⊥) → matching l x [] ≡ none
+root-none : (s : List ℕ) (b : ℕ) → b ≡ getD s left-at 0 → b < first-variable → (l x : Term) → left-of s ≡ term-bytes l → (root-byte x ≡ b → ⊥) →
+    matching l x [] ≡ none
 unfolding left-of term-bytes matching if_then_else_ root-byte
-root-none s b eb h (var y) x e z = absurd (omega (arith, head-of s (left-length s) left-at (128 + y) [] e))
+root-none s b eb h (var y) x e z = absurd (omega (arith, head-of s (left-length s) left-at (first-variable + y) [] e))
 root-none s b eb h (node f ps) (var y) e z = refl
 root-none s b eb h (node f ps) (node g ys) e z = go (eqb f g) (eqb-says f g)
   where
@@ -48,7 +43,7 @@ module _ {rules T : List ℕ} {k : ℕ} {B : List ℕ} where
     answer = λ tab p a x s. m .answer tab (p .left) x (a .sides .left-wf) (e ∙ a .sides .left-bytes) s;
   }
 
-  pub fits-not : {b : ℕ} → b ≡ getD (slot rules k) left-at 0 → b < 128 → (getD T 0 0 % 256 ≡ b → ⊥) → Fitted rules T k B false B
+  pub fits-not : {b : ℕ} → b ≡ getD (slot rules k) left-at 0 → b < first-variable → (getD T 0 0 % cell-base ≡ b → ⊥) → Fitted rules T k B false B
   fits-not {b} eb h z = record {
     same = refl;
     within = λ q. absurd (false≢true q);

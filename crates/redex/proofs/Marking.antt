@@ -1,39 +1,39 @@
 -- Cells with and without sizes: a term's own bytes are such, and so is the instance of a right side. Assumes nothing. The redex loses its size; what
 -- stands below its root is normal, since the arguments are.
--- Read first: specs/Marks (Marked), matching/specs/Cells, matching/specs/Pieces, matching/proofs/Celled.
+-- Read first: specs/Marks (Marked), matching/specs/Cells, matching/specs/Pieces, proofs/Standing.
 use mathlib.Core.Path.{_≡_, refl, sym, _∙_, ap, ap₂, subst}
-use mathlib.Core.Bool.{Bool, true, false}
 use mathlib.Core.List.{List, [], _∷_, _++_, append-assoc, append-nil}
 use mathlib.Core.Option.{Option, none, some}
-use Prim.Native.Nat.{ℕ, zero, suc, _+_, _-_, _/_, _<_, _≤_}
+use Prim.Native.Nat.{ℕ, zero, suc, _+_, _-_, _/_, _%_, _<_}
 use native.Mathlib.Omega.{arith}
-use lib.Dec.{ltb}
-use borrow.Author.Tests.{ltb-true, ltb-false}
 use lib.ListN.{length, getD, drop, take, length-append}
-use lib.Seq.{take-at, drop-append-add}
-use Rattle.limits.specs.Limits.{most-apart, most-variables}
+use lib.Seq.{take-at}
+use Rattle.limits.specs.Limits.{most-apart, most-variables, most-symbols, first-variable, cell-base}
 use Rattle.terms.specs.Base.{mapped, or-else}
-use Rattle.terms.specs.Term.{Term, Terms, var, node, nil, cons, term-bytes, terms-bytes, size, sizes, subst-term, subst-terms}
+use Rattle.terms.specs.Term.{Term, Terms, var, node, nil, cons, term-bytes, terms-bytes, size, sizes, subst-term, subst-terms, subterm-at}
 use Rattle.terms.specs.Flat.{Wf, Wfs}
 use Rattle.terms.proofs.Places.{size-pos}
+use Rattle.terms.proofs.Positions.{Inherits, subterm-in-inherits}
 use Rattle.terms.proofs.Shape.{none≢some}
 use Rattle.unify.specs.Unify.{Binding}
 use Rattle.rewriting.specs.Overlap.{Rule}
 use Rattle.rewriting.specs.Rewrite.{bound, bound-or-variable, instantiate, root-step, step, step-in}
 use Rattle.rewriting.proofs.Matching.{by}
-use Rattle.matching.specs.Cells.{cells, cells-all, root-byte, cells-below, Stands}
+use Rattle.matching.specs.Cells.{cells, cells-all, root-byte, cells-below, node-bytes, Stands}
 use Rattle.matching.specs.Held.{Slot, Rep}
 use Rattle.matching.specs.Pieces.{slot-of, first-cell, piece-at, piece, pieces}
-use Rattle.matching.proofs.Celled.{length-cells, cells-root, length-below, cells-unique, stands-cell, stands-byte, stands-size, stands-below}
+use Rattle.matching.proofs.Celled.{length-cells, cells-root, length-below, bytes-append, bytes-cells, cells-unique, stands-cell, stands-byte, stands-size}
+use Rattle.matching.proofs.Celled.{stands-below}
 use Rattle.matching.proofs.Filling.{slot-variable, slot-symbol, piece-byte}
 use Rattle.redex.specs.Marks.{Marked, MarkedAll, leaf, visit, leave, no-more, more, ArgumentsNormal, open-cells}
+use Rattle.redex.proofs.Standing.{stands-is}
 
 -- what is put for a term, at the root of the cells and below it
 module _ (tab T : List ℕ) (n k : ℕ) (u : Term) (s : Stands tab T n k u) where
-  piece-below : take (getD T k 0 / 256 - 1) (drop (suc k) T) ≡ cells-below u
+  piece-below : take (getD T k 0 / cell-base - 1) (drop (suc k) T) ≡ cells-below u
   piece-below =
-      let e : length (cells-below u) ≡ getD T k 0 / 256 - 1 = omega (arith, length-below u, stands-size tab T n k u s) in
-      rw (stands-below tab T n k u s) (take-at (cells-below u) (s .rest) (getD T k 0 / 256 - 1) e)
+      let e : length (cells-below u) ≡ getD T k 0 / cell-base - 1 = omega (arith, length-below u, stands-size tab T n k u s) in
+      rw (stands-below tab T n k u s) (take-at (cells-below u) (s .rest) (getD T k 0 / cell-base - 1) e)
 
   piece-open : (b : ℕ) → k ≡ 0 → piece-at T b (suc k) ≡ open-cells u
   unfolding piece-at first-cell open-cells
@@ -77,6 +77,26 @@ module _ (rs : List Rule) where
     marked-lengths (no-more e) = ap length e
     marked-lengths (more {a = a} {b = b} e h k) = ap length e ∙ length-append a b ∙ ap₂ _+_ (marked-length h) (marked-lengths k)
 
+  -- they have the bytes of their term
+  module _ (tab : List ℕ) where
+    mutual
+      unfolding term-bytes node-bytes Wf Wfs
+
+      pub marked-bytes : {l : List ℕ} {x : Term} → Marked rs l x → Wf most-apart tab x → node-bytes l ≡ term-bytes x
+      marked-bytes (leaf {y = y} e) w =
+          let z : (first-variable + y) % cell-base ≡ first-variable + y = omega arith in
+          ap node-bytes e ∙ ap (λ b. b ∷ []) z
+      marked-bytes (visit {f = f} e h) w =
+          let k : f < most-symbols = w .0 in
+          let z : f % cell-base ≡ f = omega arith in
+          ap node-bytes e ∙ ap₂ (λ b l. b ∷ l) z (marked-bytes-all h (w .2))
+      marked-bytes (leave {x = x} e n) w = ap node-bytes e ∙ bytes-cells tab x w
+
+      marked-bytes-all : {l : List ℕ} {xs : Terms} → MarkedAll rs l xs → Wfs most-apart tab xs → node-bytes l ≡ terms-bytes xs
+      marked-bytes-all (no-more e) w = ap node-bytes e
+      marked-bytes-all (more {a = a} {b = b} e h k) w =
+          ap node-bytes e ∙ bytes-append a b ∙ ap₂ _++_ (marked-bytes h (w .0)) (marked-bytes-all k (w .1))
+
   -- the parts of a normal term are normal
   node-none : (f : ℕ) (ts : Terms) → step rs (node f ts) ≡ none → step-in rs ts ≡ none
   unfolding step
@@ -98,73 +118,41 @@ module _ (rs : List Rule) where
   open-marked (var y) h = leaf refl
   open-marked (node f ts) h = visit refl (normal-all ts h)
 
-  -- at every place of a normal term's cells stands a normal term
-  record Inner (tab l : List ℕ) : Type 0 where
-    term : Term
-    wf : Wf most-apart tab term
-    rest : List ℕ
-    text : l ≡ cells term ++ rest
-    normal : step rs term ≡ none
+  normal-inherits : Inherits (λ t. step rs t ≡ none) (λ ts. step-in rs ts ≡ none)
+  normal-inherits = record { arguments = node-none; head = λ t ts e. cons-none t ts e .0; tail = λ t ts e. cons-none t ts e .1 }
 
-  inner-cons : (tab : List ℕ) (t : Term) (ts : Terms) (k : ℕ) (post : List ℕ) →
-      (k < size t → Inner tab (drop k (cells t ++ (cells-all ts ++ post)))) → (size t ≤ k → Inner tab (drop (k - size t) (cells-all ts ++ post))) →
-      (b : Bool) → ltb k (size t) ≡ b → Inner tab (drop k ((cells t ++ cells-all ts) ++ post))
-  inner-cons tab t ts k post f g true e = subst (λ l. Inner tab (drop k l)) (sym (append-assoc (cells t) (cells-all ts) post)) (f (ltb-true k (size t) e))
-  inner-cons tab t ts k post f g false e =
-      let h : size t ≤ k = ltb-false k (size t) e in
-      let n : length (cells t) + (k - size t) ≡ k = omega (arith, length-cells t) in
-      let q : drop k ((cells t ++ cells-all ts) ++ post) ≡ drop (k - size t) (cells-all ts ++ post) =
-      ap (drop k) (append-assoc (cells t) (cells-all ts) post) ∙ ap (λ z. drop z (cells t ++ (cells-all ts ++ post))) (sym n)
-      ∙ drop-append-add (cells t) (cells-all ts ++ post) (k - size t) in
-      subst (λ l. Inner tab l) (sym q) (g h)
-
-  mutual
-    unfolding cells size Wf
-
-    inner-at : (tab : List ℕ) (t : Term) (k : ℕ) (post : List ℕ) → Wf most-apart tab t → step rs t ≡ none → k < size t → Inner tab (drop k (cells t ++ post))
-    inner-at tab (var y) zero post w n h = record { term = var y; wf = w; rest = post; text = refl; normal = n }
-    inner-at tab (var y) (suc k) post w n h = absurd (omega arith)
-    inner-at tab (node f ts) zero post w n h = record { term = node f ts; wf = w; rest = post; text = refl; normal = n }
-    inner-at tab (node f ts) (suc k) post w n h = inner-in tab ts k post (w .2) (node-none f ts n) (omega arith)
-
-    inner-in : (tab : List ℕ) (ts : Terms) (k : ℕ) (post : List ℕ) → Wfs most-apart tab ts → step-in rs ts ≡ none → k < sizes ts →
-        Inner tab (drop k (cells-all ts ++ post))
-    inner-in tab nil k post w n h = absurd (omega arith)
-    inner-in tab (cons t ts) k post w n h =
-        inner-cons tab t ts k post (λ l. inner-at tab t k (cells-all ts ++ post) (w .0) (cons-none t ts n .0) l)
-        (λ l. inner-in tab ts (k - size t) post (w .1) (cons-none t ts n .1) (omega arith)) (ltb k (size t)) refl
-
+  -- below the root of a term whose arguments are normal stands a normal term at every place
   below-normal : (tab T : List ℕ) (x : Term) (post : List ℕ) → Wf most-apart tab x → T ≡ cells x ++ post → ArgumentsNormal rs x → (k : ℕ) (u : Term) →
       Stands tab T (size x) (suc k) u → step rs u ≡ none
-  unfolding cells size Wf
+  unfolding size subterm-at
   below-normal tab T (var y) post w e h k u s = absurd (let i = s .inside in omega (arith, size-pos u))
   below-normal tab T (node f ts) post w e h k u s =
-      let v = inner-in tab ts k post (w .2) h (let i = s .inside in omega (arith, size-pos u)) in
-      let q : v .term ≡ u = cells-unique tab (v .term) u (v .rest) (s .rest) (v .wf) (s .wf) (sym (v .text) ∙ sym (ap (drop (suc k)) e) ∙ s .text) in
-      subst (λ z. step rs z ≡ none) q (v .normal)
+      let low : suc k < suc (sizes ts) = let i = s .inside in omega (arith, size-pos u) in
+      subterm-in-inherits normal-inherits ts k u (stands-is tab (node f ts) post T w e (size (node f ts)) (suc k) u low s) h
 
   -- what is put for a right side
   module _
       (tab T B : List ℕ) (x : Term) (post : List ℕ) (w : Wf most-apart tab x) (e : T ≡ cells x ++ post) (an : ArgumentsNormal rs x)
       (bs : List Binding) (rep : Rep tab T (size x) B bs) where
-    slot-marked : (y k : ℕ) (o : Option Term) → Slot tab T (size x) k o → Marked rs (piece-at T (128 + y) k) (bound-or-variable y o)
+    slot-marked : (y k : ℕ) (o : Option Term) → Slot tab T (size x) k o → Marked rs (piece-at T (first-variable + y) k) (bound-or-variable y o)
     unfolding piece-at bound-or-variable
     slot-marked y zero none s = leaf refl
     slot-marked y zero (some u) s = absurd s
     slot-marked y (suc k) none s = absurd s
     slot-marked y (suc zero) (some u) s =
         let q : x ≡ u = cells-unique tab x u post (s .rest) w (s .wf) (sym e ∙ s .text) in
-        subst (λ l. Marked rs l u) (sym (piece-open tab T (size x) 0 u s (128 + y) refl)) (open-marked u (subst (ArgumentsNormal rs) q an))
+        subst (λ l. Marked rs l u) (sym (piece-open tab T (size x) 0 u s (first-variable + y) refl)) (open-marked u (subst (ArgumentsNormal rs) q an))
     slot-marked y (suc (suc k)) (some u) s =
-        leave (piece-later tab T (size x) k u s (128 + y)) (below-normal tab T x post w e an k u s)
+        leave (piece-later tab T (size x) k u s (first-variable + y)) (below-normal tab T x post w e an k u s)
 
-    variable-marked : (y : ℕ) → y < 16 → Marked rs (piece T B (128 + y)) (bound-or-variable y (bound bs y))
+    variable-marked : (y : ℕ) → y < most-variables → Marked rs (piece T B (first-variable + y)) (bound-or-variable y (bound bs y))
     unfolding piece
     variable-marked y h =
-        subst (λ k. Marked rs (piece-at T (128 + y) k) (bound-or-variable y (bound bs y))) (sym (slot-variable B (128 + y) y (omega arith) (omega arith) h))
+        let s : slot-of B (first-variable + y) ≡ getD B y 0 = slot-variable B (first-variable + y) y (omega arith) (omega arith) h in
+        subst (λ k. Marked rs (piece-at T (first-variable + y) k) (bound-or-variable y (bound bs y))) (sym s)
         (slot-marked y (getD B y 0) (bound bs y) (rep y h))
 
-    symbol-piece : (f : ℕ) → f < 16 → piece T B f ≡ f ∷ []
+    symbol-piece : (f : ℕ) → f < most-symbols → piece T B f ≡ f ∷ []
     symbol-piece f h = sym (piece-byte T B f (slot-of B f) refl (slot-symbol B f (omega arith)))
 
     pieces-append : (a b : List ℕ) → pieces T B (a ++ b) ≡ pieces T B a ++ pieces T B b
@@ -176,7 +164,8 @@ module _ (rs : List Rule) where
       unfolding pieces term-bytes subst-term Wf Wfs
 
       term-marked : (r : Term) → Wf most-variables tab r → Marked rs (pieces T B (term-bytes r)) (subst-term (by bs) r)
-      term-marked (var y) v = subst (λ l. Marked rs l (bound-or-variable y (bound bs y))) (sym (append-nil (piece T B (128 + y)))) (variable-marked y v)
+      term-marked (var y) v =
+          subst (λ l. Marked rs l (bound-or-variable y (bound bs y))) (sym (append-nil (piece T B (first-variable + y)))) (variable-marked y v)
       term-marked (node f ts) v = visit (ap (λ z. z ++ pieces T B (terms-bytes ts)) (symbol-piece f (v .0))) (terms-marked ts (v .2))
 
       terms-marked : (ts : Terms) → Wfs most-variables tab ts → MarkedAll rs (pieces T B (terms-bytes ts)) (subst-terms (by bs) ts)

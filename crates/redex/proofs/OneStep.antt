@@ -10,7 +10,7 @@ use lib.Dec.{ltb}
 use borrow.Author.Tests.{lt-ltb, le-ltb}
 use lib.ListN.{length, getD, drop, take, set, length-set, length-append}
 use lib.Seq.{drop-at, take-set-lt}
-use Rattle.limits.specs.Limits.{most-apart, most-variables}
+use Rattle.limits.specs.Limits.{most-apart, most-variables, cell-base}
 use Rattle.terms.specs.Term.{Term, size}
 use Rattle.terms.specs.Flat.{Wf}
 use Rattle.terms.proofs.Flats.{wf-subst-below}
@@ -30,7 +30,7 @@ use Rattle.redex.specs.declared.Out.{Out}
 use Rattle.redex.specs.declared.Step.{Step}
 use Rattle.redex.specs.declared.Step.the-variants.{Normal, Rewritten, Spent, TooLarge}
 use Rattle.redex.proofs.Marking.{instance-marked, marked-length}
-use Rattle.redex.proofs.Choosing.{head-of}
+use Rattle.redex.proofs.Parts.{head-of}
 
 -- an instance is well-formed
 slot-wf : (tab T : List ℕ) (n x : ℕ) → x < most-variables → (k : ℕ) (o : Option Term) → Slot tab T n k o → Wf most-apart tab (bound-or-variable x o)
@@ -40,44 +40,55 @@ slot-wf tab T n x h zero (some u) s = absurd s
 slot-wf tab T n x h (suc k) none s = absurd s
 slot-wf tab T n x h (suc k) (some u) s = s .wf
 
-wf-instance : (tab T : List ℕ) (n : ℕ) (B : List ℕ) (bs : List Binding) → Rep tab T n B bs → (r : Term) → Wf most-variables tab r →
+pub wf-instance : (tab T : List ℕ) (n : ℕ) (B : List ℕ) (bs : List Binding) → Rep tab T n B bs → (r : Term) → Wf most-variables tab r →
     Wf most-apart tab (instantiate bs r)
 unfolding instantiate
 wf-instance tab T n B bs rep r w =
     wf-subst-below most-variables most-apart tab (by bs) (λ x h. slot-wf tab T n x h (getD B x 0) (bound bs x) (rep x h)) r w
 
 -- the root's cell with its size
-rooted : (tab t : List ℕ) (len end c : ℕ) (x : Term) (post : List ℕ) → 0 < len → c ≡ getD t 0 0 % 256 + 256 * end → Wf most-apart tab x →
+rooted : (tab t : List ℕ) (len end c : ℕ) (x : Term) (post : List ℕ) → 0 < len → c ≡ getD t 0 0 % cell-base + cell-base * end → Wf most-apart tab x →
     take len t ≡ open-cells x ++ post → end ≡ size x → take len (set t 0 c) ≡ cells x ++ post
 unfolding open-cells
 rooted tab t len end c x post h e w b d =
     let g : getD t 0 0 ≡ root-byte x = head-of t len 0 (root-byte x) (cells-below x ++ post) b in
-    let l : root-byte x < 256 = root-low tab x w in
-    let q : c ≡ root-byte x + 256 * size x = omega arith in
+    let l : root-byte x < cell-base = root-low tab x w in
+    let q : c ≡ root-byte x + cell-base * size x = omega arith in
     take-set-lt len t 0 c h ∙ ap (λ l. set l 0 c) b ∙ ap (λ z. z ∷ (cells-below x ++ post)) q ∙ ap (λ l. l ++ post) (sym (cells-root x))
 
 -- the root's cell c has the size, and rule k was found
 pub record Tried (rules t : List ℕ) (number len end most k : ℕ) (B : List ℕ) (c : ℕ) : Type 0 where
-  pub cell : c ≡ getD t 0 0 % 256 + 256 * end
+  pub cell : c ≡ getD t 0 0 % cell-base + cell-base * end
   pub binds : List ℕ
   pub found : FoundRule rules (take len (set t 0 c)) number k binds B
   pub some-cell : 0 < end
   pub ends : end ≤ len
   pub small : len ≤ most
 
-pub tries : {rules t : List ℕ} {number len end most k : ℕ} {B₀ B T : List ℕ} {c : ℕ} → c ≡ getD t 0 0 % 256 + 256 * end → T ≡ take len (set t 0 c) →
-    FoundRule rules T number k B₀ B → 0 < end → end ≤ len → len ≤ most → Tried rules t number len end most k B c
+pub tries : {rules t : List ℕ} {number len end most k : ℕ} {B₀ B T : List ℕ} {c : ℕ} → c ≡ getD t 0 0 % cell-base + cell-base * end →
+    T ≡ take len (set t 0 c) → FoundRule rules T number k B₀ B → 0 < end → end ≤ len → len ≤ most → Tried rules t number len end most k B c
 tries {rules} {number = number} {k = k} {B₀} {B} e q f z p s =
     record { cell = e; binds = B₀; found = subst (λ l. FoundRule rules l number k B₀ B) q f; some-cell = z; ends = p; small = s }
+
+-- what stands there: the rules in their slots, and a term whose arguments are normal
+record Given (rules t : List ℕ) (number len end : ℕ) (tab : List ℕ) (rs : List Rule) (x : Term) (post : List ℕ) : Type 0 where
+  stored : Stored tab rules 0 (sides-of rs)
+  counts : number ≡ length rs
+  wf : Wf most-apart tab x
+  text : take len t ≡ open-cells x ++ post
+  ends : end ≡ size x
+  normal : ArgumentsNormal rs x
 
 module _ {rules t : List ℕ} {number len end most k : ℕ} {B : List ℕ} {c : ℕ} (g : Tried rules t number len end most k B c) where
   abbrev T : List ℕ
   T = take len (set t 0 c)
 
+  abbrev right : List ℕ
+  right = right-of (slot rules k)
+
   abbrev Answer : List ℕ → ℕ → Out → Type 0
-  Answer t′ units o =
-      (tab : List ℕ) (rs : List Rule) → Stored tab rules 0 (sides-of rs) → number ≡ length rs → (x : Term) (post : List ℕ) → Wf most-apart tab x →
-      take len t ≡ open-cells x ++ post → end ≡ size x → ArgumentsNormal rs x → Wrote tab rs t′ x post most units o (root-step rs x)
+  Answer t′ units o = (tab : List ℕ) (rs : List Rule) (x : Term) (post : List ℕ) → Given rules t number len end tab rs x post →
+      Wrote tab rs t′ x post most units o (root-step rs x)
 
   -- no step: the length and the end stay
   stays : {t′ : List ℕ} {v : Step} {u units : ℕ} {o : Out} → o ≡ out v u len end → length t′ ≡ length t → (v ≡ Rewritten → ⊥) → u ≤ units →
@@ -89,38 +100,34 @@ module _ {rules t : List ℕ} {number len end most k : ℕ} {B : List ℕ} {c : 
     left-over = h;
     paid = λ z. absurd (l z);
     place = λ z. (refl, refl);
-    answer = a;
+    answer = λ tab rs st n x post w b d nb. a tab rs x post (record { stored = st; counts = n; wf = w; text = b; ends = d; normal = nb });
   })
 
   pub found-within : (k ≡ number → ⊥) → Within T B
   found-within ne = g .found .within (let i = g .found .bounded in omega arith)
 
-  module _
-      (tab : List ℕ) (rs : List Rule) (st : Stored tab rules 0 (sides-of rs)) (n : number ≡ length rs) (x : Term) (post : List ℕ)
-      (w : Wf most-apart tab x) (b : take len t ≡ open-cells x ++ post) (d : end ≡ size x) where
+  module _ {tab : List ℕ} {rs : List Rule} {x : Term} {post : List ℕ} (i : Given rules t number len end tab rs x post) where
     sized : T ≡ cells x ++ post
-    sized = rooted tab t len end c x post (let p = g .some-cell in let q = g .ends in omega arith) (g .cell) w b d
+    sized = rooted tab t len end c x post (let p = g .some-cell in let q = g .ends in omega arith) (g .cell) (i .wf) (i .text) (i .ends)
 
     stands : Stands tab T (size x) 0 x
-    stands = record { wf = w; rest = post; text = sized; inside = omega arith }
+    stands = record { wf = i .wf; rest = post; text = sized; inside = omega arith }
 
     chosen : (k ≡ number → ⊥) → Choice tab rules T B k x (root-step rs x)
-    chosen ne = g .found .lowest (let i = g .found .bounded in omega arith) tab rs st n x stands
+    chosen ne = g .found .lowest (let b = g .found .bounded in omega arith) tab rs (i .stored) (i .counts) x stands
 
     -- the right side's instance is put in the redex's place
-    module _
-        (nb : ArgumentsNormal rs x) {v : ℕ} {t′ right : List ℕ} (er : right ≡ right-of (slot rules k))
-        (pt : Put (set t 0 c) t′ 0 most v (replaced T B right end)) (h : Choice tab rules T B k x (root-step rs x)) where
+    module _ {v : ℕ} {t′ : List ℕ} (pt : Put (set t 0 c) t′ 0 most v (replaced T B right end)) (h : Choice tab rules T B k x (root-step rs x)) where
       abbrev new : Term
       new = instantiate (h .bindings) (h .rule .right)
 
       marks : Marked rs (pieces T B right) new
       marks =
           let s = h .place .sides in
-          instance-marked rs tab T B x post w (sized) nb (h .bindings) (h .held) right (h .rule .right) (s .right-wf) (er ∙ s .right-bytes)
+          instance-marked rs tab T B x post (i .wf) sized (i .normal) (h .bindings) (h .held) right (h .rule .right) (s .right-wf) (s .right-bytes)
 
       rest : drop end T ≡ post
-      rest = ap (drop end) (sized) ∙ drop-at (cells x) post end (length-cells x ∙ sym d)
+      rest = ap (drop end) sized ∙ drop-at (cells x) post end (length-cells x ∙ sym (i .ends))
 
       put-length : length (replaced T B right end) ≡ size new + length post
       put-length = length-append (pieces T B right) (drop end T) ∙ ap₂ _+_ (marked-length rs marks) (ap length rest)
@@ -146,25 +153,25 @@ module _ {rules t : List ℕ} {number len end most k : ℕ} {B : List ℕ} {c : 
       )
 
   pub step-none : {units : ℕ} {o : Out} → o ≡ out Normal units len end → k ≡ number → RewritesRoot rules number t (set t 0 c) len end most units o
-  step-none {units} e q = stays e (length-set t 0 c) (λ z. zero≢one (cc)) (omega arith) λ tab rs st n x post w b d nb.
+  step-none {units} e q = stays e (length-set t 0 c) (λ z. zero≢one (cc)) (omega arith) λ tab rs x post i.
       subst (λ y. Wrote tab rs (set t 0 c) x post most units (out Normal units len end) y)
-      (sym (g .found .missing q tab rs st n x (stands tab rs st n x post w b d))) (refl, refl, sized tab rs st n x post w b d)
+      (sym (g .found .missing q tab rs (i .stored) (i .counts) x (stands i))) (refl, refl, sized i)
 
   module _ (ne : k ≡ number → ⊥) where
     pub step-spent : {units : ℕ} {o : Out} → o ≡ out Spent 0 len end → units ≡ 0 → RewritesRoot rules number t (set t 0 c) len end most units o
-    step-spent {units} e u = stays e (length-set t 0 c) (λ z. zero≢one (cc)) (omega arith) λ tab rs st n x post w b d nb.
-        let h = chosen tab rs st n x post w b d ne in
+    step-spent {units} e u = stays e (length-set t 0 c) (λ z. zero≢one (cc)) (omega arith) λ tab rs x post i.
+        let h = chosen i ne in
         subst (λ y. Wrote tab rs (set t 0 c) x post most units (out Spent 0 len end) y) (sym (h .result))
         (subst (λ m. Wrote tab rs (set t 0 c) x post most m (out Spent 0 len end) (some (instantiate (h .bindings) (h .rule .right)))) (sym u) (refl, refl))
 
-    module _ {v : ℕ} {t′ right : List ℕ} (er : right ≡ right-of (slot rules k)) (pt : Put (set t 0 c) t′ 0 most v (replaced T B right end)) where
+    module _ {v : ℕ} {t′ : List ℕ} (pt : Put (set t 0 c) t′ 0 most v (replaced T B right end)) where
       pub step-large : {units : ℕ} {o : Out} → o ≡ out TooLarge (units - 1) len end → (units ≡ 0 → ⊥) → most < v →
           RewritesRoot rules number t t′ len end most units o
       step-large {units = zero} e u l = absurd (u refl)
       step-large {units = suc m} e u l =
           let q : suc m - 1 ≡ m = omega arith in
-          stays (e ∙ ap (λ m. out TooLarge m len end) q) (pt .same ∙ length-set t 0 c) (λ z. zero≢one (cc)) (omega arith) λ tab rs st n x post w b d nb.
-          large tab rs st n x post w b d nb er pt (chosen tab rs st n x post w b d ne) m l
+          stays (e ∙ ap (λ m. out TooLarge m len end) q) (pt .same ∙ length-set t 0 c) (λ z. zero≢one (cc)) (omega arith)
+          λ tab rs x post i. large i pt (chosen i ne) m l
 
       pub step-done : {units : ℕ} {o : Out} → o ≡ out Rewritten (units - 1) v 0 → (units ≡ 0 → ⊥) → v ≤ most →
           RewritesRoot rules number t t′ len end most units o
@@ -178,5 +185,7 @@ module _ {rules t : List ℕ} {number len end most k : ℕ} {B : List ℕ} {c : 
             left-over = omega arith;
             paid = λ z. omega arith;
             place = λ z. absurd (z refl);
-            answer = λ tab rs st n x post w b d nb. done tab rs st n x post w b d nb er pt (chosen tab rs st n x post w b d ne) m l;
+            answer = λ tab rs st n x post w b d nb.
+                let i : Given rules t number len end tab rs x post = record { stored = st; counts = n; wf = w; text = b; ends = d; normal = nb } in
+                done i pt (chosen i ne) m l;
           })

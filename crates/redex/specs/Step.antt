@@ -1,4 +1,5 @@
 -- What the functions that look for a redex and rewrite it answer. Assumes nothing.
+-- Read first: specs/Marks, slots/specs/Slots (PairAt, Stored), matching/specs/Held (Rep, MatchingIs), rewriting/specs/Rewrite (root-step).
 use mathlib.Core.Path.{_≡_}
 use mathlib.Core.Bool.{Bool, true, false}
 use mathlib.Core.List.{List, [], _++_}

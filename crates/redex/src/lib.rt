@@ -1,13 +1,18 @@
-// The lowest rule that matches at a node, and the step there. The rules stand in slots and the term in cells, its arguments known to be normal.
+// The lowest rule that matches at a node, and the step there. The rules stand in slots and the term in cells. `fits`, `find`, `contract`, `contract_at`
+// and `size_cells` ask for no normal subterm; of `rewrite`, which is built of them, the arguments are normal.
 ghost use mathlib.Core.Path.{_≡_};
-ghost use Prim.Native.Nat.{_+_, _<_, _≤_};
-ghost use lib.ListN.{length, take};
+ghost use Prim.Native.Nat.{_+_, _-_, _<_, _≤_};
+ghost use lib.ListN.{length, take, drop};
 ghost use Rattle.limits.specs.Limits.{most-nodes, most-variables};
-ghost use Rattle.slots.specs.Slots.{Layout};
+ghost use Rattle.slots.specs.Slots.{slot, right-of, Layout};
+ghost use Rattle.matching.specs.Held.{Within};
+ghost use Rattle.matching.specs.Pieces.{Put, replaced};
 ghost use Rattle.redex.specs.Step.{Fitted, FoundRule, out, RewritesRoot};
+ghost use Rattle.redex.specs.Contraction.{TermsTake, CellsSized, ContractedAt};
+use limits::NODES;
 
 // Whether rule k matches at the start of t.
-fn fits(rules: &[u8], k: usize, t: &[u16], binds: &mut [u8]) -> bool
+pub fn fits(rules: &[u8], k: usize, t: &[u16], binds: &mut [u8]) -> bool
     requires { ⌜ Layout (now rules) (k + 1) ⌝ }
     requires { ⌜ (0 < length (now t)) × (length (now t) ≤ most-nodes) × (most-variables ≤ length (now binds)) ⌝ }
     ensures { λ r. ⌜ Fitted (now (rules .entry)) (now (t .entry)) k (now (binds .entry)) r (now (binds .exit)) ⌝ }
@@ -22,7 +27,7 @@ fn fits(rules: &[u8], k: usize, t: &[u16], binds: &mut [u8]) -> bool
 }
 
 // The lowest rule that matches at the start of t, or count.
-fn find(rules: &[u8], count: usize, t: &[u16], binds: &mut [u8]) -> usize
+pub fn find(rules: &[u8], count: usize, t: &[u16], binds: &mut [u8]) -> usize
     requires { ⌜ Layout (now rules) count ⌝ }
     requires { ⌜ (0 < length (now t)) × (length (now t) ≤ most-nodes) × (most-variables ≤ length (now binds)) ⌝ }
     ensures { λ r. ⌜ FoundRule (now (rules .entry)) (now (t .entry)) count r (now (binds .entry)) (now (binds .exit)) ⌝ }
@@ -35,6 +40,25 @@ fn find(rules: &[u8], count: usize, t: &[u16], binds: &mut [u8]) -> usize
         k += 1;
     }
     k
+}
+
+// The term at the start of t, which ends at `end`, gives way to the instance of rule k's right side: how many cells are in use then, or more than `most`.
+fn contract(
+    t: &mut [u16],
+    len: usize,
+    end: usize,
+    most: usize,
+    rules: &[u8],
+    k: usize,
+    binds: &[u8],
+) -> usize
+    requires { ⌜ Layout (now rules) (k + 1) ⌝ }
+    requires { ⌜ (end ≤ len) × (len ≤ most) × (most ≤ length (now t)) × (most ≤ most-nodes) ⌝ }
+    requires { ⌜ (most-variables ≤ length (now binds)) × Within (take len (now t)) (now binds) ⌝ }
+    ensures { λ r. ⌜ Put (now (t .entry)) (now (t .exit)) 0 most r
+        (replaced (take len (now (t .entry))) (now (binds .entry)) (right-of (slot (now (rules .entry)) k)) end) ⌝ }
+{
+    matching::replace(t, len, end, most, slots::right(rules, k), binds)
 }
 
 // What came of a term.
@@ -91,9 +115,70 @@ pub fn rewrite(
     if units == 0 {
         return ended(Step::Spent, 0, len, end);
     }
-    let w = matching::replace(t, len, end, most, slots::right(rules, k), &binds);
+    let w = contract(t, len, end, most, rules, k, &binds);
     if w > most {
         return ended(Step::TooLarge, units - 1, len, end);
     }
     ended(Step::Rewritten, units - 1, w, 0)
+}
+
+// How many cells the n terms at the start of t take; all, where the cells end before.
+fn terms_take(t: &[u16], n: usize) -> usize
+    requires { ⌜ length (now t) ≤ most-nodes ⌝ }
+    ensures { λ r. ⌜ TermsTake (now (t .entry)) n r ⌝ }
+{
+    let mut k = n;
+    let mut e = 0;
+    while k > 0 {
+        if e >= t.len() {
+            return t.len();
+        }
+        e += matching::size_of(t[e]);
+        k -= 1;
+    }
+    if e > t.len() {
+        return t.len();
+    }
+    e
+}
+
+// Each cell gets the size of its subterm, from the last to the first.
+pub fn size_cells(t: &mut [u16], table: &[u8])
+    requires { ⌜ length (now t) ≤ most-nodes ⌝ }
+    ensures { λ _. ⌜ CellsSized (now (table .entry)) (now (t .entry)) (now (t .exit)) ⌝ }
+{
+    let mut i = t.len();
+    while i > 0 {
+        i -= 1;
+        let n = terms::owed_by(table, matching::byte_of(t[i]));
+        let e = terms_take(&t[i + 1..], n);
+        t[i] = matching::sized(t[i], e + 1);
+    }
+}
+
+// Of the first `len` cells the term at `at`, whose cell has its size, gives way to the instance of rule k's right side: how many are in use then, or
+// more than `NODES`.
+pub fn contract_at(
+    t: &mut [u16],
+    len: usize,
+    at: usize,
+    rules: &[u8],
+    k: usize,
+    binds: &[u8],
+) -> usize
+    requires { ⌜ Layout (now rules) (k + 1) ⌝ }
+    requires { ⌜ (at < len) × (len ≤ most-nodes) × (length (now t) ≡ most-nodes) ⌝ }
+    requires { ⌜ (most-variables ≤ length (now binds)) × Within (take (len - at) (drop at (now t))) (now binds) ⌝ }
+    ensures { λ r. ⌜ ContractedAt (now (t .entry)) len at (right-of (slot (now (rules .entry)) k)) (now (binds .entry)) (now (t .exit)) r ⌝ }
+{
+    let n = matching::size_of(t[at]);
+    if len - at < n {
+        return NODES + 1;
+    }
+    let room = NODES - at;
+    let w = contract(&mut t[at..], len - at, n, room, rules, k, binds);
+    if w > room {
+        return NODES + 1;
+    }
+    at + w
 }

@@ -20,7 +20,7 @@ use Rattle.terms.proofs.Bytes.{Around, around, around-in, length-bytes, length-
 use Rattle.unify.specs.Unify.{Binding}
 use Rattle.rewriting.specs.Overlap.{Rule}
 use Rattle.rewriting.specs.Rewrite.{matching, instantiate, root-step, step, step-in, too-large, stop, Paying, return, and-then, _>>=_, end-if}
-use Rattle.rewriting.specs.Rewrite.{end-with, pay, hold, normalise}
+use Rattle.rewriting.specs.Rewrite.{end-with, pay, hold, normalise, normalise-by}
 
 -- A node that a rule's left side matches, by its position: `at` tells which subterm stands at each.
 pub record Redex (rules : List Rule) (at : ℕ → Option Term) (position : ℕ) : Type 0 where
@@ -66,15 +66,15 @@ subterm-within t p x e = omega (arith, run-within (around t p x e), length-bytes
 subterm-in-within : (ts : Terms) (p : ℕ) (x : Term) → subterm-in ts p ≡ some x → p + size x ≤ sizes ts
 subterm-in-within ts p x e = omega (arith, run-within (around-in ts p x e), length-bytes-all ts)
 
-replace-root : (t v : Term) → replace-at t 0 v ≡ v
+pub replace-root : (t v : Term) → replace-at t 0 v ≡ v
 unfolding plug number
 replace-root t v = replace-plug hole t v
 
-replace-first : (t : Term) (ts : Terms) (p : ℕ) (v : Term) → p < size t → replace-in (cons t ts) p v ≡ cons (replace-at t p v) ts
+pub replace-first : (t : Term) (ts : Terms) (p : ℕ) (v : Term) → p < size t → replace-in (cons t ts) p v ≡ cons (replace-at t p v) ts
 unfolding replace-in if_then_else_
 replace-first t ts p v h = rw (lt-ltb p (size t) h) refl
 
-replace-later : (t : Term) (ts : Terms) (p : ℕ) (v : Term) → replace-in (cons t ts) (size t + p) v ≡ cons t (replace-in ts p v)
+pub replace-later : (t : Term) (ts : Terms) (p : ℕ) (v : Term) → replace-in (cons t ts) (size t + p) v ≡ cons t (replace-in ts p v)
 unfolding replace-in if_then_else_
 replace-later t ts p v =
     let z : size t + p - size t ≡ p = omega arith in
@@ -131,7 +131,7 @@ module _ (rules : List Rule) where
             to-whole-below (q - k) q (r .subterm) (omega arith) (c .earliest (q - k) (omega arith) (to-part (q - k) q (omega arith) (omega arith) r))
 
   -- At the root: none is before it, and the others are below.
-  none-at-root : (t : Term) → root-step rules t ≡ none → Redex rules (subterm-at t) 0 → ⊥
+  pub none-at-root : (t : Term) → root-step rules t ≡ none → Redex rules (subterm-at t) 0 → ⊥
   none-at-root t e r =
       let same : t ≡ r .subterm = some-inj (sym (at-zero t) ∙ r .stands) in
       none≢some (sym e ∙ ap (root-step rules) same ∙ r .matched)
@@ -158,7 +158,7 @@ module _ (rules : List Rule) where
       go zero r = none-at-root t e r
       go (suc q) r = n q r
 
-  var-none : (x q : ℕ) → Redex rules (subterm-at (var x)) (suc q) → ⊥
+  pub var-none : (x q : ℕ) → Redex rules (subterm-at (var x)) (suc q) → ⊥
   unfolding subterm-at
   var-none x q r = none≢some (r .stands)
 
@@ -170,7 +170,7 @@ module _ (rules : List Rule) where
         let z : q ≡ suc p = omega arith in
         ap (subterm-at (node f ts)) z
 
-    node-none : NoRedex rules (subterm-in ts) → (q : ℕ) → Redex rules (subterm-at (node f ts)) (suc q) → ⊥
+    pub node-none : NoRedex rules (subterm-in ts) → (q : ℕ) → Redex rules (subterm-at (node f ts)) (suc q) → ⊥
     unfolding subterm-at
     node-none n q r = n q (record { subterm = r .subterm; stands = r .stands; rewritten = r .rewritten; matched = r .matched })
 
@@ -212,7 +212,7 @@ module _ (rules : List Rule) where
     later-agrees : (p q : ℕ) → q ≡ size t + p → p < sizes ts → subterm-in (cons t ts) q ≡ subterm-in ts p
     later-agrees p q e h = in-later t ts q p e
 
-    first-none : NoRedex rules (subterm-at t) → (q : ℕ) → q < size t → Redex rules (subterm-in (cons t ts)) q → ⊥
+    pub first-none : NoRedex rules (subterm-at t) → (q : ℕ) → q < size t → Redex rules (subterm-in (cons t ts)) q → ⊥
     first-none n q h r = n q (record { subterm = r .subterm; stands = sym (in-first t ts q h) ∙ r .stands; rewritten = r .rewritten; matched = r .matched })
 
     later-some : NoRedex rules (subterm-at t) → (us : Terms) → Earliest rules (subterm-in ts) (replace-in ts) us →
@@ -223,7 +223,7 @@ module _ (rules : List Rule) where
         (λ q h r. absurd (first-none n q h r))
         (ap (cons t) (c .result) ∙ sym (replace-later t ts (c .position) (c .redex .rewritten)))
 
-    both-none : NoRedex rules (subterm-at t) → NoRedex rules (subterm-in ts) → NoRedex rules (subterm-in (cons t ts))
+    pub both-none : NoRedex rules (subterm-at t) → NoRedex rules (subterm-in ts) → NoRedex rules (subterm-in (cons t ts))
     unfolding sizes
     both-none n m q r = go (decLt q (size t))
       where
@@ -241,7 +241,7 @@ module _ (rules : List Rule) where
     cons-picks none n (some us) c = later-some n us c
     cons-picks none n none m = both-none n m
 
-  nil-none : NoRedex rules (subterm-in nil)
+  pub nil-none : NoRedex rules (subterm-in nil)
   unfolding subterm-in
   nil-none p r = none≢some (r .stands)
 
@@ -269,7 +269,7 @@ module _ (rules : List Rule) where
       c .position < d .position → ⊥
   not-before c d h = c .none-below (d .earliest (c .position) h (c .redex))
 
-  same-redex : {at : ℕ → Option Term} (p q : ℕ) → p ≡ q → (r : Redex rules at p) (s : Redex rules at q) → r .rewritten ≡ s .rewritten
+  pub same-redex : {at : ℕ → Option Term} (p q : ℕ) → p ≡ q → (r : Redex rules at p) (s : Redex rules at q) → r .rewritten ≡ s .rewritten
   same-redex p q e r s =
       let a = r .stands in
       let b = s .stands in
@@ -361,12 +361,12 @@ unfolded rules t (some u) = do
   normalise rules u
 
 pub normalise-unfolds : (rules : List Rule) (t : Term) (left : ℕ) → normalise rules t left ≡ unfolded rules t (step rules t) left
-unfolding normalise return end-with and-then _>>=_ end-if pay hold if_then_else_
+unfolding normalise-by return end-with and-then _>>=_ end-if pay hold if_then_else_
 normalise-unfolds rules t zero = go (step rules t) refl
   where
     go : (o : Option Term) → step rules t ≡ o → normalise rules t zero ≡ unfolded rules t o zero
-    go none e = rw (e, normalise) refl
-    go (some u) e = rw (e, normalise) refl
+    go none e = rw (e, normalise-by) refl
+    go (some u) e = rw (e, normalise-by) refl
 normalise-unfolds rules t (suc left) = go (step rules t) refl
   where
     tested : (u : Term) (b : Bool) → (if b then stop too-large left else normalise rules u left) ≡ and-then (end-if b too-large left) (λ _. normalise rules u)
@@ -374,5 +374,5 @@ normalise-unfolds rules t (suc left) = go (step rules t) refl
     tested u false = refl
 
     go : (o : Option Term) → step rules t ≡ o → normalise rules t (suc left) ≡ unfolded rules t o (suc left)
-    go none e = rw (e, normalise) refl
-    go (some u) e = rw (e, normalise) (tested u (ltb 120 (size u)))
+    go none e = rw (e, normalise-by) refl
+    go (some u) e = rw (e, normalise-by) (tested u (ltb 120 (size u)))

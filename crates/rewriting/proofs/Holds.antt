@@ -13,7 +13,7 @@ use Rattle.terms.specs.Term.{Term, Pair, size}
 use Rattle.rewriting.specs.Overlap.{Rule}
 use Rattle.rewriting.specs.Ends.{ending, number-of}
 use Rattle.rewriting.specs.Rewrite.{step, End, complete, neither-above, spent, too-large, rules-full, log-full, end-number, Paid, done}
-use Rattle.rewriting.specs.Rewrite.{stop, Paying, return, end-with, and-then, _>>=_, end-if, pay, hold, normalise, normalise-pair}
+use Rattle.rewriting.specs.Rewrite.{stop, Paying, return, end-with, and-then, _>>=_, end-if, pay, hold, normalise, normalise-pair, normalise-by, both-by}
 use Rattle.rewriting.proofs.Relations
 use Rattle.rewriting.proofs.Relations.{Star}
 use Rattle.rewriting.proofs.Abstract.{append, one}
@@ -124,19 +124,19 @@ module _ (E : End → ℕ → Type 0) (rules : List Rule) (out-of-units : E spen
   -- Normalising comes to the form, or to a term over 120 nodes, or to the end of the units.
   module _ (t : Term) (large : Outgrown rules t → (left : ℕ) → E too-large left) where
     form-from : (u : Term) → Reached rules t u → (left : ℕ) → Holds (Form rules t) E (normalise rules u left)
-    unfolding normalise
+    unfolding normalise-by
     form-from u r zero = go (step rules u) refl
       where
         go : (o : Option Term) → step rules u ≡ o → Holds (Form rules t) E (normalise rules u zero)
-        go none e = rw (e, normalise) (record { reached = r; normal = e })
-        go (some w) e = rw (e, normalise) out-of-units
+        go none e = rw (e, normalise-by) (record { reached = r; normal = e })
+        go (some w) e = rw (e, normalise-by) out-of-units
     form-from u r (suc left) = go (step rules u) refl (λ w q. form-from w q left)
       where
         go : (o : Option Term) → step rules u ≡ o → ((w : Term) → Reached rules t w → Holds (Form rules t) E (normalise rules w left)) →
             Holds (Form rules t) E (normalise rules u (suc left))
-        go none e ih = rw (e, normalise) (record { reached = r; normal = e })
+        go none e ih = rw (e, normalise-by) (record { reached = r; normal = e })
         go (some w) e ih =
-            rw (e, normalise)
+            rw (e, normalise-by)
             (choose-holds (Form rules t) E (ltb 120 (size w)) (stop too-large left) (normalise rules w left)
             (λ b. large (record { before = u; after = w; reached = r; steps = e; over = ltb-true 120 (size w) b }) left)
             (λ b. ih w (further r e (ltb-false 120 (size w) b))))
@@ -147,7 +147,7 @@ module _ (E : End → ℕ → Type 0) (rules : List Rule) (out-of-units : E spen
   pub normalise-pair-holds : (e : Pair) → (Outgrown rules (e .left) → (left : ℕ) → E too-large left) →
       (Outgrown rules (e .right) → (left : ℕ) → E too-large left) →
       Pays (Forms rules e) E (normalise-pair rules e)
-  unfolding normalise-pair
+  unfolding both-by
   normalise-pair-holds e p q =
       bind-holds _ _ (normalise-holds (e .left) p) λ l a.
       bind-holds _ _ (normalise-holds (e .right) q) λ r b.

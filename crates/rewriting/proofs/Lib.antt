@@ -10,6 +10,8 @@ pub mod Order
 pub mod Matching
 pub mod Stepping
 pub mod Earliest
+pub mod Counts
+pub mod Outer
 pub mod Finite
 pub mod Checked
 pub mod Overlaps
@@ -19,5 +21,6 @@ pub mod Lower
 pub mod Variables
 pub mod Limits
 pub mod Holds
+pub mod Lasting
 pub mod Relations
 pub mod Verdicts

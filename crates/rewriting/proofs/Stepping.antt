@@ -36,7 +36,7 @@ pub record Applied (rules : List Rule) (t u : Term) : Type 0 where
 abbrev pub Unmatched : List Rule → Term → Type 0
 Unmatched rules t = (l r : Term) → Of (sides-of rules) l r → (σ : Subst) → t ≡ subst-term σ l → ⊥
 
-abbrev Rooted : List Rule → Term → Option Term → Type 0
+abbrev pub Rooted : List Rule → Term → Option Term → Type 0
 Rooted rules t none = Unmatched rules t
 Rooted rules t (some u) = Applied rules t u
 
@@ -62,27 +62,27 @@ root-go rule rules t none e none h = unmatched-cons rule rules t (matching-none 
 root-go rule rules t none e (some u) h =
     record { l = h .l; r = h .r; rule = List·Memᴰ·tail (h .rule); σ = h .σ; before = h .before; after = h .after }
 
-rooted : (rules : List Rule) (t : Term) → Rooted rules t (root-step rules t)
+pub rooted : (rules : List Rule) (t : Term) → Rooted rules t (root-step rules t)
 unfolding root-step
 rooted [] t = λ l r i σ e. List·Memᴰ·not-nil i
 rooted (rule ∷ rules) t = root-go rule rules t (matching (rule .sides .left) t []) refl (root-step rules t) (rooted rules t)
 
-abbrev Stepped : List Rule → Term → Option Term → Type 0
+abbrev pub Stepped : List Rule → Term → Option Term → Type 0
 Stepped rules t none = Normal (StepBy rules) t
 Stepped rules t (some u) = StepBy rules t u
 
-abbrev SteppedIn : List Rule → Terms → Option Terms → Type 0
+abbrev pub SteppedIn : List Rule → Terms → Option Terms → Type 0
 SteppedIn rules ts none = Normal (StepsBy rules) ts
 SteppedIn rules ts (some us) = StepsBy rules ts us
 
 module _ (rules : List Rule) where
-  applied-step : {t u : Term} → Applied rules t u → StepBy rules t u
+  pub applied-step : {t u : Term} → Applied rules t u → StepBy rules t u
   applied-step a = root (a .rule) (a .σ) (a .before) (a .after)
 
-  normal-var : (x : ℕ) → Unmatched rules (var x) → Normal (StepBy rules) (var x)
+  pub normal-var : (x : ℕ) → Unmatched rules (var x) → Normal (StepBy rules) (var x)
   normal-var x n u (root {l = l} {r = r} ρ σ e d) = n l r ρ σ e
 
-  normal-node : (f : ℕ) (ts : Terms) → Unmatched rules (node f ts) → Normal (StepsBy rules) ts → Normal (StepBy rules) (node f ts)
+  pub normal-node : (f : ℕ) (ts : Terms) → Unmatched rules (node f ts) → Normal (StepsBy rules) ts → Normal (StepBy rules) (node f ts)
   normal-node f ts n k u (root {l = l} {r = r} ρ σ e d) = n l r ρ σ e
   normal-node f ts n k u (inside {us = us} s) = k us s
 
@@ -90,14 +90,14 @@ module _ (rules : List Rule) where
   normal-cons t ts n k us (here {u = u} s) = n u s
   normal-cons t ts n k us (there {us = vs} s) = k vs s
 
-  normal-nil : Normal (StepsBy rules) nil
+  pub normal-nil : Normal (StepsBy rules) nil
   normal-nil us s = none-from us s refl
     where
       none-from : {ts : Terms} (us : Terms) → StepsBy rules ts us → ts ≡ nil → ⊥
       none-from us (here s) e = nil≢cons (sym e)
       none-from us (there s) e = nil≢cons (sym e)
 
-  var-go : (x : ℕ) (p : Option Term) → Rooted rules (var x) p → Stepped rules (var x) p
+  pub var-go : (x : ℕ) (p : Option Term) → Rooted rules (var x) p → Stepped rules (var x) p
   var-go x none n = normal-var x n
   var-go x (some u) a = applied-step a
 
@@ -108,7 +108,7 @@ module _ (rules : List Rule) where
   node-go f ts none n (some u) a = applied-step a
   node-go f ts none n none m = normal-node f ts m n
 
-  cons-go : (t : Term) (ts : Terms) (o : Option Term) → Stepped rules t o → (p : Option Terms) → SteppedIn rules ts p →
+  pub cons-go : (t : Term) (ts : Terms) (o : Option Term) → Stepped rules t o → (p : Option Terms) → SteppedIn rules ts p →
       SteppedIn rules (cons t ts) (or-else (mapped (λ u. cons u ts) o) (mapped (cons t) p))
   unfolding mapped or-else
   cons-go t ts (some u) s p h = here s

@@ -1,3 +1,4 @@
 pub mod Overlap
 pub mod Rewrite
 pub mod Ends
+pub mod Outermost

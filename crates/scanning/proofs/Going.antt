@@ -10,8 +10,8 @@ use Rattle.terms.proofs.Shape.{zero≢one}
 use Rattle.rewriting.specs.Rewrite.{Paying}
 use Rattle.completion.specs.Turn.{Candidate}
 use Rattle.slots.specs.Slots.{PutMark, KeptSlot}
-use Rattle.forms.specs.declared.Walk.{Walk}
-use Rattle.forms.specs.declared.Found.the-variants.{Equal}
+use Rattle.joining.specs.declared.Walk.{Walk}
+use Rattle.joining.specs.declared.Found.the-variants.{Equal}
 use Rattle.forms.specs.Forms.{ScanPart, Walked, found, short, large, on}
 use Rattle.forms.proofs.Walking.{found-is, units-is, walked-from}
 use Rattle.forms.proofs.Pairs.{marked-one}

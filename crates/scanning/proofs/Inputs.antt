@@ -14,7 +14,7 @@ use Rattle.completion.specs.Turn.{scanned-input, Candidate, candidates, scan-in
 use Rattle.completion.specs.Calls.{origin-bytes}
 use Rattle.completion.proofs.Limits.{length-candidates}
 use Rattle.slots.specs.Slots.{PutMark, Layout, numbered-bytes}
-use Rattle.forms.specs.declared.Walk.{Walk}
+use Rattle.joining.specs.declared.Walk.{Walk}
 use Rattle.forms.specs.declared.Taken.{Taken}
 use Rattle.forms.specs.Forms.{compared, Walked, found, short, large, on, PairWalk}
 use Rattle.forms.proofs.Pairs.{pair-wider}

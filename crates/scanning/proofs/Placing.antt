@@ -22,8 +22,8 @@ use Rattle.overlaps.specs.declared.Met.{Met}
 use Rattle.overlaps.specs.declared.Met.the-variants.{Nothing, TooLarge, Pair as Met-pair}
 use Rattle.overlaps.specs.Answer.{PairIs, Says, Possible, Overlapped}
 use Rattle.rewriting.specs.declared.End.the-variants.{TooLarge as TooLargeEnd}
-use Rattle.forms.specs.declared.Walk.{Walk}
-use Rattle.forms.specs.declared.Found.the-variants.{Equal, Ends}
+use Rattle.joining.specs.declared.Walk.{Walk}
+use Rattle.joining.specs.declared.Found.the-variants.{Equal, Ends}
 use Rattle.forms.specs.Forms.{compared, large, on, PairWalk}
 use Rattle.forms.proofs.Walking.{found-is, units-is, walked-from}
 use Rattle.scanning.specs.declared.spots.Spot.{Spot}

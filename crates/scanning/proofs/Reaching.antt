@@ -7,8 +7,8 @@ use native.Mathlib.Omega.{arith}
 use Rattle.rewriting.specs.Overlap.{Rule}
 use Rattle.slots.specs.Slots.{Layout}
 use Rattle.slots.proofs.Layouts.{layout-less}
-use Rattle.forms.specs.declared.Walk.{Walk}
-use Rattle.forms.specs.declared.Found.the-variants.{Equal}
+use Rattle.joining.specs.declared.Walk.{Walk}
+use Rattle.joining.specs.declared.Found.the-variants.{Equal}
 use Rattle.forms.specs.Forms.{ScanPart}
 use Rattle.scanning.specs.declared.spots.Spot.{Spot}
 use Rattle.scanning.specs.Walk.{Walks, RulesIn, at-place, of-rules}

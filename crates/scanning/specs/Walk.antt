@@ -9,10 +9,10 @@ use Rattle.rewriting.specs.Overlap.{Rule, sides-of, overlap, Place, all-places}
 use Rattle.rewriting.specs.Rewrite.{End, complete, neither-above, spent, too-large, rules-full, log-full, Paid, done, stop, _>>=_}
 use Rattle.completion.specs.Turn.{scanned-input, Candidate, candidates, scan-overlap, if-different-overlap, scan}
 use Rattle.slots.specs.Slots.{slot, number-of, Layout, Stored}
-use Rattle.forms.specs.declared.Walk.{Walk}
+use Rattle.joining.specs.declared.Walk.{Walk}
 use Rattle.forms.specs.declared.Taken.{Taken}
-use Rattle.forms.specs.declared.Found.{Found}
-use Rattle.forms.specs.declared.Found.the-variants.{Equal, Different, Ends}
+use Rattle.joining.specs.declared.Found.{Found}
+use Rattle.joining.specs.declared.Found.the-variants.{Equal, Different, Ends}
 use Rattle.rewriting.specs.declared.End.the-variants.{Spent, TooLarge}
 use Rattle.overlaps.specs.Answer.{AtSymbol}
 use Rattle.forms.specs.Forms.{ScanPart, compared, Shows, Walked}

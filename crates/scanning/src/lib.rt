@@ -6,9 +6,9 @@ ghost use lib.ListN.{length};
 ghost use Rattle.limits.specs.Limits.{most-pairs, most-equations};
 ghost use Rattle.slots.specs.Slots.{slot, left-length, Layout};
 ghost use Rattle.scanning.specs.Walk.{Walks, RulesIn, OverlapsAt, at-place, of-rules, InSlots, of-inputs, of-all, ScanIs};
-use forms::Found;
+use joining::Found;
 use forms::Taken;
-use forms::Walk;
+use joining::Walk;
 use overlaps::Met;
 use rewriting::End;
 use slots::SLOT;
@@ -27,8 +27,8 @@ fn scan_at(rules: &[u8], count: usize, table: &[u8], at: Spot, units: u32, pair:
     let position = at.position;
     let mut peak = [0u8; SLOT];
     match overlaps::overlap(rules, table, inner, outer, position, &mut peak) {
-        Met::Nothing => forms::walked(Found::Equal, units),
-        Met::TooLarge => forms::walked(Found::Ends(End::TooLarge), units),
+        Met::Nothing => joining::walked(Found::Equal, units),
+        Met::TooLarge => joining::walked(Found::Ends(End::TooLarge), units),
         Met::Pair => {
             let mark = origins::overlapping(rules, inner, outer, position);
             slots::put_mark(pair, 0, &mark);
@@ -56,7 +56,7 @@ fn scan_rules(rules: &[u8], count: usize, table: &[u8], units: u32, pair: &mut [
         }
         at = spots::next(rules, at);
     }
-    forms::walked(Found::Equal, u)
+    joining::walked(Found::Equal, u)
 }
 
 // The input equations.
@@ -84,7 +84,7 @@ fn scan_inputs(
         };
         u = w.units;
     }
-    forms::walked(Found::Equal, u)
+    joining::walked(Found::Equal, u)
 }
 
 // All overlaps, then the input equations.

@@ -26,9 +26,9 @@ use Rattle.slots.specs.Slots.{slot, mark-of, Layout, PairAt, MarkedAt, Stored, 
 use Rattle.slots.proofs.Listing.{all-first}
 use Rattle.inputs.specs.Inputs.{marked}
 use Rattle.rewriting.specs.declared.End.the-variants.{NeitherAbove}
-use Rattle.forms.specs.declared.Found.the-variants.{Ends}
+use Rattle.joining.specs.declared.Found.the-variants.{Ends}
 use Rattle.forms.specs.declared.Taken.{Taken}
-use Rattle.forms.specs.declared.Walk.{Walk}
+use Rattle.joining.specs.declared.Walk.{Walk}
 use Rattle.forms.specs.Forms.{compared, walk-of, Walked, found, short, large, on, OldestIs}
 use Rattle.scanning.specs.Walk.{StopsWith, Finds, ScanIs, InSlots}
 use Rattle.state.specs.Steps.{behind-first}

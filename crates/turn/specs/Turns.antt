@@ -17,7 +17,7 @@ use Rattle.slots.specs.Slots.{slot, mark-of, Layout, PairAt, Stored, Holds}
 use Rattle.completion.specs.Turn.{Candidate, State as RunState, Taken as TakenPair, take-pair, end-if-all-put-back, turn}
 use Rattle.completion.specs.Calls.{origin-bytes}
 use Rattle.inputs.specs.Inputs.{marked, inputs-of}
-use Rattle.forms.specs.declared.Found.the-variants.{Equal, Different, Ends as FoundEnds}
+use Rattle.joining.specs.declared.Found.the-variants.{Equal, Different, Ends as FoundEnds}
 use Rattle.forms.specs.declared.Taken.{Taken}
 use Rattle.state.specs.declared.State.{State}
 use Rattle.collapse.specs.Rows.{held}

@@ -6,7 +6,7 @@ ghost use Rattle.slots.specs.Slots.{Layout};
 ghost use Rattle.state.specs.Run.{Fine};
 ghost use Rattle.turn.specs.Turns.{waiting-behind, Looks, Turns};
 use forms::Due;
-use forms::Found;
+use joining::Found;
 use forms::Taken;
 use orient::Way;
 use rewriting::End;
@@ -44,7 +44,7 @@ fn look(pairs: &[u8], w: Waiting, inputs: &[u8], count: usize, table: &[u8], uni
         return scanning::scan(inputs, count, pairs, w.live, table, units);
     }
     if w.back >= w.count {
-        let all = forms::walked(Found::Ends(End::NeitherAbove), units);
+        let all = joining::walked(Found::Ends(End::NeitherAbove), units);
         return forms::with_pair(all, [0u8; SLOT]);
     }
     forms::oldest(pairs, w.live, table, units)

@@ -1,4 +1,4 @@
-//! The fixed problems of the benchmark. Those of decide, the pairs of terms of
+//! The fixed problems of the benchmark. The questions, the pairs of terms of
 //! lower and the saved records stand apart.
 
 use crate::{decisions, pairs, resumed};
@@ -13,6 +13,8 @@ use kb_compare::call::{Bytes, Call};
 pub struct Case {
     pub name: String,
     pub work: Work,
+    /// The case to which its times are related.
+    pub against: Option<String>,
 }
 
 pub enum Work {
@@ -26,8 +28,6 @@ pub struct Slices {
     pub record: Vec<u8>,
     pub units: u32,
     pub most: u32,
-    /// The case that is the same run in one piece.
-    pub one_piece: String,
 }
 
 const BUDGET: u32 = 1_000_000;
@@ -41,6 +41,7 @@ pub fn made(name: &str, call: Call<'static>) -> Case {
     Case {
         name: name.to_string(),
         work: Work::Call(call),
+        against: None,
     }
 }
 

@@ -1,12 +1,13 @@
 //! The questions of the benchmark: some rewriting; a record that is long to
-//! read, refused behind it or with its rules compared; and much rewriting.
+//! read, refused behind it or with its rules compared; and much rewriting. They
+//! are asked of decide and of outermost.
 
 use crate::cases::{made, Case};
 use kb_cases::kept::Kept;
 use kb_cases::notation::Theory;
-use kb_cases::questions::counted;
-use kb_cases::theories::{countdown, group_rules, GROUP};
-use kb_compare::call::{result_of, Call};
+use kb_cases::questions::{counted, five_digits};
+use kb_cases::theories::{countdown, digits, group_rules, GROUP};
+use kb_compare::call::{result_of, Bytes, Call};
 use kb_compare::RustEngine;
 use kb_engine::run::END_COMPLETE;
 use kb_engine::{MAX_BUDGET, MAX_LOG, MAX_RULES};
@@ -18,31 +19,74 @@ const PRODUCTS: &str = "*(i(*(*(x,y),*(z,w))),*(*(*(x,y),*(z,w)),*(i(*(v,u)),*(v
 const LONG: &str = "c/0/0 s/1/1 g/2/2 f/2/3";
 /// A record with this end is read and then refused.
 const OTHER_END: u8 = 24;
-/// Counters from here pay 1,000,000 units, with no term over 120 nodes.
+/// Digits from here pay 1,000,000 units by either call, counters by decide.
+const DIGITS: usize = 15;
 const COUNTED: usize = 16;
 
+/// A question under a name.
+struct Question {
+    name: &'static str,
+    theory: Theory,
+    record: Vec<u8>,
+}
+
+impl Question {
+    fn by(&self, call: fn(Bytes<'static>, Bytes<'static>) -> Call<'static>) -> Case {
+        let problem = self.theory.problem(MAX_BUDGET);
+        let call = call(problem.into(), self.record.clone().into());
+        made(&format!("{}, {}", call.name(), self.name), call)
+    }
+
+    /// By outermost, related to decide.
+    fn by_outermost(&self) -> Case {
+        Case {
+            against: Some(self.by(Call::Decide).name),
+            ..self.by(Call::Outermost)
+        }
+    }
+}
+
 pub fn all() -> Vec<Case> {
-    let groups = Theory::new(GROUP).equation(PRODUCTS);
+    let questions = questions();
+    let mut list: Vec<Case> = questions.iter().map(|q| q.by(Call::Decide)).collect();
+    list.push(counters().by(Call::Decide));
+    list.extend(questions.iter().map(Question::by_outermost));
+    list
+}
+
+fn questions() -> [Question; 4] {
     let no_step = Theory::new(LONG).equation("s(g(x,c)) = s(g(x,c))");
-    vec![
-        asked("decide, ten rules", groups, ten_rules()),
-        asked(
-            "decide, read 13,000 bytes",
-            no_step.clone(),
-            long_record(OTHER_END),
-        ),
-        asked(
-            "decide, 13,000 bytes, 32 rules",
-            no_step,
-            long_record(END_COMPLETE),
-        ),
-        asked("decide, 1,000,000 units", counted(COUNTED), counters()),
+    [
+        Question {
+            name: "ten rules",
+            theory: Theory::new(GROUP).equation(PRODUCTS),
+            record: ten_rules(),
+        },
+        Question {
+            name: "read 13,000 bytes",
+            theory: no_step.clone(),
+            record: long_record(OTHER_END),
+        },
+        Question {
+            name: "13,000 bytes, 32 rules",
+            theory: no_step,
+            record: long_record(END_COMPLETE),
+        },
+        Question {
+            name: "digits",
+            theory: five_digits(DIGITS),
+            record: Kept::of_theory(&digits()).bytes(),
+        },
     ]
 }
 
-fn asked(name: &str, theory: Theory, record: Vec<u8>) -> Case {
-    let problem = theory.problem(MAX_BUDGET);
-    made(name, Call::Decide(problem.into(), record.into()))
+/// By outermost a term is over 120 nodes after two steps.
+fn counters() -> Question {
+    Question {
+        name: "1,000,000 units",
+        theory: counted(COUNTED),
+        record: Kept::of_theory(&countdown(0, 0)).bytes(),
+    }
 }
 
 /// The result of completing 002's ten rules.
@@ -75,8 +119,4 @@ fn comb(h: &str, place: usize) -> String {
         out += &format!("{before}{h}(x{},", i % 8);
     }
     out + "x0" + &")".repeat(60)
-}
-
-fn counters() -> Vec<u8> {
-    Kept::of_theory(&countdown(0, 0)).bytes()
 }

@@ -97,6 +97,9 @@ fn answer_text(case: &Case, answer: u64, result: &[u8]) -> String {
         (Call::Unify(..), 2) => "none".to_string(),
         (Call::Decide(..), 1) if low == 1 => "same".to_string(),
         (Call::Decide(..), 1) => "different".to_string(),
+        (Call::Outermost(..), 1) if number == 1 => format!("same, {low} units"),
+        (Call::Outermost(..), 1) => format!("different, {low} units"),
+        (Call::Outermost(..), _) => format!("number {number}, {low} units"),
         (Call::Unify(..) | Call::Decide(..), _) => format!("number {number}"),
         (Call::ResumeSaving(_, 0), _) => format!("{number} bytes saved"),
         _ => ended(&result[..low as usize]),
@@ -134,25 +137,22 @@ fn print_case(case: &Case) -> Times {
     let [a, b] = least.map(|seconds| seconds * 1e6);
     let note = if agree { "" } else { "  DIFFERENT" };
     println!(
-        "{:<30} {text:<34} {a:>12.2} {b:>12.2} {:>8.2}{note}",
+        "{:<34} {text:<34} {a:>12.2} {b:>12.2} {:>8.2}{note}",
         case.name,
         a / b
     );
     [a, b]
 }
 
-/// What a run in slices takes, against the run in one piece.
-fn print_slices(timed: &[(&Case, Times)]) {
+/// What some cases take against others that were timed too.
+fn print_related(timed: &[(&Case, Times)]) {
     for (case, [a, b]) in timed {
-        let Work::Slices(slices) = &case.work else {
-            continue;
-        };
-        let whole = timed.iter().find(|(c, _)| c.name == slices.one_piece);
-        if let Some((_, [c, d])) = whole {
-            let (name, units, proved, rust) = (&case.name, slices.units, a / c, b / d);
-            println!(
-                "{name} of {units} units, against one piece: proved {proved:.2}, rust {rust:.2}"
-            );
+        let other = timed
+            .iter()
+            .find(|(other, _)| Some(&other.name) == case.against.as_ref());
+        if let Some((other, [c, d])) = other {
+            let (name, other, proved, rust) = (&case.name, &other.name, a / c, b / d);
+            println!("{name} against {other}: proved {proved:.2}, rust {rust:.2}");
         }
     }
 }
@@ -160,14 +160,14 @@ fn print_slices(timed: &[(&Case, Times)]) {
 fn main() -> std::io::Result<()> {
     let wanted = std::env::args().nth(1).unwrap_or_default();
     println!(
-        "{:<30} {:<34} {:>12} {:>12} {:>8}",
+        "{:<34} {:<34} {:>12} {:>12} {:>8}",
         "case", "answer", "proved us", "rust us", "ratio"
     );
     let cases = cases::all();
     let chosen = cases.iter().filter(|case| case.name.contains(&wanted));
     let timed: Vec<(&Case, Times)> = chosen.map(|case| (case, print_case(case))).collect();
     println!("processor time, least of {SAMPLES} samples; buffers not cleared between calls");
-    print_slices(&timed);
+    print_related(&timed);
     if wanted.is_empty() || wanted == "provers" {
         provers::print()?;
     }

@@ -59,11 +59,11 @@ fn sliced(name: &str, theory: Theory) -> [Case; 2] {
         record,
         units: SLICE,
         most: MAX_BUDGET / SLICE,
-        one_piece: one_piece.name.clone(),
     };
     let slices = Case {
         name: format!("{name}, in slices"),
         work: Work::Slices(slices),
+        against: Some(one_piece.name.clone()),
     };
     [one_piece, slices]
 }

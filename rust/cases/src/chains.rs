@@ -12,10 +12,10 @@ use crate::pairs::{self, Pair};
 use crate::questions::{self, Question};
 use crate::theories::GROUP;
 use kb_engine::calls::{CompareAnswer, UnifyAnswer};
-use kb_engine::decide::DecideAnswer;
 use kb_engine::lower::Which;
 use kb_engine::order::Order;
 use kb_engine::problem::Refusal;
+use kb_engine::{DecideAnswer, Verdict};
 use std::cmp::Ordering;
 use std::fmt;
 
@@ -202,8 +202,9 @@ fn cut_problem(sides: Sides, place: usize) -> Case {
 /// of a whole one must be above, and a damaged one is a bad field.
 pub fn questions() -> Vec<questions::Case> {
     let (falling, rising) = (sides(MOST, 1), sides(1, MOST));
+    let same = DecideAnswer::Decided(Verdict::Same, 0);
     let mut list = vec![
-        question(falling, "", record(falling.nodes()), DecideAnswer::Same),
+        question(falling, "", record(falling.nodes()), same),
         question(rising, "", record(rising.nodes()), refused_at_rule(15)),
     ];
     for sides in [falling, rising] {
@@ -232,12 +233,8 @@ fn refused_at_rule(number: u8) -> DecideAnswer {
 }
 
 fn question(sides: Sides, what: &str, record: Vec<u8>, answer: DecideAnswer) -> questions::Case {
-    let problem = problem(vec![X, X]);
-    questions::Case {
-        name: format!("a rule of {sides}{what}"),
-        question: Question { problem, record },
-        answer,
-    }
+    let question = Question::new(problem(vec![X, X]), record);
+    questions::Case::new(&format!("a rule of {sides}{what}"), question, answer)
 }
 
 /// A damaged chain and a whole one: lower refuses.

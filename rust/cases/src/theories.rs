@@ -10,6 +10,9 @@ pub const ARITHMETIC: &str = "0/0/0 s/1/1 p/1/2 +/2/3 -/2/4";
 /// 0, s, a constant, and two counters.
 pub const COUNTDOWN: &str = "0/0/0 s/1/1 a/0/2 w/4/3 f/4/4";
 
+/// 0, s, a constant, and the digits of `digits`.
+pub const DIGITS: &str = "0/0/0 a/0/1 s/1/2 f/4/3 g/4/4";
+
 /// A name and its theory.
 type Named = (&'static str, fn() -> Theory);
 
@@ -273,4 +276,18 @@ pub fn countdown(n: usize, equations: usize) -> Theory {
         theory = theory.equation(&format!("f({full},{full},{full},{full}) = a"));
     }
     theory
+}
+
+/// Three digits inside, f, that run down to a, and two outside, g, that go on
+/// only then and set them anew: one node matches at a time, so that every
+/// strategy makes the same steps.
+pub fn digits() -> Theory {
+    Theory::new(DIGITS).equations(&[
+        "f(x,y,s(z),v) = f(x,y,z,v)",
+        "f(x,s(y),0,v) = f(x,y,v,v)",
+        "f(s(x),0,0,v) = f(x,v,v,v)",
+        "f(0,0,0,v) = a",
+        "g(x,s(y),v,a) = g(x,y,v,f(v,v,v,v))",
+        "g(s(x),0,v,a) = g(x,v,v,f(v,v,v,v))",
+    ])
 }

@@ -2,8 +2,9 @@
 
 use kb_cases::chains;
 use kb_cases::fixed::Case;
+use kb_cases::questions::Question;
 use kb_engine::lower::which;
-use kb_engine::{compare, complete, decide, subterm, unify};
+use kb_engine::{compare, complete, decide, outermost, subterm, unify};
 use kb_engine::{CompleteAnswer, Refusal, MIN_RESULT};
 use std::collections::BTreeSet;
 
@@ -44,8 +45,11 @@ fn chains_are_answered_as_they_must() {
 fn rules_of_chains_are_answered_as_they_must() {
     let cases = chains::questions();
     for case in &cases {
-        let found = decide(&case.question.problem, &case.question.record);
-        assert_eq!(found, case.answer, "{}", case.name);
+        let Question {
+            problem, record, ..
+        } = &case.question;
+        assert_eq!(decide(problem, record), case.decide, "{}", case.name);
+        assert_eq!(outermost(problem, record), case.outermost, "{}", case.name);
     }
     assert_distinct(cases.iter().map(|case| &case.name));
 }

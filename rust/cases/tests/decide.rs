@@ -7,12 +7,11 @@ use kb_cases::full_log;
 use kb_cases::generate;
 use kb_cases::kept::Kept;
 use kb_cases::notation::Theory;
-use kb_cases::questions::{cases, settle_record, SETTLE};
+use kb_cases::questions::{cases, long_cases, settle_record, SETTLE};
 use kb_cases::theories::{self, ARITHMETIC, GROUP};
-use kb_engine::decide::decision;
 use kb_engine::fields::{push_field, split_fields, TAG_RULE};
 use kb_engine::problem::Problem;
-use kb_engine::{decide, DecideAnswer, Refusal};
+use kb_engine::{decide, outermost, DecideAnswer, Refusal, Verdict};
 
 const BUDGET: u32 = 1_000_000;
 
@@ -21,27 +20,41 @@ fn completed(theory: &Theory, budget: u32) -> Vec<u8> {
     result_of(&theory.problem(budget)).expect("the theory is accepted")
 }
 
-fn refused(number: u8, place: usize) -> DecideAnswer {
-    DecideAnswer::Refused(Refusal { number, place })
+/// A verdict, whatever it cost.
+type Answer = Result<Verdict, Refusal>;
+
+const SAME: Answer = Ok(Verdict::Same);
+const DIFFERENT: Answer = Ok(Verdict::Different);
+
+fn refused(number: u8, place: usize) -> Answer {
+    Err(Refusal { number, place })
+}
+
+fn verdict(answer: DecideAnswer) -> Answer {
+    match answer {
+        DecideAnswer::Decided(verdict, _) => Ok(verdict),
+        DecideAnswer::Refused(refusal) => Err(refusal),
+    }
 }
 
 /// Asks over these symbols.
-fn ask(symbols: &str, equation: &str, budget: u32, record: &[u8]) -> DecideAnswer {
+fn ask(symbols: &str, equation: &str, budget: u32, record: &[u8]) -> Answer {
     let theory = Theory::new(symbols).equation(equation);
-    decide(&theory.problem(budget), record)
+    verdict(decide(&theory.problem(budget), record))
 }
 
 /// A question that rewrites once under the record of the settle input.
-fn ask_settle(record: &[u8]) -> DecideAnswer {
+fn ask_settle(record: &[u8]) -> Answer {
     ask(SETTLE, "f(f(f(c))) = f(c)", 9, record)
 }
 
+/// By both calls, with the units.
 #[test]
 fn fixed_questions_are_answered_as_they_must() {
-    for case in cases() {
-        let question = &case.question;
-        let found = decide(&question.problem, &question.record);
-        assert_eq!(found, case.answer, "{}", case.name);
+    for case in cases().into_iter().chain(long_cases()) {
+        let (problem, record) = (&case.question.problem, &case.question.record);
+        assert_eq!(decide(problem, record), case.decide, "{}", case.name);
+        assert_eq!(outermost(problem, record), case.outermost, "{}", case.name);
     }
 }
 
@@ -51,7 +64,7 @@ fn the_settle_input_leaves_this_record() {
     assert_eq!(record, settle_record().bytes());
     let text = "10000100 110004 00000003 120006 000101018080 130008 0100010000000001";
     assert_eq!(record, bytes(text));
-    assert_eq!(ask_settle(&record), DecideAnswer::Same);
+    assert_eq!(ask_settle(&record), SAME);
 }
 
 /// The first byte of the cut field, or the end where a field is due.
@@ -63,9 +76,9 @@ fn every_truncation() {
             0..=3 => refused(13, 0),
             4..=10 => refused(13, 4),
             // No rule: both sides are as they were.
-            11 => DecideAnswer::Different,
+            11 => DIFFERENT,
             12..=19 => refused(13, 11),
-            20 | 31 => DecideAnswer::Same,
+            20 | 31 => SAME,
             _ => refused(13, 20),
         };
         assert_eq!(ask_settle(&record[..length]), expected, "{length}");
@@ -131,7 +144,8 @@ fn other_ends_are_refused() {
         let table = Problem::read(&theory.problem(0)).unwrap().equations[0].start - 7;
         let mut problem = theory.problem(9)[..table + 7].to_vec();
         push_field(&mut problem, 3, &[0x80, 0x80]);
-        assert_eq!(decide(&problem, &record), refused(14, 0), "end {end}");
+        let found = verdict(decide(&problem, &record));
+        assert_eq!(found, refused(14, 0), "end {end}");
     };
     ended(&theories::group_axioms(), BUDGET, 20);
     ended(&theories::group_axioms(), 30, 21);
@@ -159,11 +173,11 @@ fn groups() {
     ];
     for equation in same {
         let found = ask(GROUP, equation, 99, &record);
-        assert_eq!(found, DecideAnswer::Same, "{equation}");
+        assert_eq!(found, SAME, "{equation}");
     }
     for equation in different {
         let found = ask(GROUP, equation, 99, &record);
-        assert_eq!(found, DecideAnswer::Different, "{equation}");
+        assert_eq!(found, DIFFERENT, "{equation}");
     }
 }
 
@@ -172,7 +186,7 @@ fn groups() {
 fn records_over_other_symbols() {
     let record = Kept::of_theory(&theories::group_rules()).bytes();
     let ask = |symbols| ask(symbols, "x = x", 9, &record);
-    assert_eq!(ask("e/0/0 i/1/2 */2/1 a/0/3"), DecideAnswer::Same);
+    assert_eq!(ask("e/0/0 i/1/2 */2/1 a/0/3"), SAME);
     assert_eq!(ask("e/0/0 i/1/2"), refused(13, 11));
     assert_eq!(ask("e/0/0 i/2/2 */2/1"), refused(13, 20));
     // i(x*y) to i(y)*i(x), the last, needs i above *.
@@ -200,13 +214,17 @@ fn one_unit_less_is_21() {
     ];
     for (symbols, equation, units, record) in asked {
         let theory = Theory::new(symbols).equation(equation);
-        let whole = decision(&theory.problem(BUDGET), record).unwrap();
-        assert_eq!(whole.units, units, "{equation}");
+        let whole = decide(&theory.problem(BUDGET), record);
+        let DecideAnswer::Decided(_, paid) = whole else {
+            panic!("{equation}: {whole:?}");
+        };
+        assert_eq!(paid, units, "{equation}");
         for budget in 0..units {
             let less = decide(&theory.problem(budget), record);
-            assert_eq!(less, DecideAnswer::Ended(21), "{equation}");
+            let spent = DecideAnswer::Decided(Verdict::Ended(21), budget);
+            assert_eq!(less, spent, "{equation}");
         }
-        assert_eq!(decision(&theory.problem(units), record).unwrap(), whole);
+        assert_eq!(decide(&theory.problem(units), record), whole);
     }
 }
 
@@ -216,10 +234,10 @@ fn the_order_of_steps() {
     let symbols = "a/0/0 b/0/1 c/0/2 g/1/3 f/1/4";
     let rules = |list: &[&str]| Kept::of_theory(&Theory::new(symbols).equations(list)).bytes();
     let lowest = |list: &[&str]| ask(symbols, "f(c) = a", 1, &rules(list));
-    assert_eq!(lowest(&["f(c) = a", "f(x) = b"]), DecideAnswer::Same);
-    assert_eq!(lowest(&["f(x) = b", "f(c) = a"]), DecideAnswer::Different);
+    assert_eq!(lowest(&["f(c) = a", "f(x) = b"]), SAME);
+    assert_eq!(lowest(&["f(x) = b", "f(c) = a"]), DIFFERENT);
     let inner = rules(&["f(g(x)) = a", "g(x) = b", "f(b) = c"]);
-    assert_eq!(ask(symbols, "f(g(c)) = c", 2, &inner), DecideAnswer::Same);
+    assert_eq!(ask(symbols, "f(g(c)) = c", 2, &inner), SAME);
 }
 
 /// As many variables as a rule can have, and a byte that is none.
@@ -232,8 +250,8 @@ fn sixteen_variables() {
         Kept::complete(vec![sides]).bytes()
     };
     let theory = Theory::new("c/0/0 f/2/1").equation("x = x");
-    let ask = |record: &[u8]| decide(&theory.problem(9), record);
-    assert_eq!(ask(&rule(15)), DecideAnswer::Same);
+    let ask = |record: &[u8]| verdict(decide(&theory.problem(9), record));
+    assert_eq!(ask(&rule(15)), SAME);
     assert_eq!(ask(&rule(16)), refused(13, 11));
 }
 
@@ -269,8 +287,8 @@ fn input_equations_are_the_same() {
                 3,
                 &problem[equation.left.start..equation.right.end],
             );
-            match decide(&question, &record) {
-                DecideAnswer::Same => same += 1,
+            match verdict(decide(&question, &record)) {
+                SAME => same += 1,
                 _ => different += 1,
             }
         }

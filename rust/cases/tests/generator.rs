@@ -11,7 +11,7 @@ use kb_engine::fields::put_back_entries;
 use kb_engine::lower::which;
 use kb_engine::problem::Problem;
 use kb_engine::run::END_COMPLETE;
-use kb_engine::{compare, complete, decide, subterm, unify};
+use kb_engine::{compare, complete, decide, outermost, subterm, unify};
 use kb_engine::{CompareAnswer, CompleteAnswer, DecideAnswer, UnifyAnswer, Which};
 use kb_engine::{MAX_NODES, MAX_RECORD, MIN_RESULT};
 use std::collections::BTreeSet;
@@ -119,28 +119,54 @@ fn questions_depend_on_seed_and_index_only() {
 
 #[test]
 fn questions_reach_every_answer() {
-    let mut seen = BTreeSet::new();
-    for index in 0..COUNT {
-        let question = question(1, index);
-        seen.insert(match decide(&question.problem, &question.record) {
-            DecideAnswer::Refused(refusal) => format!("refused {:2}", refusal.number),
-            other => format!("{other:?}"),
-        });
-    }
     let refusals = [3, 4, 5, 6, 8, 10, 11, 12, 13, 14, 15].map(|n| format!("refused {n:2}"));
     let decided = ["Different", "Ended(21)", "Ended(22)", "Same"].map(String::from);
-    assert!(seen.into_iter().eq(decided.into_iter().chain(refusals)));
+    for call in [decide, outermost] {
+        let mut seen = BTreeSet::new();
+        for index in 0..COUNT {
+            let question = question(1, index);
+            seen.insert(match call(&question.problem, &question.record) {
+                DecideAnswer::Refused(refusal) => format!("refused {:2}", refusal.number),
+                DecideAnswer::Decided(verdict, _) => format!("{verdict:?}"),
+            });
+        }
+        assert!(seen.iter().eq(decided.iter().chain(&refusals)), "{seen:?}");
+    }
 }
 
 #[test]
 fn records_reach_every_family_and_length() {
     let families: BTreeSet<_> = (0..records::SHARES).map(records::family).collect();
-    assert_eq!(families.len(), 10);
-    let long = (0..COUNT).filter(|i| records::family(*i) == "long record");
+    assert_eq!(families.len(), 13);
+    let long = (0..2 * COUNT).filter(|i| records::family(*i) == "long record");
     let lengths: BTreeSet<usize> = long.map(|i| question(1, i).record.len()).collect();
     assert!(lengths.range(13_000..14_000).count() > 20);
     for length in [MAX_RECORD, MAX_RECORD + 1] {
         assert!(lengths.contains(&length), "{length}");
+    }
+}
+
+/// In three families the records are results as they were written.
+#[test]
+fn delivered_records_are_results() {
+    let whole = [
+        "kept result",
+        "erasing and doubling, delivered",
+        "a term and its normal form",
+    ];
+    for index in 0..2000 {
+        let delivered = whole.contains(&records::family(index));
+        assert_eq!(question(1, index).delivered, delivered, "{index}");
+    }
+}
+
+#[test]
+fn erasing_and_doubling_rules_are_accepted() {
+    let erasing = |index: &u64| records::family(*index).starts_with("erasing");
+    for index in (0..COUNT).filter(erasing) {
+        let question = question(1, index);
+        let answer = outermost(&question.problem, &question.record);
+        assert!(matches!(answer, DecideAnswer::Decided(..)), "{answer:?}");
     }
 }
 

@@ -2,13 +2,14 @@
 
 mod common;
 
-use common::literal::{apply, rename};
+use common::literal::{apply, rename, Bytes, Rule, Symbols};
 use common::{completed, hex, literal_run, parts, result_of, Fields};
 use kb_cases::generate::records::{self, exhaustive};
 use kb_cases::questions::{self, Question};
 use kb_cases::{fixed, generate, programs};
 use kb_engine::problem::Problem;
-use kb_engine::{compare, decide, unify, CompareAnswer, DecideAnswer, UnifyAnswer, MIN_RESULT};
+use kb_engine::{compare, decide, outermost, unify};
+use kb_engine::{CompareAnswer, DecideAnswer, UnifyAnswer, MIN_RESULT};
 use std::collections::{BTreeSet, HashMap};
 
 const SEED: u64 = 20;
@@ -151,36 +152,45 @@ fn set_budget(problem: &mut [u8], budget: u32) {
     problem[at..at + 4].copy_from_slice(&budget.to_be_bytes());
 }
 
-/// The literal answer to a question whose problem is accepted.
-fn literal_answer(question: &Question) -> Option<DecideAnswer> {
-    let problem = Problem::read(&question.problem).ok()?;
-    problem.only_equation().ok()?;
-    let (symbols, equations) = parts(&problem);
-    let (left, right) = &equations[0];
-    Some(symbols.decide(problem.budget, [left, right], &question.record))
-}
+/// A call that answers questions, and its next term word for word.
+type Defined = (
+    fn(&[u8], &[u8]) -> DecideAnswer,
+    fn(&Symbols, &[Rule], &[u8]) -> Option<Bytes>,
+);
 
-/// A refusal's number and all other answers, as text.
+const CALLS: [Defined; 2] = [(decide, Symbols::step), (outermost, Symbols::outer_step)];
+
+/// A refusal's number and all other answers without the units, as text.
 fn kind(answer: DecideAnswer) -> String {
     match answer {
         DecideAnswer::Refused(refusal) => format!("refused {}", refusal.number),
-        other => format!("{other:?}"),
+        DecideAnswer::Decided(verdict, _) => format!("{verdict:?}"),
     }
 }
 
-/// Holds questions to the literal answers; gives the kinds of answers met.
-fn assert_literal(questions: impl Iterator<Item = Question>) -> BTreeSet<String> {
-    let mut seen = BTreeSet::new();
-    for mut question in questions {
-        let Ok(problem) = Problem::read(&question.problem) else {
-            continue;
-        };
-        let budget = problem.budget.min(MOST_BUDGET);
-        set_budget(&mut question.problem, budget);
-        let (problem, record) = (&question.problem, &question.record);
-        let answer = decide(problem, record);
-        if let Some(expected) = literal_answer(&question) {
-            assert_eq!(answer, expected, "{} {}", hex(problem), hex(record));
+/// The question with a budget that is not too large, none if its problem is
+/// refused.
+fn shortened(mut question: Question) -> Option<Question> {
+    let problem = Problem::read(&question.problem).ok()?;
+    problem.only_equation().ok()?;
+    let budget = problem.budget.min(MOST_BUDGET);
+    set_budget(&mut question.problem, budget);
+    Some(question)
+}
+
+/// Holds the calls to the literal answers, units included; gives the kinds of
+/// answers that each meets.
+fn assert_literal(questions: impl Iterator<Item = Question>) -> [BTreeSet<String>; 2] {
+    let mut seen = [BTreeSet::new(), BTreeSet::new()];
+    for question in questions.filter_map(shortened) {
+        let problem = Problem::read(&question.problem).unwrap();
+        let (symbols, equations) = parts(&problem);
+        let sides = [&equations[0].0[..], &equations[0].1];
+        let record = &question.record;
+        for ((call, mut step), seen) in CALLS.into_iter().zip(&mut seen) {
+            let due = symbols.question(problem.budget, sides, record, &mut step);
+            let answer = call(problem.bytes, record);
+            assert_eq!(answer, due, "{} {}", hex(problem.bytes), hex(record));
             seen.insert(kind(answer));
         }
     }
@@ -191,7 +201,6 @@ fn assert_literal(questions: impl Iterator<Item = Question>) -> BTreeSet<String>
 fn questions_follow_the_definition() {
     let count = if cfg!(debug_assertions) { 1000 } else { 10_000 };
     let questions = (0..count).map(|index| records::question(SEED, index, &result_of));
-    let seen = assert_literal(questions);
     let all = [
         "Different",
         "Ended(21)",
@@ -201,7 +210,9 @@ fn questions_follow_the_definition() {
         "refused 14",
         "refused 15",
     ];
-    assert!(seen.iter().eq(all), "{seen:?}");
+    for seen in assert_literal(questions) {
+        assert!(seen.iter().eq(all), "{seen:?}");
+    }
 }
 
 /// The fixed questions too, and damage at every byte.

@@ -14,7 +14,8 @@ use kb_cases::{fixed, generate, put_back};
 use kb_engine::fields::push_field;
 use kb_engine::problem::{Problem, TAG_EQUATION};
 use kb_engine::{complete, complete_saving, decide, resume, resume_saving};
-use kb_engine::{CompleteAnswer, DecideAnswer, Refusal, SavingAnswer, MIN_RESULT, MIN_SAVED};
+use kb_engine::{CompleteAnswer, DecideAnswer, Refusal, SavingAnswer, Verdict};
+use kb_engine::{MIN_RESULT, MIN_SAVED};
 use std::collections::BTreeMap;
 use std::ops::Range;
 
@@ -290,12 +291,14 @@ fn results_of_resumed_runs_can_be_asked() {
         let first = &problem.equations[0];
         for equation in &problem.equations {
             let own = asked(&problem, &equation.left, &equation.right);
-            assert_eq!(decide(&own, &result), DecideAnswer::Same);
+            let own = decide(&own, &result);
+            assert!(matches!(own, DecideAnswer::Decided(Verdict::Same, _)));
             let other = asked(&problem, &first.left, &equation.right);
             let answer = decide(&other, &result);
             assert_eq!(answer, decide(&other, &whole));
             same += 1;
-            different += (answer == DecideAnswer::Different) as usize;
+            let differ = matches!(answer, DecideAnswer::Decided(Verdict::Different, _));
+            different += usize::from(differ);
         }
     }
     assert!(same > 100 && different > 50, "{same}, {different}");

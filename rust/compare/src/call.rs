@@ -4,16 +4,17 @@
 //! Kind 0 is a refusal (number, place). Complete and unify: kind 1 written
 //! (count), 2 no common instance, 3 too large (number 22). Compare: kind 1
 //! the answer 1 to 4. Decide: kind 1 the answer 1 (same) or 2 (different), 3
-//! ended (number 21 or 22). Complete_saving and resume_saving: kind 1 written
-//! (count), the number being the length of the saved record, 0 for none; resume:
-//! as complete. Two calls have no kinds: subterm answers start * 2^32 + length,
-//! 0 if refused; lower 0 (refused), 1 (the first) or 2 (the second).
+//! ended (number 21 or 22). Outermost: kind 1 the number 1 (same) or 2
+//! (different), 3 ended (number 21 or 22), each with the units paid.
+//! Complete_saving and resume_saving: kind 1 written (count), the number being
+//! the length of the saved record, 0 for none; resume: as complete. Two calls
+//! have no kinds: subterm answers start * 2^32 + length, 0 if refused; lower 0
+//! (refused), 1 (the first) or 2 (the second).
 
 use kb_cases::pairs::Pair;
-use kb_cases::questions::Question;
 use kb_engine::calls::TOO_LARGE;
 use kb_engine::{CompareAnswer, CompleteAnswer, DecideAnswer, SavingAnswer, UnifyAnswer};
-use kb_engine::{Refusal, Which};
+use kb_engine::{Refusal, Verdict, Which};
 use kb_engine::{MIN_RESULT, MIN_SAVED};
 use std::borrow::Cow;
 use std::fmt;
@@ -31,6 +32,8 @@ pub enum Call<'a> {
     Subterm(Bytes<'a>, usize),
     /// A problem and a record.
     Decide(Bytes<'a>, Bytes<'a>),
+    /// A problem and a record.
+    Outermost(Bytes<'a>, Bytes<'a>),
     /// A symbol field and two terms.
     Lower(Bytes<'a>, Bytes<'a>, Bytes<'a>),
     CompleteSaving(Bytes<'a>),
@@ -52,6 +55,7 @@ impl Call<'_> {
             Call::Compare(..) => "compare",
             Call::Subterm(..) => "subterm",
             Call::Decide(..) => "decide",
+            Call::Outermost(..) => "outermost",
             Call::Lower(..) => "lower",
             Call::CompleteSaving(..) => "complete_saving",
             Call::Resume(..) => "resume",
@@ -69,7 +73,9 @@ impl Call<'_> {
             | Call::CompleteSaving(bytes)
             | Call::Resume(bytes, _)
             | Call::ResumeSaving(bytes, _) => [bytes, &[], &[]],
-            Call::Decide(problem, record) => [problem, record, &[]],
+            Call::Decide(problem, record) | Call::Outermost(problem, record) => {
+                [problem, record, &[]]
+            }
             Call::Lower(symbols, first, second) => [symbols, first, second],
         }
     }
@@ -84,18 +90,6 @@ impl fmt::Display for Call<'_> {
             }
             _ => f.write_str(self.name()),
         }
-    }
-}
-
-impl From<Question> for Call<'_> {
-    fn from(question: Question) -> Self {
-        Call::Decide(question.problem.into(), question.record.into())
-    }
-}
-
-impl<'a> From<&'a Question> for Call<'a> {
-    fn from(question: &'a Question) -> Self {
-        Call::Decide((&question.problem).into(), (&question.record).into())
     }
 }
 
@@ -130,6 +124,11 @@ pub trait Engine {
 
     fn decide(&self, problem: &[u8], record: &[u8]) -> u64 {
         let call = Call::Decide(problem.into(), record.into());
+        self.run(&call, Default::default())
+    }
+
+    fn outermost(&self, problem: &[u8], record: &[u8]) -> u64 {
+        let call = Call::Outermost(problem.into(), record.into());
         self.run(&call, Default::default())
     }
 
@@ -230,14 +229,25 @@ pub fn compared(answer: CompareAnswer) -> u64 {
     }
 }
 
-/// An answer of decide.
+/// An answer of decide, which does not tell the units.
 pub fn decided(answer: DecideAnswer) -> u64 {
     match answer {
         DecideAnswer::Refused(refusal) => refused(refusal),
-        DecideAnswer::Same => encode(1, 0, 1),
-        DecideAnswer::Different => encode(1, 0, 2),
-        DecideAnswer::Ended(number) => encode(3, number.into(), 0),
+        DecideAnswer::Decided(Verdict::Same, _) => encode(1, 0, 1),
+        DecideAnswer::Decided(Verdict::Different, _) => encode(1, 0, 2),
+        DecideAnswer::Decided(Verdict::Ended(number), _) => encode(3, number.into(), 0),
     }
+}
+
+/// An answer of outermost.
+pub fn decided_outermost(answer: DecideAnswer) -> u64 {
+    let (kind, number, units) = match answer {
+        DecideAnswer::Refused(refusal) => return refused(refusal),
+        DecideAnswer::Decided(Verdict::Same, units) => (1, 1, units),
+        DecideAnswer::Decided(Verdict::Different, units) => (1, 2, units),
+        DecideAnswer::Decided(Verdict::Ended(number), units) => (3, number.into(), units),
+    };
+    encode(kind, number, units as usize)
 }
 
 /// A part of the problem that subterm hands back; 0 if it is empty.
@@ -272,6 +282,9 @@ impl Engine for RustEngine {
                 handed_back(start, part.len())
             }
             Call::Decide(problem, record) => decided(kb_engine::decide(problem, record)),
+            Call::Outermost(problem, record) => {
+                decided_outermost(kb_engine::outermost(problem, record))
+            }
             Call::Lower(symbols, first, second) => {
                 chosen(kb_engine::lower::which(symbols, first, second))
             }

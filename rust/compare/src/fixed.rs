@@ -23,8 +23,12 @@ pub fn faults(engine: &dyn Engine, case: &Case) -> Vec<(String, u64)> {
     ];
     // A refused problem is refused before the record is read.
     if let Err(refusal) = case.complete {
-        let decide = engine.decide(problem, &[]);
-        answers.push(("decide".to_string(), decide, decide == refused(refusal)));
+        let questions = [
+            ("decide", engine.decide(problem, &[])),
+            ("outermost", engine.outermost(problem, &[])),
+        ];
+        let due = refused(refusal);
+        answers.extend(questions.map(|(call, answer)| (call.to_string(), answer, answer == due)));
     }
     for (position, range) in &case.parts {
         let subterm = engine.subterm(problem, *position);

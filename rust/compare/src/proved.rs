@@ -8,6 +8,7 @@ extern "C" {
     fn vb_compare(problem: *const u8, n: usize) -> u64;
     fn vb_subterm(problem: *const u8, n: usize, position: usize) -> u64;
     fn vb_decide(problem: *const u8, n: usize, record: *const u8, m: usize) -> u64;
+    fn vb_outermost(problem: *const u8, n: usize, record: *const u8, m: usize) -> u64;
     fn vb_lower(
         symbols: *const u8,
         n: usize,
@@ -51,6 +52,7 @@ impl Engine for ProvedEngine {
                 Call::Compare(_) => vb_compare(a.0, a.1),
                 Call::Subterm(_, position) => vb_subterm(a.0, a.1, *position),
                 Call::Decide(..) => vb_decide(a.0, a.1, b.0, b.1),
+                Call::Outermost(..) => vb_outermost(a.0, a.1, b.0, b.1),
                 Call::Lower(..) => vb_lower(a.0, a.1, b.0, b.1, c.0, c.1),
                 Call::CompleteSaving(_) => vb_complete_saving(a.0, a.1, r.0, r.1, s.0, s.1),
                 Call::Resume(_, budget) => vb_resume(a.0, a.1, *budget, r.0, r.1),

@@ -6,6 +6,7 @@
 
 pub mod cases;
 mod checkpoints;
+mod questions;
 pub mod table;
 
 use std::ffi::{c_int, c_void};

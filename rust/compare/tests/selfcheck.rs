@@ -51,7 +51,7 @@ fn different_decisions(fault: Fault) -> [usize; 2] {
 fn wrong_decisions(cases: &[questions::Case], fault: Fault) -> usize {
     let wrong = cases.iter().filter(|case| {
         let question = &case.question;
-        Faulty(fault).decide(&question.problem, &question.record) != decided(case.answer)
+        Faulty(fault).decide(&question.problem, &question.record) != decided(case.decide)
     });
     wrong.count()
 }
@@ -164,10 +164,10 @@ fn each_fault_is_found() {
     });
 }
 
-/// Same for different and different for same.
-fn exchanged(_: &str, answer: u64, _: &mut [u8]) -> u64 {
-    match answer >> 48 {
-        1 => answer ^ 3,
+/// Same for different and different for same, by decide.
+fn exchanged(call: &str, answer: u64, _: &mut [u8]) -> u64 {
+    match (call, answer >> 48) {
+        ("decide", 1) => answer ^ 3,
         _ => answer,
     }
 }

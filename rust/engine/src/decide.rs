@@ -2,7 +2,8 @@
 //!
 //! The sides of the problem's only equation are normalised by the rules of
 //! the record, left first, one budget serving both, and compared as they
-//! stand.
+//! stand. All but the strategy is the same for `decide`, which normalises from
+//! the inside out, and for `outermost`.
 
 use crate::calls::read_only_sides;
 use crate::normalise::{normalise, Stop, Units};
@@ -19,10 +20,17 @@ pub const NOT_COMPLETE: u8 = 14;
 /// The number of "a rule's left side is not above its right side".
 pub const NOT_ABOVE: u8 = 15;
 
-/// Answer of `decide`.
+/// Answer of `decide` and of `outermost`.
 #[derive(Clone, Copy, Debug, PartialEq, Eq)]
 pub enum DecideAnswer {
     Refused(Refusal),
+    /// What the question came to, and the units paid.
+    Decided(Verdict, u32),
+}
+
+/// What an accepted question comes to.
+#[derive(Clone, Copy, Debug, PartialEq, Eq)]
+pub enum Verdict {
     /// Both sides have one normal form.
     Same,
     /// The normal forms differ.
@@ -31,46 +39,55 @@ pub enum DecideAnswer {
     Ended(u8),
 }
 
-/// How an accepted question is answered, and what that cost.
-#[derive(Clone, Copy, Debug, PartialEq, Eq)]
-pub struct Decision {
-    /// Whether the normal forms are equal, or the stop on the way.
-    pub same: Result<bool, Stop>,
-    /// Units paid.
-    pub units: u32,
-}
+/// Normalises a term, or stops on the way.
+pub(crate) type Strategy = fn(&Term, &RuleSet, &mut Units) -> Result<Term, Stop>;
 
 /// Asks of a record whether the problem's two sides are the same.
 pub fn decide(problem: &[u8], record: &[u8]) -> DecideAnswer {
-    match decision(problem, record) {
-        Err(refusal) => DecideAnswer::Refused(refusal),
-        Ok(decision) => match decision.same {
-            Ok(true) => DecideAnswer::Same,
-            Ok(false) => DecideAnswer::Different,
-            Err(stop) => DecideAnswer::Ended(stop.number()),
-        },
+    answer(problem, record, normalise)
+}
+
+/// The answer by a strategy.
+pub(crate) fn answer(problem: &[u8], record: &[u8], strategy: Strategy) -> DecideAnswer {
+    let question = match Question::read(problem, record) {
+        Ok(question) => question,
+        Err(refusal) => return DecideAnswer::Refused(refusal),
+    };
+    let mut units = Units::new(question.budget);
+    let verdict = match question.same(strategy, &mut units) {
+        Ok(true) => Verdict::Same,
+        Ok(false) => Verdict::Different,
+        Err(stop) => Verdict::Ended(stop.number()),
+    };
+    DecideAnswer::Decided(verdict, units.paid)
+}
+
+/// An accepted question.
+struct Question {
+    left: Term,
+    right: Term,
+    rules: RuleSet,
+    budget: u32,
+}
+
+impl Question {
+    /// Reads the problem, then the record.
+    fn read(problem: &[u8], record: &[u8]) -> Result<Question, Refusal> {
+        let (problem, left, right) = read_only_sides(problem)?;
+        Ok(Question {
+            left,
+            right,
+            rules: usable_rules(record, &problem)?,
+            budget: problem.budget,
+        })
     }
-}
 
-/// The same with the units paid.
-pub fn decision(problem: &[u8], record: &[u8]) -> Result<Decision, Refusal> {
-    let (problem, left, right) = read_only_sides(problem)?;
-    let rules = usable_rules(record, &problem)?;
-    let mut units = Units::new(problem.budget);
-    let same = equal_forms(&left, &right, &rules, &mut units);
-    let units = units.paid;
-    Ok(Decision { same, units })
-}
-
-fn equal_forms(
-    left: &Term,
-    right: &Term,
-    rules: &RuleSet,
-    units: &mut Units,
-) -> Result<bool, Stop> {
-    let left = normalise(left, rules, units)?;
-    let right = normalise(right, rules, units)?;
-    Ok(left == right)
+    /// Whether the normal forms are equal, the left one made first.
+    fn same(&self, strategy: Strategy, units: &mut Units) -> Result<bool, Stop> {
+        let left = strategy(&self.left, &self.rules, units)?;
+        let right = strategy(&self.right, &self.rules, units)?;
+        Ok(left == right)
+    }
 }
 
 /// The record's rules, refused with 13, 14 or 15.

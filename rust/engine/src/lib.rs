@@ -1,6 +1,6 @@
 //! Knuth-Bendix completion with the lexicographic path order, on heap trees.
 //!
-//! The calls are complete, compare, unify, subterm, decide, lower,
+//! The calls are complete, compare, unify, subterm, decide, outermost, lower,
 //! complete_saving, resume and resume_saving; beside them the text of settle.
 //! The engine shares no code with the verified library, so that comparing
 //! the two on many problems says something about both.
@@ -13,6 +13,7 @@ pub mod lower;
 pub mod matching;
 pub mod normalise;
 pub mod order;
+pub mod outermost;
 pub mod overlap;
 pub mod problem;
 pub mod reader;
@@ -27,9 +28,10 @@ pub mod waiting;
 
 pub use calls::{compare, complete, subterm, unify};
 pub use calls::{CompareAnswer, CompleteAnswer, UnifyAnswer};
-pub use decide::{decide, DecideAnswer};
+pub use decide::{decide, DecideAnswer, Verdict};
 pub use lower::{lower, Which};
 pub use order::Order;
+pub use outermost::outermost;
 pub use problem::Refusal;
 pub use resume::{complete_saving, resume, resume_saving, Lengths, SavingAnswer};
 pub use settle::settle_text;

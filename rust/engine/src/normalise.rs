@@ -6,7 +6,7 @@
 //! is that of the definition: the redex taken is always the earliest in
 //! preorder among those with no redex below.
 
-use crate::matching::Substitution;
+use crate::matching::{bound, instance_size, Substitution};
 use crate::rules::RuleSet;
 use crate::term::Term;
 use crate::MAX_NODES;
@@ -58,21 +58,40 @@ impl Units {
     }
 }
 
+/// The steps of one term: what they cost, and how large it is.
+pub(crate) struct Steps<'u> {
+    units: &'u mut Units,
+    /// Nodes of the whole term as it stands.
+    size: usize,
+}
+
+impl<'u> Steps<'u> {
+    pub fn new(term: &Term, units: &'u mut Units) -> Steps<'u> {
+        let size = term.size();
+        Steps { units, size }
+    }
+
+    /// Pays a step that puts so many nodes in place of so many, then tests the
+    /// size of its term.
+    pub fn pay(&mut self, before: usize, after: usize) -> Result<(), Stop> {
+        self.units.pay()?;
+        self.size = self.size - before + after;
+        if self.size > MAX_NODES {
+            return Err(Stop::Size);
+        }
+        Ok(())
+    }
+}
+
 /// The normal form of the term, or the stop on the way.
 pub fn normalise(term: &Term, rules: &RuleSet, units: &mut Units) -> Result<Term, Stop> {
-    let mut normaliser = Normaliser {
-        rules,
-        units,
-        size: term.size(),
-    };
-    normaliser.term(term)
+    let steps = Steps::new(term, units);
+    Normaliser { rules, steps }.term(term)
 }
 
 struct Normaliser<'r> {
     rules: &'r RuleSet,
-    units: &'r mut Units,
-    /// Nodes of the whole term as it stands.
-    size: usize,
+    steps: Steps<'r>,
 }
 
 impl Normaliser<'_> {
@@ -113,7 +132,9 @@ impl Normaliser<'_> {
             let Some((rule, substitution)) = self.rules.find(symbol, &arguments) else {
                 return Ok(Term::application(symbol, arguments));
             };
-            self.step(&arguments, &rule.right, &substitution)?;
+            let before = 1 + arguments.iter().map(Term::size).sum::<usize>();
+            let after = instance_size(&rule.right, &substitution);
+            self.steps.pay(before, after)?;
             match &rule.right {
                 Term::Variable(v) => return Ok(bound(&substitution, *v)),
                 Term::Application {
@@ -126,22 +147,6 @@ impl Normaliser<'_> {
                 }
             }
         }
-    }
-
-    /// Pays the step, then tests the size of its term.
-    fn step(
-        &mut self,
-        redex: &[Term],
-        right: &Term,
-        substitution: &Substitution,
-    ) -> Result<(), Stop> {
-        self.units.pay()?;
-        let before = 1 + redex.iter().map(Term::size).sum::<usize>();
-        self.size = self.size - before + instance_size(right, substitution);
-        if self.size > MAX_NODES {
-            return Err(Stop::Size);
-        }
-        Ok(())
     }
 
     /// Normal forms of instances whose variables stand for normal terms.
@@ -157,21 +162,5 @@ impl Normaliser<'_> {
                 }
             })
             .collect()
-    }
-}
-
-fn bound(substitution: &Substitution, variable: u8) -> Term {
-    let term = substitution[variable as usize];
-    term.expect("a right side has no variables of its own")
-        .clone()
-}
-
-fn instance_size(term: &Term, substitution: &Substitution) -> usize {
-    match term {
-        Term::Variable(v) => substitution[*v as usize].map_or(1, Term::size),
-        Term::Application { arguments, .. } => {
-            let sizes = arguments.iter().map(|a| instance_size(a, substitution));
-            1 + sizes.sum::<usize>()
-        }
     }
 }

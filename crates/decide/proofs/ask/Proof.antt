@@ -27,7 +27,7 @@ returns c =
     let at-end : tie.After-end = search depth 0 in
     let R = found at-end in
     let t = c .if1 .taken in
-    end-refused _ _ _ _ _ _ (R .2) _ _ (λ z. omega arith)
+    end-refused _ _ _ _ _ _ _ (R .2) _ _ (λ z. omega arith)
 
 not-above-requires : tie.Need-not-above-requires
 not-above-requires c κs =
@@ -50,12 +50,12 @@ returns-2 c =
     let at-end : tie.After-end = search depth 0 in
     let R = found at-end in
     let t = in-else1 .if1 .left in
-    rule-refused _ _ _ _ _ _ (R .2) (omega arith) (R .3) _ _ _ (c .if2 .taken) (at-not-above .not-above .ensures)
+    rule-refused _ _ _ _ _ _ _ (R .2) (omega arith) (R .3) _ _ _ (c .if2 .taken) (at-not-above .not-above .ensures)
 
 returns-3 : tie.Need-returns-3
 returns-3 c =
     let at-read : tie.After-read = search depth 0 in
-    record-refused _ _ _ _ _ _ (rw (c .before .place .given .1) at (at-read .read .ensures))
+    record-refused _ _ _ _ _ _ _ (rw (c .before .place .given .1) at (at-read .read .ensures))
 
 returns-4 : tie.Need-returns-4
 returns-4 c =
@@ -65,7 +65,7 @@ returns-4 c =
     let at-end : tie.After-end = search depth 0 in
     let R = found at-end in
     let t = in-else1 .if1 .left in
-    forms-asked _ _ _ _ _ _ (R .2) (omega arith) (R .3) (in-else2 .if2 .left) (at-not-above .not-above .ensures) (c .compare-forms .ensures)
+    forms-asked _ _ _ _ _ _ _ (R .2) (omega arith) (R .3) (in-else2 .if2 .left) (at-not-above .not-above .ensures) (c .compare-forms .ensures)
 
 pub ask-spec : {M : Type 1} → statement M
 ask-spec =

@@ -24,7 +24,7 @@ use native.Mathlib.Omega.{arith}
 use types.Run.{OneOf, miss}
 use Rattle.redex.specs.declared.Step.the-variants.{Normal}
 use Rattle.terms.specs.Scan.{owes}
-use Rattle.normaliser.proofs.Parts.{from-length}
+use Rattle.redex.proofs.Parts.{from-length}
 use Rattle.normaliser.proofs.Settling.{Turning, turn-start, turn-empty, turn-leave, Below, turn-room, turn-stop, turn-kept, turn-end, turn-less, turn-on}
 use Rattle.normaliser.proofs.Together.{Row, row-start, row-end, row-room, row-stop, row-on}
 

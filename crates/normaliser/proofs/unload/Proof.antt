@@ -1,6 +1,7 @@
 -- `unload`: the invariant is that the bytes of the first i cells are in t; the cells to come fall. Assumes nothing.
 -- Read first: proofs/Loading.
-use Rattle.normaliser.proofs.Loading.{bytes-length, bytes-at, load-start, load-more, load-done}
+use Rattle.redex.proofs.Sizing.{bytes-length, bytes-at}
+use Rattle.normaliser.proofs.Loading.{load-start, load-more, load-done}
 use Rattle.matching.proofs.Filling.{Pasted, pasted-length}
 use Rattle.matching.specs.Cells.{node-bytes}
 use lib.ListN.{length}
@@ -34,7 +35,7 @@ loop-again c =
     let entry : tie.Start Inv-loop μ-loop = search depth 0 in
     let cells = entry .args .cells .now in
     load-more _ _ _ _ (at-loop .loop .inv) (let e = bytes-length cells in let p = in-loop .loop-test .taken in omega arith)
-    _ (c .byte-of .ensures ∙ sym (bytes-at cells _ (in-loop .loop-test .taken)))
+    _ (c .byte-of .ensures ∙ sym (bytes-at cells _))
 
 same-length : tie.Need-same-length Inv-loop μ-loop
 same-length c = pasted-length _ _ _ _ _ (c .before .loop .inv)

@@ -4,9 +4,9 @@
 use Rattle.redex.proofs.OneStep.{Tried, tries, found-within, step-none, step-spent, step-large, step-done}
 use Rattle.slots.proofs.Layouts.{layout-less}
 use Rattle.matching.proofs.Replacing.{take-less-zero}
-use lib.ListN.{set, length-set}
+use lib.ListN.{length, set, length-set}
 use native.Mathlib.Omega.{arith}
-use mathlib.Core.Path.{_∙_}
+use mathlib.Core.Path.{_≡_, _∙_}
 use Prim.Native.Nat.{ℕ}
 use borrow.Author.Needs.{needs}
 use Rattle.redex.proofs.rewrite.Statement.{statement}
@@ -46,57 +46,52 @@ returns c = step-none (tried (search depth 0)) (c .ended .ensures) (c .before .i
 returns-2 : tie.Need-returns-2
 returns-2 c = step-spent (tried (search depth 0)) (c .before .before .if1 .left) (c .ended2 .ensures) (c .before .if2 .taken)
 
-right-requires : tie.Need-right-requires
-right-requires c κs =
-    let in-else1 : tie.Else1 = search depth 0 in
-    let at-find : tie.After-find = search depth 0 in
-    let b = at-find .find .ensures .bounded in
-    let n = in-else1 .if1 .left in
-    layout-less (omega arith) (entry-of at-find .pre .0)
-
-replace-requires : tie.Need-replace-requires
-replace-requires c κs =
+contract-requires : tie.Need-contract-requires
+contract-requires c κs =
     let in-else1 : tie.Else1 = search depth 0 in
     let at-find : tie.After-find = search depth 0 in
     let p = entry-of at-find .pre .1 in
     let s = at-find .find .ensures .same in
-    let l = length-set (entry-of at-find .args .t .now) 0 (sized-root at-find) in
-    ((omega arith, omega arith, omega arith, omega arith), (search needs, found-within (tried at-find) (in-else1 .if1 .left)))
+    let b = at-find .find .ensures .bounded in
+    let n = in-else1 .if1 .left in
+    let l = length-set (entry-of at-find .args .t .now) 0 (sized-root at-find) in (
+      layout-less (omega arith) (entry-of at-find .pre .0),
+      ((omega arith, omega arith, omega arith, omega arith), (search needs, found-within (tried at-find) n)),
+    )
+
+abbrev find-of : tie.After-contract → tie.After-find
+find-of at = search depth 0
+
+-- the cells are as many as they were
+kept : (at : tie.After-contract) → length (at .contract .last .0) ≡ length (entry-of (find-of at) .args .t .now)
+kept at = at .contract .ensures .same ∙ length-set (entry-of (find-of at) .args .t .now) 0 (sized-root (find-of at))
 
 same-length-3 : tie.Need-same-length-3
-same-length-3 c =
-    let at-replace : tie.After-replace = search depth 0 in
-    let at-find : tie.After-find = search depth 0 in
-    at-replace .replace .ensures .same ∙ length-set (entry-of at-find .args .t .now) 0 (sized-root at-find)
+same-length-3 c = kept (search depth 0)
 
 returns-3 : tie.Need-returns-3
 returns-3 c =
-    let at-replace : tie.After-replace = search depth 0 in
-    let at-right : tie.After-right = search depth 0 in
+    let at-contract : tie.After-contract = search depth 0 in
     let in-else2 : tie.Else2 = search depth 0 in
     let in-else1 : tie.Else1 = search depth 0 in
-    step-large (tried (search depth 0)) (in-else1 .if1 .left) (at-right .right .ensures .0) (at-replace .replace .ensures) (c .ended3 .ensures)
-    (in-else2 .if2 .left) (c .before .if3 .taken)
+    step-large (tried (search depth 0)) (in-else1 .if1 .left) (at-contract .contract .ensures) (c .ended3 .ensures) (in-else2 .if2 .left)
+    (c .before .if3 .taken)
 
 same-length-4 : tie.Need-same-length-4
-same-length-4 c =
-    let at-replace : tie.After-replace = search depth 0 in
-    let at-find : tie.After-find = search depth 0 in
-    at-replace .replace .ensures .same ∙ length-set (entry-of at-find .args .t .now) 0 (sized-root at-find)
+same-length-4 c = kept (search depth 0)
 
 returns-4 : tie.Need-returns-4
 returns-4 c =
-    let at-replace : tie.After-replace = search depth 0 in
-    let at-right : tie.After-right = search depth 0 in
+    let at-contract : tie.After-contract = search depth 0 in
     let in-else2 : tie.Else2 = search depth 0 in
     let in-else1 : tie.Else1 = search depth 0 in
-    step-done (tried (search depth 0)) (in-else1 .if1 .left) (at-right .right .ensures .0) (at-replace .replace .ensures) (c .ended4 .ensures)
-    (in-else2 .if2 .left) (c .before .if3 .left)
+    step-done (tried (search depth 0)) (in-else1 .if1 .left) (at-contract .contract .ensures) (c .ended4 .ensures) (in-else2 .if2 .left)
+    (c .before .if3 .left)
 
 pub rewrite-spec : {M : Type 1} → statement M
 rewrite-spec =
     tie.close (tie.spec
     (λ c. search needs) (λ c κs. search needs) (λ c. search needs) (λ c. search needs) (λ c. search needs) part-find-end
     (λ c. search needs) (λ c κs. search needs) (λ c κs. search needs) (λ c. search needs) returns (λ c κs. search needs)
-    (λ c. search needs) returns-2 right-requires (λ c. search needs) replace-requires (λ c. search needs)
+    (λ c. search needs) returns-2 (λ c. search needs) contract-requires (λ c. search needs)
     (λ c κs. search needs) same-length-3 returns-3 (λ c. search needs) (λ c κs. search needs) same-length-4 returns-4)

@@ -9,10 +9,12 @@
 mod asked;
 mod damage;
 pub mod exhaustive;
+mod forms;
 mod growth;
 pub(super) mod long;
 pub(super) mod made;
 mod results;
+mod strategies;
 
 use super::random::Random;
 use super::terms::{assemble, Symbols};
@@ -34,24 +36,30 @@ struct Source {
 impl Source {
     /// Terms over the symbols, and a budget.
     fn ask(&self, random: &mut Random) -> Question {
-        let sides = Asked {
+        let sides = self.asked(random).sides();
+        self.question(random, sides)
+    }
+
+    fn asked<'a>(&'a self, random: &'a mut Random) -> Asked<'a> {
+        Asked {
             random,
             symbols: &self.symbols,
             equal: &self.equal,
         }
-        .sides();
+    }
+
+    /// These sides, with a budget.
+    fn question(&self, random: &mut Random, sides: Vec<u8>) -> Question {
         let budget = budget(random, &self.symbols, &sides, &self.record);
-        Question {
-            problem: assemble(&self.symbols, budget, &[sides]),
-            record: self.record.clone(),
-        }
+        let problem = assemble(&self.symbols, budget, &[sides]);
+        Question::new(problem, self.record.clone())
     }
 }
 
 type Family = fn(&mut Random, Complete) -> Question;
 
 /// The families; the long records are rare.
-const FAMILIES: [Shared<Family>; 10] = [
+const FAMILIES: [Shared<Family>; 13] = [
     ("kept result", 16, results::kept),
     ("unfinished rules", 6, results::unfinished),
     ("other symbols", 5, results::other_symbols),
@@ -60,6 +68,9 @@ const FAMILIES: [Shared<Family>; 10] = [
     ("made rules", 12, made::rules),
     ("made fields", 4, made::fields),
     ("growing rules", 4, growth::rules),
+    ("erasing and doubling", 6, strategies::rules),
+    ("erasing and doubling, delivered", 6, strategies::delivered),
+    ("a term and its normal form", 6, forms::normal),
     ("damaged rules", 4, damage::rules),
     ("long record", 1, long::record),
 ];

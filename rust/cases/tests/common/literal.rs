@@ -101,12 +101,30 @@ impl Symbols {
         (0..term.len()).any(|p| self.matched(rule, term, p).is_some())
     }
 
-    /// The next term of normalising, if any rule matches.
+    /// The nodes that a rule matches, ascending.
+    pub fn matched_nodes(&self, rules: &[Rule], term: &[u8]) -> Vec<usize> {
+        let node = |p: &usize| rules.iter().any(|r| self.matched(r, term, *p).is_some());
+        (0..term.len()).filter(node).collect()
+    }
+
+    /// The next term of normalising, if any rule matches: the earliest node
+    /// among those with no matched node strictly below.
     pub fn step(&self, rules: &[Rule], term: &[u8]) -> Option<Bytes> {
-        let node = |p: usize| rules.iter().any(|r| self.matched(r, term, p).is_some());
-        let matched: Vec<usize> = (0..term.len()).filter(|p| node(*p)).collect();
+        let matched = self.matched_nodes(rules, term);
         let inside = |p: usize| matched.iter().any(|q| *q > p && *q < self.end(term, p));
         let p = *matched.iter().find(|p| !inside(**p))?;
+        self.step_at(rules, term, p)
+    }
+
+    /// The next term of normalising from the outside in: the earliest matched
+    /// node.
+    pub fn outer_step(&self, rules: &[Rule], term: &[u8]) -> Option<Bytes> {
+        let p = *self.matched_nodes(rules, term).first()?;
+        self.step_at(rules, term, p)
+    }
+
+    /// A step at p, by the lowest numbered rule that matches there.
+    pub fn step_at(&self, rules: &[Rule], term: &[u8], p: usize) -> Option<Bytes> {
         let by_number = rules.iter().filter(|r| self.matched(r, term, p).is_some());
         let rule = by_number.min_by_key(|r| r.number)?;
         let with = apply(&self.matched(rule, term, p)?, &rule.right);

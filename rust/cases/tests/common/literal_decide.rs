@@ -2,8 +2,11 @@
 //! literal definitions.
 
 use super::literal::{rename, Bytes, Rule, Symbols};
-use kb_engine::{DecideAnswer, Refusal};
+use kb_engine::{DecideAnswer, Refusal, Verdict};
 use std::collections::HashMap;
+
+/// A term to the next one by some rules, none if none matches.
+pub type Step<'s> = &'s mut dyn FnMut(&Symbols, &[Rule], &[u8]) -> Option<Bytes>;
 
 /// A field of a record, its contents none if the record ends before it does.
 pub struct Field<'r> {
@@ -119,8 +122,15 @@ impl Symbols {
         Ok((end(&fields), rules.collect()))
     }
 
-    /// What decide must answer, the problem being accepted.
-    pub fn decide(&self, budget: u32, sides: [&[u8]; 2], record: &[u8]) -> DecideAnswer {
+    /// What the question must be answered, the problem being accepted, if a
+    /// term's next one is given so.
+    pub fn question(
+        &self,
+        budget: u32,
+        sides: [&[u8]; 2],
+        record: &[u8],
+        step: Step,
+    ) -> DecideAnswer {
         let (end, placed) = match self.record(record) {
             Ok(read) => read,
             Err(answer) => return answer,
@@ -133,24 +143,25 @@ impl Symbols {
             return refused(15, *place);
         }
         let rules: Vec<Rule> = placed.into_iter().map(|(_, rule)| rule).collect();
-        let mut units = budget;
+        let mut units = 0;
         let mut forms = sides.map(<[u8]>::to_vec);
         for term in &mut forms {
-            while let Some(next) = self.step(&rules, term) {
-                if units == 0 {
-                    return DecideAnswer::Ended(21);
+            while let Some(next) = step(self, &rules, term) {
+                if units == budget {
+                    return DecideAnswer::Decided(Verdict::Ended(21), units);
                 }
-                units -= 1;
+                units += 1;
                 if next.len() > 120 {
-                    return DecideAnswer::Ended(22);
+                    return DecideAnswer::Decided(Verdict::Ended(22), units);
                 }
                 *term = next;
             }
         }
-        match forms[0] == forms[1] {
-            true => DecideAnswer::Same,
-            false => DecideAnswer::Different,
-        }
+        let verdict = match forms[0] == forms[1] {
+            true => Verdict::Same,
+            false => Verdict::Different,
+        };
+        DecideAnswer::Decided(verdict, units)
     }
 }
 

@@ -22,13 +22,14 @@ use kb_cases::slices::Sliced;
 /// What calls are made on.
 #[derive(Clone, Debug)]
 pub enum Input {
-    /// Complete, unify, compare and subterm, and decide of the result.
+    /// Complete, unify, compare and subterm; decide and outermost of the result.
     Problem(Vec<u8>),
-    /// Decide.
+    /// Decide and outermost.
     Question(Question),
     /// Lower.
     Pair(Pair),
-    /// Complete_saving, then resume_saving and resume until the run ends.
+    /// Complete_saving, then resume_saving and resume until the run ends; decide
+    /// and outermost of the result.
     Sliced(Sliced),
     /// Resume and resume_saving.
     Resumption(Resumption),
@@ -108,7 +109,7 @@ pub type Faults = Box<dyn Fn(&dyn Engine) -> Vec<(String, u64)>>;
 /// What the summary counts of an input.
 pub type Notes = Vec<String>;
 
-/// The one call of an input, if its answer is not the one due.
+/// A call, if its answer is not the one due.
 fn fault(call: &str, answer: u64, due: u64) -> Vec<(String, u64)> {
     match answer == due {
         true => Vec::new(),

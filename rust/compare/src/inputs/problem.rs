@@ -1,5 +1,5 @@
-//! Problems: complete, unify, compare and subterm, and decide asked of the
-//! result.
+//! Problems: complete, unify, compare and subterm, and decide and outermost
+//! asked of the result.
 
 use super::question;
 use super::{Case, Cases, Due, Input, Kind, Notes, Plan};
@@ -8,6 +8,7 @@ use crate::check::{Checker, Difference, Start, NONE};
 use crate::fixed::faults;
 use kb_cases::generate::damage;
 use kb_cases::generate::ranks::{ranks, Ranks};
+use kb_cases::questions::Question;
 use kb_cases::{chains as of_chains, fixed as of_papers, generate};
 use kb_engine::fields::put_back_entries;
 use kb_engine::run::END_COMPLETE;
@@ -18,8 +19,8 @@ pub const KIND: Kind = Kind {
     families: &[fixed, chains, damaged, generated],
 };
 
-/// Decide is asked of the result that both have written, or of an empty
-/// record. The number varies buffer and positions.
+/// The result that both have written is asked, or an empty record. The number
+/// varies buffer and positions.
 pub fn check(checker: &mut Checker, problem: &[u8], number: u64) -> Result<Notes, Difference> {
     let result = Start {
         length: result_length(number),
@@ -32,16 +33,19 @@ pub fn check(checker: &mut Checker, problem: &[u8], number: u64) -> Result<Notes
     for position in positions(number) {
         checker.call(&Call::Subterm(problem.into(), position), [NONE; 2])?;
     }
-    let decide = Call::Decide(problem.into(), (&record).into());
-    let decide = checker.call(&decide, [NONE; 2])?;
     let mut notes = vec![
         note_complete(complete, &record),
         note_unify(unify),
         note_compare(compare),
         note_ranks(problem),
-        question::note(decide),
     ];
     notes.extend(PutBack::of_result(&record).notes(&record));
+    let question = Question {
+        problem: problem.to_vec(),
+        record,
+        delivered: true,
+    };
+    notes.extend(question::check(checker, &question)?);
     Ok(notes)
 }
 

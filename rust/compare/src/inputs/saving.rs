@@ -1,17 +1,18 @@
 //! Runs that are cut, saved and resumed in slices until they end:
 //! complete_saving, resume and resume_saving; complete, whose run they must be;
-//! and decide, asked of what they leave with end 0.
+//! and decide and outermost, asked of what they leave with end 0.
 
 use super::{hex, question, Case, Cases, Due, Input, Kind, Notes, Plan};
 use crate::call::{decode, encode, left_by, refused, Call, Engine};
 use crate::check::{Checker, Difference, Start, NONE};
 use kb_cases::generate::slices as generator;
 use kb_cases::put_back::{self, Run};
+use kb_cases::questions::Question;
 use kb_cases::slices::{self, with_budget, Sliced, Slices};
 use kb_cases::{fixed as of_papers, generate};
 use kb_engine::problem::Problem;
 use kb_engine::run::END_COMPLETE;
-use kb_engine::{MAX_BUDGET, MIN_RESULT, MIN_SAVED};
+use kb_engine::{Verdict, MAX_BUDGET, MIN_RESULT, MIN_SAVED};
 
 pub const KIND: Kind = Kind {
     name: "saved runs",
@@ -83,7 +84,7 @@ impl Saving<'_, '_> {
         for record in self.records(sliced)? {
             for slices in &sliced.slices {
                 let last = self.in_slices(&record, *slices, &whole.result)?;
-                self.decide(&sliced.problem, &last)?;
+                self.ask(&sliced.problem, last)?;
             }
         }
         Ok(())
@@ -187,18 +188,22 @@ impl Saving<'_, '_> {
 
     /// The first equation, asked of a result with end 0: its sides are not
     /// different.
-    fn decide(&mut self, problem: &[u8], result: &[u8]) -> Result<(), Difference> {
+    fn ask(&mut self, problem: &[u8], result: Vec<u8>) -> Result<(), Difference> {
         let asked = first_equation(problem).filter(|_| result[3] == END_COMPLETE);
         let Some(asked) = asked else {
             return Ok(());
         };
-        let call = Call::Decide(asked.into(), result.into());
-        let answer = self.checker.call(&call, [NONE; 2])?;
-        if answer == encode(1, 0, 2) {
-            let what = "decide, different sides of an equation by its own rules";
-            return Err(Difference::of_both(what, answer));
+        let question = Question {
+            problem: asked.to_vec(),
+            record: result,
+            delivered: true,
+        };
+        let answers = question::ask(self.checker, &question)?;
+        if answers.verdicts().contains(&Some(Verdict::Different)) {
+            let what = "decide or outermost, different sides of an equation by its own rules";
+            return Err(Difference::of_both(what, answers.outermost));
         }
-        self.notes.push(question::note(answer));
+        self.notes.extend(answers.notes(&question));
         Ok(())
     }
 }

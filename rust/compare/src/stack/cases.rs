@@ -1,23 +1,20 @@
 //! The calls whose stack is measured, on chains of unary symbols.
 //!
 //! A chain of n nodes is a unary symbol n - 1 times over a leaf. Each case is
-//! given for any n from 2 to 120, with the answer due. Those of runs that are
-//! saved and resumed stand apart.
+//! given for any n from 2 to 120, with the answer due. Those of questions, and
+//! of runs that are saved and resumed, stand apart.
 
-use super::checkpoints;
-use crate::call::{chosen, compared, decided, encode, handed_back, refused, result_of, unified};
-use crate::call::{Bytes, Call, RustEngine};
-use kb_cases::kept::Kept;
+use super::{checkpoints, questions};
+use crate::call::{chosen, compared, encode, handed_back, refused, unified, Bytes, Call};
 use kb_cases::notation::Theory;
 use kb_cases::pairs::Pair;
-use kb_cases::questions::Question;
 use kb_cases::theories::power;
-use kb_engine::{CompareAnswer, DecideAnswer, Order, Refusal, UnifyAnswer, Which};
+use kb_engine::{CompareAnswer, Order, Refusal, UnifyAnswer, Which};
 
 /// i is above j and below k, and has one rank with l.
 pub(super) const SYMBOLS: &str = "e/0/0 i/1/2 j/1/1 k/1/3 l/1/2";
 /// Where the left side of the first equation begins.
-const LEFT: usize = 23;
+pub(super) const LEFT: usize = 23;
 /// The nodes i and x.
 pub(super) const I: u8 = 1;
 const X: u8 = 0x80;
@@ -54,7 +51,7 @@ pub fn cases() -> Vec<Case> {
         comparisons(),
         lowers(),
         unifiers(),
-        decisions(),
+        questions::cases(),
         completions(),
         checkpoints::cases(),
     ];
@@ -155,15 +152,10 @@ fn readings() -> Vec<Case> {
         }),
         walk("unify, left chain cut", |n| of(Call::Unify, cut(n))),
         walk("complete, left chain cut", |n| of(Call::Complete, cut(n))),
-        walk("decide, left chain cut", |n| {
-            let (problem, answer) = cut(n);
-            let record = Vec::new().into();
-            (Call::Decide(problem, record), answer)
-        }),
     ]
 }
 
-/// Terms that stand in a record, and by themselves.
+/// Terms that stand by themselves.
 fn other_readings() -> Vec<Case> {
     fn lower(first: Vec<u8>, second: Vec<u8>) -> (Call<'static>, u64) {
         let symbols = Theory::new(SYMBOLS).symbol_field();
@@ -175,15 +167,6 @@ fn other_readings() -> Vec<Case> {
         (Call::from(pair), chosen(Which::Refused))
     }
     vec![
-        walk("decide, a rule's chain cut", |n| {
-            let question = Question {
-                problem: problem(&[["x", "x"]]).into_owned(),
-                record: Kept::complete(vec![vec![I; n]]).bytes(),
-            };
-            // The rule's field is behind those of the end and the units.
-            let (number, place) = (13, 11);
-            (Call::from(question), refused(Refusal { number, place }))
-        }),
         walk("lower, first chain cut", |n| lower(vec![I; n], vec![X])),
         walk("lower, second chain cut", |n| lower(vec![X], vec![I; n])),
     ]
@@ -279,32 +262,6 @@ fn unifiers() -> Vec<Case> {
         }),
         looped("unify x, i..i(x)", |n| {
             unify("x", &chain("i", n, "x"), UnifyAnswer::None)
-        }),
-    ]
-}
-
-/// Normalising goes down the chain asked about; the order test of a rule goes
-/// down its right side and then its left side, which is deepest.
-fn decisions() -> Vec<Case> {
-    fn decide(rule: [&str; 2], sides: [&str; 2], answer: DecideAnswer) -> (Call<'static>, u64) {
-        let record = result_of(&RustEngine, &problem(&[rule]))
-            .expect("accepted")
-            .into();
-        let problem = problem(&[sides]);
-        (Call::Decide(problem, record), decided(answer))
-    }
-    vec![
-        deep("decide, a step at each node", |n| {
-            let sides = [&*chain("i", n, "x"), &*chain("j", n, "x")];
-            decide(["i(x)", "j(x)"], sides, DecideAnswer::Same)
-        }),
-        deep("decide, steps at the leaf", |n| {
-            let sides = [&*chain("i", n, "e"), "x"];
-            decide(["i(e)", "e"], sides, DecideAnswer::Different)
-        }),
-        deep("decide, a rule of two chains", |n| {
-            let rule = [&*alone(n), &*chain("j", n, "x")];
-            decide(rule, rule, DecideAnswer::Same)
         }),
     ]
 }

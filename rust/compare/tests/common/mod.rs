@@ -27,7 +27,12 @@ const PLAN: Plan = Plan {
     count: 500,
 };
 /// These families are long, and show no fault that no other shows.
-const LEFT_OUT: [&str; 2] = ["corpus", "all damage of saved records"];
+const LEFT_OUT: [&str; 4] = [
+    "corpus",
+    "all damage of saved records",
+    "all damage of records",
+    "long questions",
+];
 
 /// A call and its buffers to another answer, none for the right one.
 pub type Fault = fn(&Call, &mut Buffers) -> Option<u64>;

@@ -4,9 +4,8 @@
 use crate::generate::random::Random;
 use crate::generate::terms::{assemble, mutated, push_term, renumbered, term_end};
 use crate::generate::terms::{Symbols, VARIABLES};
-use kb_engine::decide::decision;
-use kb_engine::normalise::Stop;
 use kb_engine::term::VARIABLE_BASE;
+use kb_engine::{decide, outermost, DecideAnswer, Verdict};
 use kb_engine::{MAX_BUDGET, MAX_NODES};
 
 /// Two terms, either of which may replace the other.
@@ -56,7 +55,7 @@ impl<'a> Asked<'a> {
     }
 
     /// A random term, mostly with instances of sides in it.
-    fn start(&mut self) -> Vec<u8> {
+    pub fn start(&mut self) -> Vec<u8> {
         let top = *self.random.pick(&[3, 8, 8, 20, 20, 40, 120]);
         let mut term = self.term(top);
         let planted = if self.random.once_in(8) { 0 } else { 3 };
@@ -132,7 +131,7 @@ impl<'a> Asked<'a> {
     }
 
     /// The term after some replacements of equals by equals.
-    fn walked(&mut self, term: &[u8]) -> Vec<u8> {
+    pub fn walked(&mut self, term: &[u8]) -> Vec<u8> {
         let mut term = term.to_vec();
         for _ in 0..self.random.between(1, 6) {
             if let Some(next) = self.replaced(&term) {
@@ -177,21 +176,30 @@ fn matched(pattern: &[u8], term: &[u8], symbols: &Symbols) -> Option<Bindings> {
     Some(bindings)
 }
 
+/// A call that answers questions.
+pub type Ask = fn(&[u8], &[u8]) -> DecideAnswer;
+
+/// Both of them.
+pub const CALLS: [Ask; 2] = [decide, outermost];
+
 /// Longer rewriting gets a small budget.
 const MOST_UNITS: u32 = 2000;
 
-/// Around what the question needs, small, or the highest.
+/// Around what the question needs by one of the calls, small, or the highest.
 pub fn budget(random: &mut Random, symbols: &Symbols, sides: &[u8], record: &[u8]) -> u32 {
     let problem = assemble(symbols, MOST_UNITS, &[sides.to_vec()]);
-    let needed = match decision(&problem, record) {
-        Ok(decision) if decision.same != Err(Stop::Budget) => decision.units,
-        _ => return random.budget(),
+    let needs = CALLS.map(|call| match call(&problem, record) {
+        DecideAnswer::Decided(Verdict::Ended(21), _) | DecideAnswer::Refused(_) => None,
+        DecideAnswer::Decided(_, units) => Some(units),
+    });
+    let Some(needed) = *random.pick(&needs) else {
+        return random.budget();
     };
     match random.below(10) {
         0 => needed.saturating_sub(1),
         1..=3 => needed,
         4 | 5 => needed + 1,
-        6 | 7 => MAX_BUDGET,
+        6 | 7 if !needs.contains(&None) => MAX_BUDGET,
         8 => random.below(needed as usize + 1) as u32,
         _ => random.budget(),
     }

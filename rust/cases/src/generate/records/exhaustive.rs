@@ -21,10 +21,7 @@ fn bases() -> [Question; 5] {
 }
 
 fn question(theory: Theory, budget: u32, record: Kept) -> Question {
-    Question {
-        problem: theory.problem(budget),
-        record: record.bytes(),
-    }
+    Question::new(theory.problem(budget), record.bytes())
 }
 
 /// An entry of each kind.

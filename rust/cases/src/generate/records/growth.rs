@@ -1,6 +1,6 @@
 //! Rules that make terms grow, and questions around 120 nodes.
 
-use super::asked::budget;
+use super::asked::{budget, Ask, CALLS};
 use super::made::entries;
 use super::Complete;
 use crate::generate::random::Random;
@@ -9,10 +9,8 @@ use crate::generate::theory::symbols_of;
 use crate::kept::Kept;
 use crate::notation::Theory;
 use crate::questions::Question;
-use kb_engine::decide::decision;
-use kb_engine::normalise::Stop;
 use kb_engine::problem::Problem;
-use kb_engine::MAX_NODES;
+use kb_engine::{DecideAnswer, Verdict, MAX_NODES};
 
 const SYMBOLS: &str = "0/0/0 s/1/1 t/2/2 d/1/3 h/1/4 k/2/5 u/1/6";
 /// The symbol s, which no rule has at the root of its left side.
@@ -48,15 +46,14 @@ pub fn rules(random: &mut Random, _: Complete) -> Question {
     let symbols = symbols_of(&Problem::read(&problem).expect("all are terms"));
     let sides = sides(random, &symbols, &record);
     let budget = budget(random, &symbols, &sides, &record);
-    let problem = assemble(&symbols, budget, &[sides]);
-    Question { problem, record }
+    Question::new(assemble(&symbols, budget, &[sides]), record)
 }
 
 /// A term with about as much on it as it has room for, and another.
 fn sides(random: &mut Random, symbols: &Symbols, record: &[u8]) -> Vec<u8> {
     let inside = term(random, symbols);
     let most = MAX_NODES - inside.len();
-    let room = room(&inside, symbols, record);
+    let room = room(&inside, symbols, record, *random.pick(&CALLS));
     let padding = (room + random.below(4)).saturating_sub(2).min(most);
     let padded = [vec![PADDING; padding], inside].concat();
     let other = match random.below(3) {
@@ -77,13 +74,15 @@ fn term(random: &mut Random, symbols: &Symbols) -> Vec<u8> {
     out
 }
 
-/// The least padding with which the term grows over 120 nodes.
-fn room(inside: &[u8], symbols: &Symbols, record: &[u8]) -> usize {
+/// The least padding with which a call's term grows over 120 nodes.
+fn room(inside: &[u8], symbols: &Symbols, record: &[u8], call: Ask) -> usize {
     let fits = |padding: &usize| {
         let padded = [&vec![PADDING; *padding], inside, &[0]].concat();
         let problem = assemble(symbols, UNITS, &[padded]);
-        let decision = decision(&problem, record).expect("record and terms are right");
-        decision.same != Err(Stop::Size)
+        !matches!(
+            call(&problem, record),
+            DecideAnswer::Decided(Verdict::Ended(22), _)
+        )
     };
     let paddings: Vec<usize> = (0..=MAX_NODES - inside.len()).collect();
     paddings.partition_point(fits)

@@ -62,7 +62,7 @@ pub fn completed(random: &mut Random, complete: Complete) -> Source {
 }
 
 /// The same, mostly of end 0.
-fn source(random: &mut Random, complete: Complete) -> Source {
+pub fn source(random: &mut Random, complete: Complete) -> Source {
     let tries = if random.once_in(6) { 1 } else { TRIES };
     let mut source = completed(random, complete);
     for _ in 1..tries {
@@ -110,7 +110,10 @@ fn rules(record: &[u8], symbols: &Symbols) -> Vec<Pair> {
 
 /// A result and its own symbols.
 pub fn kept(random: &mut Random, complete: Complete) -> Question {
-    source(random, complete).ask(random)
+    Question {
+        delivered: true,
+        ..source(random, complete).ask(random)
+    }
 }
 
 /// Rules of a run that did not end with 0, under a record that says it did.
@@ -148,7 +151,7 @@ pub fn other_symbols(random: &mut Random, complete: Complete) -> Question {
 
 /// A result, and a problem with a fault or with other equations than one.
 pub fn damaged_problem(random: &mut Random, complete: Complete) -> Question {
-    let mut question = kept(random, complete);
+    let mut question = source(random, complete).ask(random);
     if random.once_in(4) {
         push_field(&mut question.problem, 3, &[0x80, 0x80]);
         return question;

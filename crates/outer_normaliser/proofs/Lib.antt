@@ -1,0 +1,4 @@
+mod Looking
+mod Stepping
+mod Returning
+mod Reaching

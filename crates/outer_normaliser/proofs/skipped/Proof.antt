@@ -1,0 +1,18 @@
+-- `skipped`: 0 where the subterm ends behind `clean`, else its size. Assumes nothing.
+-- Read first: specs/Outer (Skipped).
+use native.Mathlib.Omega.{arith}
+use mathlib.Core.Path.{refl}
+use borrow.Author.Needs.{needs}
+use Rattle.outer_normaliser.proofs.skipped.Statement.{statement}
+use Rattle.outer_normaliser.proofs.skipped.Tie as tie
+
+returns : tie.Need-returns
+returns c = record { few = omega arith; passes = λ z. absurd (z refl) }
+
+returns-2 : tie.Need-returns-2
+returns-2 c =
+    let n = c .before .size-of .ensures in
+    record { few = n .1; passes = λ z. (n .0, c .if1 .left) }
+
+pub skipped-spec : {M : Type 1} → statement M
+skipped-spec = tie.close (tie.spec (λ c κs. search needs) (λ c. search needs) returns returns-2)
