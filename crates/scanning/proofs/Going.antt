@@ -13,7 +13,8 @@ use Rattle.slots.specs.Slots.{PutMark, KeptSlot}
 use Rattle.joining.specs.declared.Walk.{Walk}
 use Rattle.joining.specs.declared.Found.the-variants.{Equal}
 use Rattle.forms.specs.Forms.{ScanPart, Walked, found, short, large, on}
-use Rattle.forms.proofs.Walking.{found-is, units-is, walked-from}
+use Rattle.joining.proofs.Rooms.{found-is, units-is}
+use Rattle.forms.proofs.Walking.{walked-from}
 use Rattle.forms.proofs.Pairs.{marked-one}
 use Rattle.scanning.specs.Walk.{Lent, Walks}
 

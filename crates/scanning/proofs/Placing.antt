@@ -25,7 +25,8 @@ use Rattle.rewriting.specs.declared.End.the-variants.{TooLarge as TooLargeEnd}
 use Rattle.joining.specs.declared.Walk.{Walk}
 use Rattle.joining.specs.declared.Found.the-variants.{Equal, Ends}
 use Rattle.forms.specs.Forms.{compared, large, on, PairWalk}
-use Rattle.forms.proofs.Walking.{found-is, units-is, walked-from}
+use Rattle.joining.proofs.Rooms.{found-is, units-is}
+use Rattle.forms.proofs.Walking.{walked-from}
 use Rattle.scanning.specs.declared.spots.Spot.{Spot}
 use Rattle.scanning.specs.Walk.{visit, rule-at, no-rule, RulesIn, OverlapsAt, at-place, Walks}
 use Rattle.scanning.proofs.WellFormed.{overlap-wf}

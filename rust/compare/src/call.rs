@@ -1,6 +1,6 @@
 //! The calls, with what each is lent, and the engines that run them.
 //!
-//! An answer is one number: kind * 2^48 + number * 2^32 + place or count.
+//! An answer is one number: kind * 2^48 + number * 2^32 + place, count or units.
 //! Kind 0 is a refusal (number, place). Complete and unify: kind 1 written
 //! (count), 2 no common instance, 3 too large (number 22). Compare: kind 1
 //! the answer 1 to 4. Decide: kind 1 the answer 1 (same) or 2 (different), 3
@@ -185,7 +185,7 @@ pub fn encode(kind: u64, number: usize, low: usize) -> u64 {
     (kind << 48) | ((number as u64) << 32) | low as u64
 }
 
-/// Kind, number, and place or count.
+/// Kind, number, and place, count or units.
 pub fn decode(answer: u64) -> (u64, u64, u64) {
     (answer >> 48, (answer >> 32) & 0xffff, answer & 0xffff_ffff)
 }
