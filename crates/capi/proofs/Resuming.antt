@@ -8,12 +8,12 @@ use native.Mathlib.Omega.{arith}
 use lib.ListN.{take}
 use Rattle.limits.specs.Limits.{most-saved, two-byte-values}
 use Rattle.reading.specs.Stops.{large-budget}
-use Rattle.problem.specs.Problem.{Reading, ok, refused, Theory, Problem, theory}
+use Rattle.problem.specs.Problem.{Reading, ok, refused, theory}
 use Rattle.problem.proofs.Reading.{no-ok}
-use Rattle.completion.specs.Turn.{Finished, run-from, run}
+use Rattle.completion.specs.Turn.{run-from, run}
 use Rattle.completion.specs.Calls.{counted}
 use Rattle.checkpoint.specs.Resume.{Left as LeftBytes, resume-call, complete-saving-call, resume-saving-call}
-use Rattle.checkpoint.specs.Wrote.{EngineSaved, Delivered}
+use Rattle.checkpoint.specs.Wrote.{Delivered}
 use Rattle.checkpoint.proofs.Refusals.{SavingWithin, resume-within, complete-saving-within, resume-saving-within}
 use Rattle.resume.specs.Resumes.{resumed-told, ResumedFew, Redelivers}
 use Rattle.resume.specs.declared.Resumed.{Resumed}
@@ -21,7 +21,7 @@ use Rattle.resume.specs.declared.Resumed.the-variants.{Written, Refused}
 use Rattle.saving_calls.specs.Leaving.{Lengths, left-told, lengths, LeftFew, SavingDelivers, SavingRedelivers}
 use Rattle.saving_calls.specs.declared.Left.{Left}
 use Rattle.saving_calls.specs.declared.Left.the-variants.{Written as WrittenBoth, Refused as RefusedBoth}
-use Rattle.capi.specs.Codes.{code, answer-code, left-code, number-in, value-in, CodeSaves, CodeLeaves, CodeResumes, CodeResumesSaving}
+use Rattle.capi.specs.Codes.{code, answer-code, left-code, CodeSaves, CodeLeaves, CodeResumes, CodeResumesSaving}
 use Rattle.capi.proofs.Unpacked.{Unpacks, code-unpacks, refused-unpacks, UnpacksAnswer}
 
 -- a refusal of these calls

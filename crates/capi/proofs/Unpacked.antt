@@ -17,10 +17,13 @@ use Rattle.problem.specs.Problem.{Reading, ok, refused}
 use Rattle.completion.specs.Calls.{complete-call, compare-call, unify-call, CommonInstance, instance, no-instance, instance-too-large, Part, subterm-part}
 use Rattle.completion.proofs.Refusals.{CallWithin, complete-within, compare-within, InstanceFew, unify-within, PartWithin, part-within}
 use Rattle.completion.specs.Calls.{counted}
-use Rattle.decide.specs.Decide.{Answer, are-same, are-different, numbered, decide-call}
-use Rattle.decide.proofs.Refusals.{QuestionWithin, NumberFew, decide-within}
+use Rattle.rewriting.proofs.Lasting.{inner-rewrites, outer-rewrites}
+use Rattle.decide.specs.Decide.{Answer, are-same, are-different, numbered, Counted, decide-call, outermost-call}
+use Rattle.decide.specs.Answers.{without-units}
+use Rattle.decide.proofs.Refusals.{QuestionWithin, NumberFew, AnswerFew, call-within}
 use Rattle.calls.specs.Answers.{Returned, bytes-written, none-common, number-only, number-and-place, unify-returns}
-use Rattle.capi.specs.Codes.{value-end, code, answer-code, unify-code, decide-code, part-code, kind-in, number-in, value-in, start-in}
+use Rattle.capi.specs.Codes.{value-end, code, answer-code, unify-code, decide-code, counted-code, outermost-code, part-code}
+use Rattle.capi.specs.Codes.{kind-in, number-in, value-in, start-in}
 
 -- The answer r has this kind, this number and this value.
 pub record Unpacks (r kind number value : ℕ) : Type 0 where
@@ -84,15 +87,47 @@ UnpacksDecided r (ok are-different) = Unpacks r 1 0 2
 UnpacksDecided r (ok (numbered n)) = Unpacks r 3 n 0
 UnpacksDecided r (refused number place) = Unpacks r 0 number place
 
-decided-unpacks : (c : Reading Answer) → QuestionWithin NumberFew c → UnpacksDecided (decide-code c) c
-unfolding decide-code
-decided-unpacks (ok are-same) h = code-unpacks 1 0 1 (omega arith) (omega arith)
-decided-unpacks (ok are-different) h = code-unpacks 1 0 2 (omega arith) (omega arith)
-decided-unpacks (ok (numbered n)) (reads h) = code-unpacks 3 n 0 (⊎-elim (λ e. omega arith) (λ e. omega arith) h) (omega arith)
-decided-unpacks (refused n at) h = refused-unpacks _ _ (omega arith) (omega arith) n at h
+number-few : (n : ℕ) → NumberFew (numbered n) → n < two-byte-values
+number-few n h = ⊎-elim (λ e. omega arith) (λ e. omega arith) h
 
-pub decide-unpacks : (problem kept : List ℕ) → UnpacksDecided (decide-code (decide-call problem kept)) (decide-call problem kept)
-decide-unpacks problem kept = decided-unpacks _ (decide-within problem kept)
+decided-unpacks : (a : Answer) → NumberFew a → UnpacksDecided (decide-code (ok a)) (ok a)
+unfolding decide-code
+decided-unpacks are-same h = code-unpacks 1 0 1 (omega arith) (omega arith)
+decided-unpacks are-different h = code-unpacks 1 0 2 (omega arith) (omega arith)
+decided-unpacks (numbered n) h = code-unpacks 3 n 0 (number-few n h) (omega arith)
+
+pub decide-unpacks : (problem kept : List ℕ) →
+    UnpacksDecided (decide-code (without-units (decide-call problem kept))) (without-units (decide-call problem kept))
+unfolding decide-code without-units
+decide-unpacks problem kept = go _ (call-within _ inner-rewrites problem kept)
+  where
+    go : (c : Reading Counted) → QuestionWithin AnswerFew c → UnpacksDecided (decide-code (without-units c)) (without-units c)
+    go (ok c) (reads h) = decided-unpacks (c .answer) (h .number)
+    go (refused n at) h = refused-unpacks _ _ (omega arith) (omega arith) n at h
+
+-- outermost: the units are the value
+abbrev pub UnpacksUnits : ℕ → Answer → ℕ → Type 0
+UnpacksUnits r are-same units = Unpacks r 1 1 units
+UnpacksUnits r are-different units = Unpacks r 1 2 units
+UnpacksUnits r (numbered n) units = Unpacks r 3 n units
+
+abbrev pub UnpacksCounted : ℕ → Reading Counted → Type 0
+UnpacksCounted r (ok c) = UnpacksUnits r (c .answer) (c .units)
+UnpacksCounted r (refused number place) = Unpacks r 0 number place
+
+units-unpacks : (a : Answer) (units : ℕ) → NumberFew a → units < value-end → UnpacksUnits (counted-code a units) a units
+unfolding counted-code
+units-unpacks are-same units h k = code-unpacks 1 1 units (omega arith) k
+units-unpacks are-different units h k = code-unpacks 1 2 units (omega arith) k
+units-unpacks (numbered n) units h k = code-unpacks 3 n units (number-few n h) k
+
+pub outermost-unpacks : (problem kept : List ℕ) → UnpacksCounted (outermost-code (outermost-call problem kept)) (outermost-call problem kept)
+unfolding outermost-code
+outermost-unpacks problem kept = go _ (call-within _ outer-rewrites problem kept)
+  where
+    go : (c : Reading Counted) → QuestionWithin AnswerFew c → UnpacksCounted (outermost-code c) c
+    go (ok c) (reads h) = units-unpacks (c .answer) (c .units) (h .number) (omega (arith, h .units))
+    go (refused n at) h = refused-unpacks _ _ (omega arith) (omega arith) n at h
 
 -- subterm: the answer r has this part
 pub record UnpacksPart (r : ℕ) (p : Part) : Type 0 where

@@ -92,8 +92,16 @@ pub extern "C" fn vb_outermost(problem: &[u8], kept: &[u8]) -> u64
     match decide::outermost(problem, kept) {
         decide::Decided::Same(units) => code(1, 1, units as usize),
         decide::Decided::Different(units) => code(1, 2, units as usize),
-        decide::Decided::Spent(units) => code(3, rewriting::number(rewriting::End::Spent), units as usize),
-        decide::Decided::TooLarge(units) => code(3, rewriting::number(rewriting::End::TooLarge), units as usize),
+        decide::Decided::Spent(units) => code(
+            3,
+            rewriting::number(rewriting::End::Spent),
+            units as usize,
+        ),
+        decide::Decided::TooLarge(units) => code(
+            3,
+            rewriting::number(rewriting::End::TooLarge),
+            units as usize,
+        ),
         decide::Decided::Refused { number, place } => code(0, number, place),
     }
 }

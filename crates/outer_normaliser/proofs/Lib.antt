@@ -2,3 +2,4 @@ mod Looking
 mod Stepping
 mod Returning
 mod Reaching
+pub mod Opening

@@ -2,7 +2,7 @@
 -- Read first: specs/Outer (SteppedOuter, ReachedOuter), normaliser/proofs/Whole (unloaded), rewriting/specs/Outermost (normalise-outer).
 use mathlib.Core.Path.{_≡_, refl, sym, _∙_, ap, subst}
 use mathlib.Core.Bool.{Bool, true, false}
-use mathlib.Core.List.{List, _++_}
+use mathlib.Core.List.{List, [], _++_}
 use mathlib.Core.Option.{Option, none, some}
 use Prim.Native.Nat.{ℕ, zero, suc, _-_, _≤_}
 use native.Mathlib.Omega.{arith}
@@ -23,7 +23,8 @@ use Rattle.slots.specs.Slots.{Stored}
 use Rattle.redex.specs.declared.Out.{Out}
 use Rattle.redex.specs.declared.Step.the-variants.{Normal, Rewritten, Spent, TooLarge}
 use Rattle.redex.specs.Contraction.{CellsSized}
-use Rattle.redex.proofs.Contracting.{plain-bytes}
+use Rattle.redex.specs.Marks.{Marked}
+use Rattle.redex.proofs.Marking.{plain}
 use Rattle.normaliser.specs.Settled.{form-after, WholeEnds, Normalised}
 use Rattle.normaliser.specs.declared.Form.{Form}
 use Rattle.normaliser.proofs.Whole.{unloaded}
@@ -80,10 +81,10 @@ module _
 
 -- the sizes were put first: the cells came back as Q
 sized-holds : {tab : List ℕ} (t₀ : List ℕ) (len : ℕ) (Q : List ℕ) → len ≤ length t₀ → CellsSized tab (take (len - 0) t₀) Q → (rs : List Rule) (x : Term) →
-    Wf most-apart tab x → node-bytes (take len t₀) ≡ term-bytes x → HoldsClean tab rs (Q ++ drop (len - 0) t₀) len 0 x
+    Wf most-apart tab x → take len t₀ ≡ term-bytes x → HoldsClean tab rs (Q ++ drop (len - 0) t₀) len 0 x
 sized-holds t₀ len Q h Z rs x w e = record {
   wf = w;
-  text = sized-back t₀ len Q h Z .1 .is x w e;
+  text = sized-back t₀ len Q h Z .1 .is x w (subst (λ l. Marked [] l x) (sym e) (plain [] x));
   clean-to = λ q y d k. absurd (omega (arith, size-pos y));
 }
 
@@ -113,4 +114,4 @@ module _
   pub whole : Normalised normalise-outer tab rules number S out out′ units (record { form = f; paid = units - o .units })
   whole =
       unloaded tab t₂ units o reached-length (s .small) (s .left-over) out out′ C f room eC e′ ef normalise-outer rules number S
-      λ rs st m x w b. s .answer rs st m x w (ap node-bytes (loaded ∙ b) ∙ plain-bytes tab x w)
+      λ rs st m x w b. s .answer rs st m x w (loaded ∙ b)

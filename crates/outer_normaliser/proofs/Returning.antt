@@ -24,7 +24,7 @@ use Rattle.redex.specs.declared.Out.{Out}
 use Rattle.redex.specs.declared.Step.{Step}
 use Rattle.redex.specs.declared.Step.the-variants.{Normal, Rewritten, Spent, TooLarge}
 use Rattle.redex.proofs.Parts.{drop-take}
-use Rattle.outer_normaliser.specs.Outer.{FirstRedex, HoldsClean, OuterTested, OuterStep, SteppedOuter}
+use Rattle.outer_normaliser.specs.Outer.{FirstRedex, PathOpened, HoldsClean, OuterTested, OuterStep, SteppedOuter}
 use Rattle.outer_normaliser.specs.declared.Found.{Found}
 use Rattle.outer_normaliser.proofs.Stepping.{Ready, next, next-step, fits, put-size, next-holds}
 
@@ -106,12 +106,12 @@ module _ {rules t : List ℕ} {number len clean : ℕ} {B : List ℕ} {o : Found
           large m h =
               tested m t′ _ true (lt-ltb most-nodes (size (next g)) (omega (arith, R .put (fits g) .over h, put-size g))) (refl, refl)
 
-          fine : (m : ℕ) (t″ : List ℕ) → w ≤ most-nodes → CellsSized tab (take w t′) (take w t″) →
-              OuterStep tab rs t″ x (suc m) (out Rewritten m w (o .at)) (step-outer rs x)
-          fine m t″ h S =
+          fine : (m : ℕ) (t₂ t₃ : List ℕ) → w ≤ most-nodes → PathOpened t′ (o .at) t₂ → CellsSized tab (take w t₂) (take w t₃) →
+              OuterStep tab rs t₃ x (suc m) (out Rewritten m w (o .at)) (step-outer rs x)
+          fine m t₂ t₃ h O S =
               let p = R .put (fits g) in
-              tested m t″ _ false (le-ltb most-nodes (size (next g)) (omega (arith, p .next h, put-size g)))
-              (refl, refl, next-holds g t′ t″ w (p .cells h) S)
+              tested m t₃ _ false (le-ltb most-nodes (size (next g)) (omega (arith, p .next h, put-size g)))
+              (refl, refl, next-holds g t′ t₂ t₃ w (p .next h) (p .cells h) O S)
 
         pub step-large : {units : ℕ} {r : Out} → (units ≡ 0 → ⊥) → most-nodes < w → r ≡ out TooLarge (units - 1) len len →
             SteppedOuter tab rules number t len clean units t′ r
@@ -120,17 +120,18 @@ module _ {rules t : List ℕ} {number len clean : ℕ} {B : List ℕ} {o : Found
             let q : suc m - 1 ≡ m = omega arith in
             stays (e ∙ ap (λ m. out TooLarge m len len) q) (R .same) (λ z. zero≢one (cc)) (omega arith) λ rs st c x H. large (ready rs st c x H) m h
 
-        pub step-done : {units : ℕ} {r : Out} (Q : List ℕ) → (units ≡ 0 → ⊥) → w ≤ most-nodes → CellsSized tab (take (w - 0) t′) Q →
-            r ≡ out Rewritten (units - 1) w (o .at) → SteppedOuter tab rules number t len clean units (Q ++ drop (w - 0) t′) r
-        step-done {units = zero} Q z h S e = absurd (z refl)
-        step-done {units = suc m} Q z h S e =
+        pub step-done : {t₂ : List ℕ} {units : ℕ} {r : Out} (Q : List ℕ) → (units ≡ 0 → ⊥) → w ≤ most-nodes → PathOpened t′ (o .at) t₂ →
+            CellsSized tab (take (w - 0) t₂) Q → r ≡ out Rewritten (units - 1) w (o .at) →
+            SteppedOuter tab rules number t len clean units (Q ++ drop (w - 0) t₂) r
+        step-done {units = zero} Q z h O S e = absurd (z refl)
+        step-done {t₂} {units = suc m} Q z h O S e =
             let q : suc m - 1 ≡ m = omega arith in
             let l = G .long in
-            let s = sized-back t′ w Q (omega (arith, R .same)) S in
-            subst (SteppedOuter tab rules number t len clean (suc m) (Q ++ drop (w - 0) t′)) (sym (e ∙ ap (λ m. out Rewritten m w (o .at)) q)) (record {
-              same = s .0 ∙ R .same;
+            let s = sized-back t₂ w Q (omega (arith, O .same, R .same)) S in
+            subst (SteppedOuter tab rules number t len clean (suc m) (Q ++ drop (w - 0) t₂)) (sym (e ∙ ap (λ m. out Rewritten m w (o .at)) q)) (record {
+              same = s .0 ∙ O .same ∙ R .same;
               small = h;
               left-over = omega arith;
               paid = λ z. omega arith;
-              answer = λ rs st c x H. fine (ready rs st c x H) m (Q ++ drop (w - 0) t′) h (s .1);
+              answer = λ rs st c x H. fine (ready rs st c x H) m t₂ (Q ++ drop (w - 0) t₂) h O (s .1);
             })

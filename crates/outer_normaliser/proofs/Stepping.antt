@@ -1,39 +1,40 @@
 -- A step at the node that was found, on terms and in cells: it is the definition's, what is put has the next term's bytes, and before the node no rule
 -- matches a node that ends there. Assumes nothing.
 -- Read first: specs/Outer (Chosen, HoldsClean), redex/proofs/Standing, redex/proofs/Contracting (instance-bytes), rewriting/proofs/Outer (First, first-step).
-use mathlib.Core.Path.{_≡_, refl, sym, _∙_, ap, ap₂, subst}
-use mathlib.Core.List.{List, [], _++_, append-nil, append-cancel-left}
+use mathlib.Core.Path.{_≡_, refl, sym, _∙_, ap, ap₂, subst, subst₂}
+use mathlib.Core.List.{List, [], _++_, append-nil}
 use mathlib.Core.Option.{some}
 use Prim.Native.Nat.{ℕ, zero, suc, _+_, _-_, _/_, _<_, _≤_}
 use native.Mathlib.Omega.{arith}
 use native.Mathlib.Decide.{decLt}
-use lib.ListN.{length, getD, take, drop, length-append, take-append-drop}
-use lib.Seq.{take-at, drop-at, take-take, getD-take, length-take-le}
+use lib.ListN.{length, getD, take, drop, length-append}
+use lib.Seq.{take-add, take-at, drop-at, take-take, getD-take, length-take-le}
 use Rattle.limits.specs.Limits.{most-apart, cell-base}
-use Rattle.terms.specs.Term.{Term, term-bytes, size, subterm-at, subterm-in, replace-at}
+use Rattle.terms.specs.Term.{Term, size, subterm-at, subterm-in, replace-at}
 use Rattle.terms.specs.Flat.{Wf}
 use Rattle.terms.proofs.Shape.{none≢some, some-inj}
 use Rattle.terms.proofs.Context.{Ctx, Ctxs, hole, beneath, first, later, plug, plugs}
 use Rattle.terms.proofs.Places.{number, numbers, number-lt, numbers-lt, size-pos}
-use Rattle.terms.proofs.Bytes.{length-bytes, Around, around}
-use Rattle.terms.proofs.Positions.{in-first, in-later, found}
+use Rattle.terms.proofs.Positions.{in-first, in-later, Found, found}
 use Rattle.terms.proofs.Flats.{wf-replace}
 use Rattle.rewriting.specs.Overlap.{Rule}
 use Rattle.rewriting.specs.Rewrite.{instantiate}
 use Rattle.rewriting.specs.Outermost.{step-outer}
 use Rattle.rewriting.proofs.Outer.{first-step}
-use Rattle.matching.specs.Cells.{cells, node-bytes, Stands}
+use Rattle.matching.specs.Cells.{cells, Stands}
 use Rattle.matching.specs.Held.{Rep}
 use Rattle.matching.specs.Pieces.{pieces, replaced}
-use Rattle.matching.proofs.Celled.{length-cells, bytes-append, bytes-cells, stands-size}
+use Rattle.matching.proofs.Celled.{length-cells, stands-size}
 use Rattle.slots.specs.Slots.{slot, right-of}
 use Rattle.redex.specs.Contraction.{CellsSized}
+use Rattle.redex.specs.Marks.{Marked}
 use Rattle.redex.proofs.Parts.{drop-take}
 use Rattle.redex.proofs.OneStep.{wf-instance}
-use Rattle.redex.proofs.Contracting.{instance-bytes}
-use Rattle.redex.proofs.Sizing.{bytes-length}
-use Rattle.redex.proofs.Standing.{stands-at}
-use Rattle.outer_normaliser.specs.Outer.{Chosen, HoldsClean}
+use Rattle.redex.proofs.Marking.{marked-length}
+use Rattle.redex.proofs.PartSized.{instance-part}
+use Rattle.redex.proofs.Standing.{behind, behind-hole, stands-at}
+use Rattle.outer_normaliser.specs.Outer.{opened-to, PathOpened, Chosen, HoldsClean}
+use Rattle.outer_normaliser.proofs.Opening.{opened-marked, opened-length}
 
 -- what ends before a context's hole stands there whatever is in the hole
 mutual
@@ -93,6 +94,9 @@ module _ {tab rules t : List ℕ} {len clean : ℕ} {B : List ℕ} {at k : ℕ} 
   })
 
   -- the redex in the cells
+  place : Found x at y
+  place = found x at y (g .chosen .stands)
+
   there : Stands tab (take len t) (size x) at y
   there = stands-at tab x [] (take len t) (g .holds .wf) (g .holds .text ∙ sym (append-nil (cells x))) at y (g .chosen .stands)
 
@@ -102,8 +106,8 @@ module _ {tab rules t : List ℕ} {len clean : ℕ} {B : List ℕ} {at k : ℕ} 
   T-is : T ≡ drop at (take len t)
   T-is = let l = g .low in drop-take at len t (omega arith)
 
-  T-text : T ≡ cells y ++ there .rest
-  T-text = T-is ∙ there .text
+  T-text : T ≡ cells y ++ behind (place .c)
+  T-text = T-is ∙ ap₂ drop (sym (place .counts)) (g .holds .text ∙ ap cells (place .whole)) ∙ behind-hole (place .c) y
 
   there-size : getD t at 0 / cell-base ≡ size y
   there-size = ap (λ c. c / cell-base) (sym (getD-take len t at 0 (g .low))) ∙ stands-size tab (take len t) (size x) at y there
@@ -126,60 +130,47 @@ module _ {tab rules t : List ℕ} {len clean : ℕ} {B : List ℕ} {at k : ℕ} 
   abbrev put : List ℕ
   put = replaced T B right (getD t at 0 / cell-base)
 
-  new-bytes : node-bytes (pieces T B right) ≡ term-bytes new
-  new-bytes =
+  put-is : put ≡ pieces T B right ++ behind (place .c)
+  put-is =
+      let n = getD t at 0 / cell-base in
+      ap (λ l. pieces T B right ++ l) (ap (drop n) T-text ∙ drop-at (cells y) (behind (place .c)) n (length-cells y ∙ sym there-size))
+
+  new-marked : Marked [] (pieces T B right) new
+  new-marked =
       let c = g .chosen .choice in
       let s = c .place .sides in
-      instance-bytes tab T B y (there .rest) (there .wf) T-text (c .bindings) (subst (λ l. Rep tab l (size y) B (c .bindings)) (sym T-is) (c .held)) right
-      (c .rule .right) (s .right-wf) (s .right-bytes)
+      instance-part tab T B y (behind (place .c)) (there .wf) T-text (c .bindings)
+      (subst (λ l. Rep tab l (size y) B (c .bindings)) (sym T-is) (c .held)) right (c .rule .right) (s .right-wf) (s .right-bytes)
 
-  A : Around (term-bytes x) (λ v. term-bytes (replace-at x at v)) at y
-  A = around x at y (g .chosen .stands)
+  -- behind the opened cells it makes the next term
+  next-marked : Marked [] (opened-to x at ++ put) next
+  next-marked =
+      let o : opened-to (plug (place .c) y) (number (place .c)) ≡ opened-to x at = ap₂ opened-to (sym (place .whole)) (place .counts) in
+      subst₂ (Marked []) (ap₂ _++_ o (sym put-is)) (sym (place .replaced new)) (opened-marked y new (pieces T B right) new-marked (place .c))
 
-  parts : take at t ++ (cells y ++ there .rest) ≡ cells x
-  parts =
-      let l = g .low in
-      ap₂ _++_ (sym (take-take at len t (omega arith))) (sym (there .text)) ∙ take-append-drop at (take len t) ∙ g .holds .text
-
-  parts-bytes : node-bytes (take at t) ++ (term-bytes y ++ node-bytes (there .rest)) ≡ A .before ++ (term-bytes y ++ A .after)
-  parts-bytes =
-      ap (λ l. node-bytes (take at t) ++ (l ++ node-bytes (there .rest))) (sym (bytes-cells tab y (there .wf)))
-      ∙ sym (bytes-append (take at t) (cells y ++ there .rest) ∙ ap (λ l. node-bytes (take at t) ++ l) (bytes-append (cells y) (there .rest)))
-      ∙ ap node-bytes parts ∙ bytes-cells tab x (g .holds .wf) ∙ A .holds
-
-  taken : length (take at t) ≡ at
-  taken = let l = g .low in let f = g .few in length-take-le at t (omega arith)
-
-  begins : length (node-bytes (take at t)) ≡ at
-  begins = bytes-length (take at t) ∙ taken
-
-  front : node-bytes (take at t) ≡ A .before
-  front =
-      sym (take-at (node-bytes (take at t)) (term-bytes y ++ node-bytes (there .rest)) at begins) ∙ ap (take at) parts-bytes
-      ∙ take-at (A .before) (term-bytes y ++ A .after) at (A .begins)
-
-  back : node-bytes (there .rest) ≡ A .after
-  back =
-      append-cancel-left (term-bytes y) (node-bytes (there .rest)) (A .after)
-      (sym (drop-at (node-bytes (take at t)) (term-bytes y ++ node-bytes (there .rest)) at begins) ∙ ap (drop at) parts-bytes
-      ∙ drop-at (A .before) (term-bytes y ++ A .after) at (A .begins))
-
-  behind : drop (getD t at 0 / cell-base) T ≡ there .rest
-  behind = ap (drop (getD t at 0 / cell-base)) T-text ∙ drop-at (cells y) (there .rest) (getD t at 0 / cell-base) (length-cells y ∙ sym there-size)
-
-  put-bytes : node-bytes (take at t ++ put) ≡ term-bytes next
-  put-bytes =
-      bytes-append (take at t) put
-      ∙ ap₂ _++_ front (bytes-append (pieces T B right) (drop (getD t at 0 / cell-base) T) ∙ ap₂ _++_ new-bytes (ap node-bytes behind ∙ back))
-      ∙ sym (A .replaced new)
+  in-term : at < size x
+  in-term = let l = g .low in omega (arith, length-cells x, ap length (g .holds .text), length-take-le len t (g .few))
 
   pub put-size : at + length put ≡ size next
-  put-size =
-      omega (arith, taken, ap length put-bytes, bytes-length (take at t ++ put), length-append (take at t) put, length-bytes next)
+  put-size = omega (arith, marked-length [] next-marked, length-append (opened-to x at) put, opened-length x at in-term)
 
-  pub next-holds : (t′ t″ : List ℕ) (w : ℕ) → take w t′ ≡ take at t ++ put → CellsSized tab (take w t′) (take w t″) → HoldsClean tab rs t″ w at next
-  next-holds t′ t″ w e S = record {
-    wf = wf-next;
-    text = S .is next wf-next (ap node-bytes e ∙ put-bytes);
-    clean-to = λ q z d l. g .chosen .clean q z (before-at x at y new (g .chosen .stands) q z d l) (omega (arith, size-pos z));
-  }
+  -- the cells before it are those of the term
+  pub front : take at t ≡ take at (cells x)
+  front = let l = g .low in sym (take-take at len t (omega arith)) ∙ ap (take at) (g .holds .text)
+
+  pub next-holds : (t₁ t₂ t₃ : List ℕ) (w : ℕ) → w ≡ at + length put → take w t₁ ≡ take at t ++ put → PathOpened t₁ at t₂ →
+      CellsSized tab (take w t₂) (take w t₃) → HoldsClean tab rs t₃ w at next
+  next-holds t₁ t₂ t₃ w n e O S =
+      let a : at ≤ w = omega arith in
+      let i : at + (w - at) ≡ w = omega arith in
+      let taken : length (take at t) ≡ at = let l = g .low in let f = g .few in length-take-le at t (omega arith) in
+      let same : take at t₁ ≡ take at t = sym (take-take at w t₁ a) ∙ ap (take at) e ∙ take-at (take at t) put at taken in
+      let opened : take at t₂ ≡ opened-to x at = O .front tab x (g .holds .wf) in-term (same ∙ front) in
+      let later : take (w - at) (drop at t₂) ≡ put =
+      ap (take (w - at)) (O .rest) ∙ drop-take at w t₁ a ∙ ap (drop at) e ∙ drop-at (take at t) put at taken in
+      let whole : take w t₂ ≡ opened-to x at ++ put = ap (λ m. take m t₂) (sym i) ∙ take-add at (w - at) t₂ ∙ ap₂ _++_ opened later in
+      record {
+        wf = wf-next;
+        text = S .is next wf-next (subst (λ l. Marked [] l next) (sym whole) next-marked);
+        clean-to = λ q z d l. g .chosen .clean q z (before-at x at y new (g .chosen .stands) q z d l) (omega (arith, size-pos z));
+      }

@@ -2,18 +2,20 @@
 -- Read first: rewriting/specs/Outermost, matching/specs/Cells, redex/specs/Step (Choice), normaliser/specs/Settled (WholeEnds).
 use mathlib.Core.Path.{_≡_}
 use mathlib.Core.Bool.{Bool, true, false}
-use mathlib.Core.List.{List}
+use mathlib.Core.List.{List, [], _∷_, _++_}
+use mathlib.Core.Logic.{_⊎_}
 use mathlib.Core.Option.{Option, none, some}
-use Prim.Native.Nat.{ℕ, zero, suc, _+_, _/_, _<_, _≤_}
+use Prim.Native.Nat.{ℕ, zero, suc, _+_, _-_, _/_, _<_, _≤_}
 use lib.Dec.{ltb}
 use lib.ListN.{length, take, drop}
 use Rattle.limits.specs.Limits.{most-nodes, most-apart, byte-values, cell-base}
-use Rattle.terms.specs.Term.{Term, term-bytes, size, subterm-at}
+use Rattle.terms.specs.Base.{if_then_else_}
+use Rattle.terms.specs.Term.{Term, Terms, var, node, nil, cons, term-bytes, size, subterm-at}
 use Rattle.terms.specs.Flat.{Wf}
 use Rattle.rewriting.specs.Overlap.{Rule, sides-of}
 use Rattle.rewriting.specs.Rewrite.{root-step}
 use Rattle.rewriting.specs.Outermost.{step-outer, normalise-outer}
-use Rattle.matching.specs.Cells.{cells, node-bytes}
+use Rattle.matching.specs.Cells.{cells}
 use Rattle.matching.specs.Held.{Within}
 use Rattle.slots.specs.Slots.{Stored}
 use Rattle.redex.specs.Step.{Choice}
@@ -26,6 +28,7 @@ use Rattle.outer_normaliser.specs.declared.Found.{Found}
 pub record Skipped (c i clean r : ℕ) : Type 0 where
   pub few : r < byte-values
   pub passes : (r ≡ 0 → ⊥) → (r ≡ c / cell-base) × (i + r ≤ clean)
+  pub stops : r ≡ 0 → (c / cell-base ≡ 0) ⊎ (clean < i + c / cell-base)
 
 -- no rule matches a node before i
 abbrev pub NoneBefore : List Rule → Term → ℕ → Type 0
@@ -51,6 +54,25 @@ pub record FirstRedex (rules t : List ℕ) (clean number : ℕ) (B B′ : List �
       Wf most-apart tab x → t ≡ cells x → CleanTo rs x clean → step-outer rs x ≡ none
   pub chosen : o .at < length t → (tab : List ℕ) (rs : List Rule) → Stored tab rules 0 (sides-of rs) → number ≡ length rs → (x : Term) →
       Wf most-apart tab x → t ≡ cells x → CleanTo rs x clean → Chosen tab rules t B′ (o .at) (o .rule) rs x
+
+-- the cells before the node at p, where those above it have no size
+unfoldable mutual
+  pub opened-to : Term → ℕ → List ℕ
+  opened-to (var y) p = []
+  opened-to (node f ts) zero = []
+  opened-to (node f ts) (suc p) = f ∷ opened-in ts p
+
+  pub opened-in : Terms → ℕ → List ℕ
+  opened-in nil p = []
+  opened-in (cons t ts) p =
+      let later : List ℕ = cells t ++ opened-in ts (p - size t) in
+      if ltb p (size t) then opened-to t p else later
+
+-- `open_path`: whatever stands from `at` on
+pub record PathOpened (t : List ℕ) (at : ℕ) (t′ : List ℕ) : Type 0 where
+  pub same : length t′ ≡ length t
+  pub rest : drop at t′ ≡ drop at t
+  pub front : (tab : List ℕ) (x : Term) → Wf most-apart tab x → at < size x → take at t ≡ take at (cells x) → take at t′ ≡ opened-to x at
 
 -- the first `len` cells are those of a term, and no rule matches a node that ends at `clean` or before
 pub record HoldsClean (tab : List ℕ) (rs : List Rule) (t : List ℕ) (len clean : ℕ) (x : Term) : Type 0 where
@@ -82,4 +104,4 @@ pub record ReachedOuter (tab rules : List ℕ) (number : ℕ) (t : List ℕ) (le
   pub small : o .len ≤ most-nodes
   pub left-over : o .units ≤ units
   pub answer : (rs : List Rule) → Stored tab rules 0 (sides-of rs) → number ≡ length rs → (x : Term) → Wf most-apart tab x →
-      node-bytes (take len t) ≡ term-bytes x → WholeEnds tab t′ o (normalise-outer rs x units)
+      take len t ≡ term-bytes x → WholeEnds tab t′ o (normalise-outer rs x units)

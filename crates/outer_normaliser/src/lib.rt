@@ -7,7 +7,7 @@ ghost use Rattle.limits.specs.Limits.{most-nodes, most-variables};
 ghost use Rattle.rewriting.specs.Outermost.{normalise-outer};
 ghost use Rattle.slots.specs.Slots.{Layout};
 ghost use Rattle.normaliser.specs.Settled.{Normalised};
-ghost use Rattle.outer_normaliser.specs.Outer.{Skipped, FirstRedex, SteppedOuter, ReachedOuter};
+ghost use Rattle.outer_normaliser.specs.Outer.{Skipped, FirstRedex, PathOpened, SteppedOuter, ReachedOuter};
 use limits::NODES;
 use normaliser::Reached;
 use redex::Out;
@@ -57,6 +57,23 @@ fn first_redex(t: &[u16], clean: usize, rules: &[u8], count: usize, binds: &mut 
     }
 }
 
+// The cells of the nodes above the one at `at` lose their sizes, which are those of before a step there.
+fn open_path(t: &mut [u16], at: usize)
+    requires { ⌜ (at ≤ length (now t)) × (length (now t) ≤ most-nodes) ⌝ }
+    ensures { λ _. ⌜ PathOpened (now (t .entry)) at (now (t .exit)) ⌝ }
+{
+    let mut i = 0;
+    while i < at {
+        let n = skipped(t[i], i, at);
+        if n == 0 {
+            t[i] = matching::sized(t[i], 0);
+            i += 1;
+        } else {
+            i += n;
+        }
+    }
+}
+
 // One step, or none: the term is in the first `len` cells, and `end` is the place of a step that was made.
 fn step(
     t: &mut [u16],
@@ -84,6 +101,7 @@ fn step(
     if w > NODES {
         return redex::ended(Step::TooLarge, units - 1, len, len);
     }
+    open_path(t, at);
     redex::size_cells(&mut t[0..w], table);
     redex::ended(Step::Rewritten, units - 1, w, at)
 }

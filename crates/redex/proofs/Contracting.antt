@@ -1,26 +1,15 @@
--- `contract_at` by its returns, and the bytes of a right side's instance, whether its parts are normal or not. Assumes nothing.
--- Read first: specs/Contraction (ContractedAt), matching/specs/Pieces (Put), proofs/Parts (back), proofs/Marking (instance-marked).
+-- `contract_at` by its returns. Assumes nothing.
+-- Read first: specs/Contraction (ContractedAt), matching/specs/Pieces (Put), proofs/Parts (back).
 use mathlib.Core.Path.{_≡_, refl, sym, _∙_, ap, subst₂}
-use mathlib.Core.List.{List, [], _++_}
-use mathlib.Core.Option.{none}
+use mathlib.Core.List.{List, _++_}
 use Prim.Native.Nat.{ℕ, _+_, _-_, _/_, _<_, _≤_}
 use native.Mathlib.Omega.{arith}
 use lib.ListN.{length, getD, take, drop}
-use Rattle.limits.specs.Limits.{most-nodes, most-apart, most-variables, cell-base}
-use Rattle.terms.specs.Base.{mapped, or-else}
-use Rattle.terms.specs.Term.{Term, Terms, var, node, nil, cons, term-bytes, size}
-use Rattle.terms.specs.Flat.{Wf}
+use Rattle.limits.specs.Limits.{most-nodes, cell-base}
 use Rattle.terms.proofs.Starts.{from, from-drop}
-use Rattle.unify.specs.Unify.{Binding}
-use Rattle.rewriting.specs.Rewrite.{instantiate, root-step, step, step-in}
-use Rattle.matching.specs.Cells.{cells, node-bytes}
-use Rattle.matching.specs.Held.{Rep}
-use Rattle.matching.specs.Pieces.{Put, pieces, replaced}
-use Rattle.redex.specs.Marks.{ArgumentsNormal}
+use Rattle.matching.specs.Pieces.{Put, replaced}
 use Rattle.redex.specs.Contraction.{ContractedAt}
 use Rattle.redex.proofs.Parts.{back, back-length, back-take}
-use Rattle.redex.proofs.Marking.{plain, marked-bytes, instance-marked}
-use Rattle.redex.proofs.OneStep.{wf-instance}
 
 -- the term at `at` does not end in the first `len` cells
 pub contract-cut : {t : List ℕ} {len at : ℕ} {right B : List ℕ} {n : ℕ} → n ≡ getD t at 0 / cell-base → len - at < n → at < len →
@@ -72,30 +61,3 @@ module _ {t : List ℕ} {len at : ℕ} {right B Q : List ℕ} {w : ℕ} (g : Cam
       over = λ l. absurd (let b = g .below in omega arith);
     };
   }
-
--- by no rules every term is normal
-mutual
-  unfolding step root-step mapped or-else
-
-  no-rules : (t : Term) → step [] t ≡ none
-  no-rules (var x) = refl
-  no-rules (node f ts) = rw (no-rules-in ts) refl
-
-  no-rules-in : (ts : Terms) → step-in [] ts ≡ none
-  no-rules-in nil = refl
-  no-rules-in (cons t ts) = rw (no-rules t, no-rules-in ts) refl
-
-no-rules-below : (t : Term) → ArgumentsNormal [] t
-no-rules-below (var x) = tt
-no-rules-below (node f ts) = no-rules-in ts
-
--- so of cells with and without sizes all is known that asks for no rules: a term's bytes are bytes of cells,
-pub plain-bytes : (tab : List ℕ) (x : Term) → Wf most-apart tab x → node-bytes (term-bytes x) ≡ term-bytes x
-plain-bytes tab x w = marked-bytes [] tab (plain [] x) w
-
--- and the right side's instance, put together of pieces of the cells of a matched term, has its bytes
-pub instance-bytes : (tab T B : List ℕ) (x : Term) (post : List ℕ) → Wf most-apart tab x → T ≡ cells x ++ post → (bs : List Binding) →
-    Rep tab T (size x) B bs → (right : List ℕ) (r : Term) → Wf most-variables tab r → right ≡ term-bytes r →
-    node-bytes (pieces T B right) ≡ term-bytes (instantiate bs r)
-instance-bytes tab T B x post w e bs rep right r v d =
-    marked-bytes [] tab (instance-marked [] tab T B x post w e (no-rules-below x) bs rep right r v d) (wf-instance tab T (size x) B bs rep r v)

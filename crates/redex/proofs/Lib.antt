@@ -5,3 +5,4 @@ pub mod Marking
 pub mod OneStep
 pub mod Sizing
 pub mod Contracting
+pub mod PartSized

@@ -108,7 +108,7 @@ module _ (rs : List Rule) where
       let (a, b) = both-none (mapped (λ u. cons u ts) (step rs t)) (mapped (cons t) (step-in rs ts)) e in
       (mapped-none (λ u. cons u ts) (step rs t) a, mapped-none (cons t) (step-in rs ts) b)
 
-  normal-all : (ts : Terms) → step-in rs ts ≡ none → MarkedAll rs (cells-all ts) ts
+  pub normal-all : (ts : Terms) → step-in rs ts ≡ none → MarkedAll rs (cells-all ts) ts
   unfolding cells-all
   normal-all nil e = no-more refl
   normal-all (cons t ts) e = let n = cons-none t ts e in more refl (leave refl (n .0)) (normal-all ts (n .1))

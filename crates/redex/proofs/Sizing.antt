@@ -1,15 +1,16 @@
 -- `terms_take` and `size_cells` by their turns: the cells behind a node begin with those of its arguments, and these have as many nodes as the node's
--- subterm, but for the node. Assumes nothing.
+-- subterm, but for the node; a size that is there already is right. Assumes nothing.
 -- Read first: specs/Contraction (TermsTake, CellsSized), matching/proofs/Celled, proofs/Standing (stands-at).
 use mathlib.Core.Path.{_≡_, refl, sym, _∙_, ap, ap₂}
 use mathlib.Core.List.{List, [], _∷_, _++_, append-assoc, append-nil}
+use mathlib.Core.Logic.{⊎-elim}
 use Prim.Native.Nat.{ℕ, suc, _+_, _-_, _*_, _/_, _%_, _<_, _≤_}
 use native.Mathlib.Omega.{arith}
 use native.Mathlib.Numerals.{add-one}
-use lib.ListN.{length, length-append, length-map, length-set, getD, drop, set, drop-of-length-le, List·getD-map}
-use lib.Seq.{drop-at, drop-cons, drop-drop, drop-length, drop-set-lt, getD-set-same, map-set-same}
+use lib.ListN.{length, length-append, length-map, length-set, getD, take, drop, set, drop-of-length-le, List·getD-map}
+use lib.Seq.{drop-at, drop-cons, drop-drop, drop-length, drop-set-lt, getD-set-same, getD-take, map-set-same, take-set-le, take-take}
 use Rattle.limits.specs.Limits.{most-apart, first-variable, cell-base}
-use Rattle.terms.specs.Term.{Term, Terms, var, node, nil, cons, term-bytes, size, sizes, count}
+use Rattle.terms.specs.Term.{Term, Terms, var, node, nil, cons, size, sizes, count}
 use Rattle.terms.specs.Scan.{owes}
 use Rattle.terms.specs.Flat.{Wf, Wfs}
 use Rattle.terms.proofs.Places.{size-pos, place}
@@ -19,6 +20,9 @@ use Rattle.terms.proofs.Starts.{from, from-drop}
 use Rattle.matching.specs.Cells.{cells, cells-all, root-byte, cells-below, node-bytes, Stands}
 use Rattle.matching.proofs.Celled.{length-cells, length-cells-all, bytes-cells, stands-cell, stands-byte, stands-size, stands-below}
 use Rattle.redex.specs.Contraction.{TermsTake, CellsSized}
+use Rattle.redex.specs.Marks.{Marked}
+use Rattle.redex.proofs.Marking.{marked-length, marked-bytes}
+use Rattle.redex.proofs.PartSized.{marked-cell}
 use Rattle.redex.proofs.Standing.{stands-at}
 
 -- `terms_take`: k of the terms are left, behind e cells
@@ -111,65 +115,93 @@ pub record SizedFrom (tab t₀ t : List ℕ) (i : ℕ) : Type 0 where
   pub same : length t ≡ length t₀
   pub place-is : i ≤ length t
   pub bytes : node-bytes t ≡ node-bytes t₀
-  pub is : (x : Term) → Wf most-apart tab x → node-bytes t₀ ≡ term-bytes x → drop i t ≡ drop i (cells x)
+  pub front : take i t ≡ take i t₀
+  pub is : (x : Term) → Wf most-apart tab x → Marked [] t₀ x → drop i t ≡ drop i (cells x)
 
--- a term's bytes are as many as its cells
-cells-many : (tab t : List ℕ) (x : Term) → Wf most-apart tab x → node-bytes t ≡ term-bytes x → length (cells x) ≡ length t
-cells-many tab t x w e = sym (bytes-length (cells x)) ∙ ap length (bytes-cells tab x w ∙ sym e) ∙ bytes-length t
+-- a term's cells are as many, with or without sizes
+cells-many : {t : List ℕ} {x : Term} → Marked [] t x → length (cells x) ≡ length t
+cells-many {x = x} m = length-cells x ∙ sym (marked-length [] m)
 
 pub size-start : (tab t : List ℕ) → SizedFrom tab t t (length t)
 size-start tab t = record {
   same = refl;
   place-is = omega arith;
   bytes = refl;
-  is = λ x w e. drop-length t ∙ sym (drop-of-length-le (cells x) {i = length t} (omega (arith, cells-many tab t x w e)));
+  front = refl;
+  is = λ x w m. drop-length t ∙ sym (drop-of-length-le (cells x) {i = length t} (omega (arith, cells-many m)));
 }
 
 pub size-done : {tab t₀ t : List ℕ} {i : ℕ} → i ≡ 0 → SizedFrom tab t₀ t i → CellsSized tab t₀ t
-size-done z h = record { same = h .same; is = λ x w q. rw z at (h .is x w q) }
+size-done z h = record { same = h .same; is = λ x w m. rw z at (h .is x w m) }
 
--- the node at j, whose byte is b, owes n terms, and these end e cells behind it: it gets the cell c
-module _
-    {tab t₀ t : List ℕ} {i b n e c : ℕ} (h : SizedFrom tab t₀ t i) (j : ℕ) (next : i ≡ j + 1) (byte : b ≡ getD t j 0 % cell-base) (owed : n ≡ owes tab b)
-    (T : TermsTake (from t (j + 1)) n e) (cell : c ≡ getD t j 0 % cell-base + cell-base * (e + 1)) where
+-- the node at j
+module _ {tab t₀ t : List ℕ} {i : ℕ} (h : SizedFrom tab t₀ t i) (j : ℕ) (next : i ≡ j + 1) where
   below : j < length t
   below = let p = h .place-is in omega arith
 
-  behind : from t (j + 1) ≡ drop (suc j) t
-  behind = from-drop t (j + 1) ∙ ap (λ m. drop m t) (add-one j)
+  as-given : getD t j 0 ≡ getD t₀ j 0
+  as-given =
+      let l : j < i = omega arith in
+      sym (getD-take i t j 0 l) ∙ ap (λ l. getD l j 0) (h .front) ∙ getD-take i t₀ j 0 l
 
-  -- the size of y, which stands there
-  there-size : (y : Term) (rest : List ℕ) → Wf most-apart tab y → b ≡ root-byte y → drop (suc j) t ≡ cells-below y ++ rest → e + 1 ≡ size y
-  unfolding root-byte cells-below cells-all size count Wf Wfs
-  there-size (var v) rest w q d =
-      let o : n ≡ 0 = owed ∙ ap (owes tab) q ∙ owes-other tab (first-variable + v) (omega arith) in
-      omega (arith, T .is tab nil rest tt (sym o) (behind ∙ d))
-  there-size (node f ts) rest w q d =
-      let o : n ≡ count ts = owed ∙ ap (owes tab) q ∙ owes-symbol tab f (w .0) ∙ sym (w .1) in
-      omega (arith, T .is tab ts rest (w .2) (sym o) (behind ∙ d))
+  -- the cells behind it
+  later-cells : (x : Term) → Wf most-apart tab x → Marked [] t₀ x → drop (suc j) t ≡ drop (suc j) (cells x)
+  later-cells x w m = let z : i ≡ suc j = next ∙ add-one j in rw z at (h .is x w m)
 
-  there-cells : (x : Term) → Wf most-apart tab x → node-bytes t₀ ≡ term-bytes x → drop j (set t j c) ≡ drop j (cells x)
-  there-cells x w q =
-      let whole : node-bytes t ≡ node-bytes (cells x) = h .bytes ∙ q ∙ sym (bytes-cells tab x w) in
-      let long = cells-many tab t x w (h .bytes ∙ q) in
-      let low : j < size x = let l = below in omega (arith, length-cells x) in
-      let y = place x j low .s in
-      let s = stands-at tab x [] (cells x) w (sym (append-nil (cells x))) j y (subterm-is x j low) in
-      let z : i ≡ suc j = next ∙ add-one j in
-      let later : drop (suc j) t ≡ drop (suc j) (cells x) = rw z at (h .is x w q) in
-      let first : getD t j 0 % cell-base ≡ root-byte y =
-      sym (bytes-at t j) ∙ ap (λ l. getD l j 0) whole ∙ bytes-at (cells x) j ∙ stands-byte tab (cells x) (size x) j y s in
-      let a = there-size y (s .rest) (s .wf) (byte ∙ first) (later ∙ stands-below tab (cells x) (size x) j y s) in
-      let g : c ≡ getD (cells x) j 0 = omega (arith, stands-cell tab (cells x) (size x) j y s) in
-      drop-cons (set t j c) j 0 (let l = below in omega (arith, length-set t j c))
-      ∙ ap₂ (λ a l. a ∷ l) (getD-set-same t j c 0 below ∙ g) (drop-set-lt (suc j) t j c (omega arith) ∙ later)
-      ∙ sym (drop-cons (cells x) j 0 (let l = below in omega arith))
-
-  pub size-turn : SizedFrom tab t₀ (set t j c) j
-  unfolding node-bytes
-  size-turn = record {
-    same = length-set t j c ∙ h .same;
-    place-is = let l = below in omega (arith, length-set t j c);
-    bytes = map-set-same (λ c. c % cell-base) t j c 0 (let m : c % cell-base ≡ getD t j 0 % cell-base = omega arith in m) ∙ h .bytes;
-    is = there-cells;
+  -- it has its size
+  pub size-skip : cell-base ≤ getD t j 0 → SizedFrom tab t₀ t j
+  size-skip n = record {
+    same = h .same;
+    place-is = let l = below in omega arith;
+    bytes = h .bytes;
+    front = let l : j ≤ i = omega arith in sym (take-take j i t l) ∙ ap (take j) (h .front) ∙ take-take j i t₀ l;
+    is = λ x w m.
+        let g : getD t j 0 ≡ getD (cells x) j 0 =
+        ⊎-elim (λ u. absurd (omega (arith, as-given))) (λ e. as-given ∙ e) (marked-cell tab m w j (let l = below in let s = h .same in omega arith)) in
+        drop-cons t j 0 below ∙ ap₂ (λ a l. a ∷ l) g (later-cells x w m)
+        ∙ sym (drop-cons (cells x) j 0 (let l = below in let s = h .same in omega (arith, cells-many m)));
   }
+
+  -- its byte is b, it owes n terms, and these end e cells behind it: it gets the cell c
+  module _
+      {b n e c : ℕ} (byte : b ≡ getD t j 0 % cell-base) (owed : n ≡ owes tab b) (T : TermsTake (from t (j + 1)) n e)
+      (cell : c ≡ getD t j 0 % cell-base + cell-base * (e + 1)) where
+    behind : from t (j + 1) ≡ drop (suc j) t
+    behind = from-drop t (j + 1) ∙ ap (λ m. drop m t) (add-one j)
+
+    -- the size of y, which stands there
+    there-size : (y : Term) (rest : List ℕ) → Wf most-apart tab y → b ≡ root-byte y → drop (suc j) t ≡ cells-below y ++ rest → e + 1 ≡ size y
+    unfolding root-byte cells-below cells-all size count Wf Wfs
+    there-size (var v) rest w q d =
+        let o : n ≡ 0 = owed ∙ ap (owes tab) q ∙ owes-other tab (first-variable + v) (omega arith) in
+        omega (arith, T .is tab nil rest tt (sym o) (behind ∙ d))
+    there-size (node f ts) rest w q d =
+        let o : n ≡ count ts = owed ∙ ap (owes tab) q ∙ owes-symbol tab f (w .0) ∙ sym (w .1) in
+        omega (arith, T .is tab ts rest (w .2) (sym o) (behind ∙ d))
+
+    there-cells : (x : Term) → Wf most-apart tab x → Marked [] t₀ x → drop j (set t j c) ≡ drop j (cells x)
+    there-cells x w m =
+        let whole : node-bytes t ≡ node-bytes (cells x) = h .bytes ∙ marked-bytes [] tab m w ∙ sym (bytes-cells tab x w) in
+        let long : length (cells x) ≡ length t = cells-many m ∙ sym (h .same) in
+        let low : j < size x = let l = below in omega (arith, length-cells x) in
+        let y = place x j low .s in
+        let s = stands-at tab x [] (cells x) w (sym (append-nil (cells x))) j y (subterm-is x j low) in
+        let first : getD t j 0 % cell-base ≡ root-byte y =
+        sym (bytes-at t j) ∙ ap (λ l. getD l j 0) whole ∙ bytes-at (cells x) j ∙ stands-byte tab (cells x) (size x) j y s in
+        let a = there-size y (s .rest) (s .wf) (byte ∙ first) (later-cells x w m ∙ stands-below tab (cells x) (size x) j y s) in
+        let g : c ≡ getD (cells x) j 0 = omega (arith, stands-cell tab (cells x) (size x) j y s) in
+        drop-cons (set t j c) j 0 (let l = below in omega (arith, length-set t j c))
+        ∙ ap₂ (λ a l. a ∷ l) (getD-set-same t j c 0 below ∙ g) (drop-set-lt (suc j) t j c (omega arith) ∙ later-cells x w m)
+        ∙ sym (drop-cons (cells x) j 0 (let l = below in omega arith))
+
+    pub size-turn : SizedFrom tab t₀ (set t j c) j
+    unfolding node-bytes
+    size-turn = record {
+      same = length-set t j c ∙ h .same;
+      place-is = let l = below in omega (arith, length-set t j c);
+      bytes = map-set-same (λ c. c % cell-base) t j c 0 (let m : c % cell-base ≡ getD t j 0 % cell-base = omega arith in m) ∙ h .bytes;
+      front =
+          let l : j ≤ i = omega arith in
+          take-set-le j t j c (omega arith) ∙ sym (take-take j i t l) ∙ ap (take j) (h .front) ∙ take-take j i t₀ l;
+      is = there-cells;
+    }

@@ -1,7 +1,7 @@
 -- A subterm's cells stand at its position among the cells of its term, and no other term stands there. Assumes nothing.
 -- Read first: matching/specs/Cells (Stands), terms/proofs/Context (plug), terms/proofs/Positions (found).
 use mathlib.Core.Path.{_≡_, refl, sym, _∙_, ap, ap₂}
-use mathlib.Core.List.{List, _++_, append-assoc}
+use mathlib.Core.List.{List, [], _++_, append-assoc, append-nil}
 use mathlib.Core.Option.{some}
 use Prim.Native.Nat.{ℕ, _+_, _-_, _<_, _≤_}
 use native.Mathlib.Omega.{arith}
@@ -18,34 +18,47 @@ use Rattle.terms.proofs.Flats.{wf-subterm}
 use Rattle.matching.specs.Cells.{cells, cells-all, Stands}
 use Rattle.matching.proofs.Celled.{length-cells, cells-unique}
 
--- from a context's hole on: the cells of what stands in it, and others
-mutual
-  unfolding plug plugs number numbers cells
+-- the cells behind a context's hole
+unfoldable mutual
+  pub behind : Ctx → List ℕ
+  behind hole = []
+  behind (beneath f cs) = behinds cs
 
-  from-hole : (c : Ctx) (y : Term) (post : List ℕ) → (rest : List ℕ) × (drop (number c) (cells (plug c y) ++ post) ≡ cells y ++ rest)
-  from-hole hole y post = (post, refl)
+  pub behinds : Ctxs → List ℕ
+  behinds (first c ts) = behind c ++ cells-all ts
+  behinds (later t cs) = behinds cs
+
+-- from the hole on: the cells of what stands in it, and those
+mutual
+  unfolding plug plugs number numbers cells behind behinds
+
+  from-hole : (c : Ctx) (y : Term) (post : List ℕ) → drop (number c) (cells (plug c y) ++ post) ≡ cells y ++ (behind c ++ post)
+  from-hole hole y post = refl
   from-hole (beneath f cs) y post = from-hole-in cs y post
 
-  from-hole-in : (cs : Ctxs) (y : Term) (post : List ℕ) → (rest : List ℕ) × (drop (numbers cs) (cells-all (plugs cs y) ++ post) ≡ cells y ++ rest)
+  from-hole-in : (cs : Ctxs) (y : Term) (post : List ℕ) → drop (numbers cs) (cells-all (plugs cs y) ++ post) ≡ cells y ++ (behinds cs ++ post)
   from-hole-in (first c ts) y post =
-      let (rest, e) = from-hole c y (cells-all ts ++ post) in
-      (rest, ap (drop (number c)) (append-assoc (cells (plug c y)) (cells-all ts) post) ∙ e)
+      ap (drop (number c)) (append-assoc (cells (plug c y)) (cells-all ts) post) ∙ from-hole c y (cells-all ts ++ post)
+      ∙ ap (λ l. cells y ++ l) (sym (append-assoc (behind c) (cells-all ts) post))
   from-hole-in (later t cs) y post =
-      let (rest, e) = from-hole-in cs y post in
       let n : size t + numbers cs ≡ length (cells t) + numbers cs = omega (arith, length-cells t) in
-      (rest, ap₂ drop n (append-assoc (cells t) (cells-all (plugs cs y)) post) ∙ drop-append-add (cells t) (cells-all (plugs cs y) ++ post) (numbers cs) ∙ e)
+      ap₂ drop n (append-assoc (cells t) (cells-all (plugs cs y)) post) ∙ drop-append-add (cells t) (cells-all (plugs cs y) ++ post) (numbers cs)
+      ∙ from-hole-in cs y post
+
+pub behind-hole : (c : Ctx) (y : Term) → drop (number c) (cells (plug c y)) ≡ cells y ++ behind c
+behind-hole c y =
+    ap (drop (number c)) (sym (append-nil (cells (plug c y)))) ∙ from-hole c y [] ∙ ap (λ l. cells y ++ l) (append-nil (behind c))
 
 module _ (tab : List ℕ) (x : Term) (post T : List ℕ) (w : Wf most-apart tab x) (text : T ≡ cells x ++ post) where
   -- the subterm at p stands there
   pub stands-at : (p : ℕ) (y : Term) → subterm-at x p ≡ some y → Stands tab T (size x) p y
   stands-at p y e =
       let f = found x p y e in
-      let (rest, h) = from-hole (f .c) y post in
       let r = around x p y e in
       record {
         wf = wf-subterm most-apart tab x p y w e;
-        rest = rest;
-        text = ap₂ drop (sym (f .counts)) (text ∙ ap (λ z. cells z ++ post) (f .whole)) ∙ h;
+        rest = behind (f .c) ++ post;
+        text = ap₂ drop (sym (f .counts)) (text ∙ ap (λ z. cells z ++ post) (f .whole)) ∙ from-hole (f .c) y post;
         inside = omega (
           arith,
           r .begins,

@@ -142,7 +142,7 @@ fn terms_take(t: &[u16], n: usize) -> usize
     e
 }
 
-// Each cell gets the size of its subterm, from the last to the first.
+// Each cell that has none gets the size of its subterm, from the last to the first.
 pub fn size_cells(t: &mut [u16], table: &[u8])
     requires { ⌜ length (now t) ≤ most-nodes ⌝ }
     ensures { λ _. ⌜ CellsSized (now (table .entry)) (now (t .entry)) (now (t .exit)) ⌝ }
@@ -150,9 +150,11 @@ pub fn size_cells(t: &mut [u16], table: &[u8])
     let mut i = t.len();
     while i > 0 {
         i -= 1;
-        let n = terms::owed_by(table, matching::byte_of(t[i]));
-        let e = terms_take(&t[i + 1..], n);
-        t[i] = matching::sized(t[i], e + 1);
+        if t[i] < limits::CELL {
+            let n = terms::owed_by(table, matching::byte_of(t[i]));
+            let e = terms_take(&t[i + 1..], n);
+            t[i] = matching::sized(t[i], e + 1);
+        }
     }
 }
 

@@ -46,21 +46,31 @@ returns-3 c =
     let low = in-else1 .if1 .left in
     step-large (looked (search depth 0)) (omega arith) (at-contract .contract-at .ensures) (in-else2 .if2 .left) (c .before .if3 .taken) (c .ended3 .ensures)
 
+open-path-requires : tie.Need-open-path-requires
+open-path-requires c κs =
+    let at-contract : tie.After-contract-at = search depth 0 in
+    let in-else1 : tie.Else1 = search depth 0 in
+    let low = in-else1 .if1 .left in
+    let p = entry-of (search depth 0) .pre .1 in
+    let s = at-contract .contract-at .ensures .same in
+    (omega arith, omega arith)
+
 returns-4 : tie.Need-returns-4
 returns-4 c =
     let at-size : tie.After-size-cells = search depth 0 in
+    let at-open : tie.After-open-path = search depth 0 in
     let in-else3 : tie.Else3 = search depth 0 in
     let at-contract : tie.After-contract-at = search depth 0 in
     let in-else2 : tie.Else2 = search depth 0 in
     let in-else1 : tie.Else1 = search depth 0 in
     let low = in-else1 .if1 .left in
     step-done (looked (search depth 0)) (omega arith) (at-contract .contract-at .ensures) _ (in-else2 .if2 .left) (in-else3 .if3 .left)
-    (at-size .size-cells .ensures) (c .ended4 .ensures)
+    (at-open .open-path .ensures) (at-size .size-cells .ensures) (c .ended4 .ensures)
 
 pub step-spec : {M : Type 1} → statement M
 step-spec =
     tie.close (tie.spec
     (λ c. search needs) (λ c. search needs) (λ c. search needs) (λ c. search needs) (λ c κs. search needs) (λ c κs. search needs)
     (λ c. search needs) returns (λ c κs. search needs) (λ c. search needs) returns-2 (λ c. search needs) contract-at-requires
-    (λ c. search needs) (λ c κs. search needs) (λ c. search needs) returns-3 (λ c. search needs)
+    (λ c. search needs) (λ c κs. search needs) (λ c. search needs) returns-3 open-path-requires (λ c. search needs)
     (λ c. search needs) (λ c. search needs) (λ c κs. search needs) (λ c. search needs) (λ c κs. search needs) (λ c. search needs) returns-4)

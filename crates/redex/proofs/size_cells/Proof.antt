@@ -4,7 +4,7 @@ use native.Mathlib.Omega.{arith}
 use Prim.Native.Nat.{_≤_, _-_}
 use lib.ListN.{length, length-set}
 use Rattle.limits.specs.Limits.{most-nodes}
-use Rattle.redex.proofs.Sizing.{SizedFrom, size-start, size-turn, size-done}
+use Rattle.redex.proofs.Sizing.{SizedFrom, size-start, size-skip, size-turn, size-done}
 use borrow.Author.Needs.{needs}
 use Rattle.redex.proofs.size_cells.Statement.{statement}
 use Rattle.redex.proofs.size_cells.Tie as tie
@@ -32,6 +32,13 @@ loop-again c =
           (c .sized .ensures),
     )
 
+loop-again-2 : tie.Need-loop-again-2 Inv-loop μ-loop
+loop-again-2 c =
+    let in-loop : tie.In-loop Inv-loop μ-loop = search depth 0 in
+    let at-loop : tie.At-loop Inv-loop μ-loop = search depth 0 in
+    let p = in-loop .loop-test .taken in
+    (at-loop .loop .inv .0, size-skip (at-loop .loop .inv .1) _ (omega arith) (c .if1 .left))
+
 returns : tie.Need-returns Inv-loop μ-loop
 returns c =
     let t = c .loop-test .left in
@@ -40,7 +47,7 @@ returns c =
 pub size-cells-spec : {M : Type 1} → statement M
 size-cells-spec =
     tie.close (tie.spec
-    Inv-loop μ-loop loop-holds (λ c. search needs) (λ c. search needs) (λ c. search needs) (λ c κs. search needs) (λ c κs. search needs)
-    (λ c. search needs) (λ c. search needs) (λ c. search needs) (λ c. search needs) (λ c. search needs) (λ c κs. search needs)
-    (λ c. search needs) (λ c. search needs) (λ c. search needs) (λ c κs. search needs) (λ c. search needs) (λ c. search needs)
-    (λ c. search needs) loop-again (λ c. search needs) returns)
+    Inv-loop μ-loop loop-holds (λ c. search needs) (λ c. search needs) (λ c. search needs) (λ c. search needs) (λ c. search needs) (λ c κs. search needs)
+    (λ c κs. search needs) (λ c. search needs) (λ c. search needs) (λ c. search needs) (λ c. search needs) (λ c. search needs) (λ c κs. search needs)
+    (λ c. search needs) (λ c. search needs) (λ c. search needs) (λ c κs. search needs) (λ c. search needs) (λ c. search needs) (λ c. search needs)
+    loop-again (λ c. search needs) loop-again-2 (λ c. search needs) returns)
