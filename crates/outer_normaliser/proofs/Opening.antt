@@ -18,7 +18,7 @@ use Rattle.terms.specs.Flat.{Wf, Wfs}
 use Rattle.terms.proofs.Context.{Ctx, Ctxs, hole, beneath, first, later, plug, plugs}
 use Rattle.terms.proofs.Lists.{take-drop}
 use Rattle.terms.proofs.Places.{number, numbers, number-lt, size-pos}
-use Rattle.matching.specs.Cells.{cells, cells-all, root-byte, cells-below}
+use Rattle.matching.specs.Cells.{cells, cells-all, root-byte}
 use Rattle.matching.proofs.Celled.{length-cells, length-cells-all, cells-root, root-low, cell-byte, cell-size}
 use Rattle.redex.specs.Marks.{Marked, MarkedAll, visit, more}
 use Rattle.redex.proofs.PartSized.{sized, sized-all}
@@ -89,7 +89,9 @@ module _ {t₀ : List ℕ} {at : ℕ} {t : List ℕ} {i : ℕ} (h : Opening t₀
   in-range = let s = h .same in omega arith
 
   -- its cell is the root's of the first term that is left
-  module _ (tab : List ℕ) (y : Term) (ys : Terms) (w : Wf most-apart tab y) (p : ℕ) (sum : i + p ≡ at) (text : take p (drop i t₀) ≡ take p (cells-all (cons y ys))) where
+  module _
+      (tab : List ℕ) (y : Term) (ys : Terms) (w : Wf most-apart tab y) (p : ℕ) (sum : i + p ≡ at)
+      (text : take p (drop i t₀) ≡ take p (cells-all (cons y ys))) where
     cell-there : getD t i 0 ≡ root-byte y + cell-base * size y
     unfolding cells-all
     cell-there =

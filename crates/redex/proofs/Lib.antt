@@ -6,3 +6,4 @@ pub mod OneStep
 pub mod Sizing
 pub mod Contracting
 pub mod PartSized
+pub mod Places

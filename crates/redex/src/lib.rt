@@ -8,7 +8,7 @@ ghost use Rattle.slots.specs.Slots.{slot, right-of, Layout};
 ghost use Rattle.matching.specs.Held.{Within};
 ghost use Rattle.matching.specs.Pieces.{Put, replaced};
 ghost use Rattle.redex.specs.Step.{Fitted, FoundRule, out, RewritesRoot};
-ghost use Rattle.redex.specs.Contraction.{TermsTake, CellsSized, ContractedAt};
+ghost use Rattle.redex.specs.Contraction.{TermsTake, OpenPlaces, CellsSized, ContractedAt};
 use limits::NODES;
 
 // Whether rule k matches at the start of t.
@@ -142,19 +142,39 @@ fn terms_take(t: &[u16], n: usize) -> usize
     e
 }
 
+// The places of the cells that have no size, ascending; a subterm that has one is passed by it.
+fn open_places(t: &[u16], places: &mut [u8]) -> usize
+    requires { ⌜ (length (now t) ≤ most-nodes) × (most-nodes ≤ length (now places)) ⌝ }
+    ensures { λ r. ⌜ OpenPlaces (now (t .entry)) (now (places .entry)) (now (places .exit)) r ⌝ }
+{
+    let mut i = 0;
+    let mut count = 0;
+    while i < t.len() {
+        let n = matching::size_of(t[i]);
+        if n == 0 {
+            places[count] = i as u8;
+            count += 1;
+            i += 1;
+        } else {
+            i += n;
+        }
+    }
+    count
+}
+
 // Each cell that has none gets the size of its subterm, from the last to the first.
 pub fn size_cells(t: &mut [u16], table: &[u8])
     requires { ⌜ length (now t) ≤ most-nodes ⌝ }
     ensures { λ _. ⌜ CellsSized (now (table .entry)) (now (t .entry)) (now (t .exit)) ⌝ }
 {
-    let mut i = t.len();
-    while i > 0 {
-        i -= 1;
-        if t[i] < limits::CELL {
-            let n = terms::owed_by(table, matching::byte_of(t[i]));
-            let e = terms_take(&t[i + 1..], n);
-            t[i] = matching::sized(t[i], e + 1);
-        }
+    let mut places = [0u8; NODES];
+    let mut k = open_places(t, &mut places);
+    while k > 0 {
+        k -= 1;
+        let i = terms::wide(places[k]);
+        let n = terms::owed_by(table, matching::byte_of(t[i]));
+        let e = terms_take(&t[i + 1..], n);
+        t[i] = matching::sized(t[i], e + 1);
     }
 }
 
