@@ -1,6 +1,6 @@
 //! The two calls that answer questions, on chains in problems and in records.
 
-use super::cases::{alone, chain, cut, deep, problem, walk, Case, I, LEFT};
+use super::cases::{alone, chain, cut, deep, looped, problem, walk, Case, I, LEFT};
 use crate::call::{decided, decided_outermost, result_of, Bytes, Call, RustEngine};
 use kb_cases::kept::Kept;
 use kb_engine::{DecideAnswer, Refusal, Verdict};
@@ -17,10 +17,10 @@ pub(super) fn cases() -> Vec<Case> {
         deep("decide, a rule of two chains", |n| decide(two_chains(n))),
         walk("outermost, left chain cut", |n| outermost(side_cut(n))),
         walk("outermost, a rule's chain cut", |n| outermost(rule_cut(n))),
-        deep("outermost, a step at each node", |n| {
+        looped("outermost, a step at each node", |n| {
             outermost(each_node(n))
         }),
-        deep("outermost, steps at the leaf", |n| outermost(leaf(n))),
+        looped("outermost, steps at the leaf", |n| outermost(leaf(n))),
         deep("outermost, a rule of two chains", |n| {
             outermost(two_chains(n))
         }),
