@@ -42,41 +42,6 @@ array-read-wide c =
     let p = entry .pre in
     search needs
 
-slice-read-byte-of : tie.Need-slice-read-byte-of Inv-loop μ-loop
-slice-read-byte-of c =
-    let w = within (search depth 0) in
-    search needs
-
-add-terms-take : tie.Need-add-terms-take Inv-loop μ-loop
-add-terms-take c =
-    let w = within (search depth 0) in
-    search needs
-
-sub-terms-take : tie.Need-sub-terms-take Inv-loop μ-loop
-sub-terms-take c =
-    let w = within (search depth 0) in
-    search needs
-
-part-terms-take-start : tie.Need-part-terms-take-start Inv-loop μ-loop
-part-terms-take-start c =
-    let w = within (search depth 0) in
-    search needs
-
-part-terms-take-end : tie.Need-part-terms-take-end Inv-loop μ-loop
-part-terms-take-end c =
-    let w = within (search depth 0) in
-    search needs
-
-slice-read-sized : tie.Need-slice-read-sized Inv-loop μ-loop
-slice-read-sized c =
-    let w = within (search depth 0) in
-    search needs
-
-slice-write-t : tie.Need-slice-write-t Inv-loop μ-loop
-slice-write-t c =
-    let w = within (search depth 0) in
-    search needs
-
 loop-again : tie.Need-loop-again Inv-loop μ-loop
 loop-again c =
     let at-terms-take : tie.After-terms-take Inv-loop μ-loop = search depth 0 in
@@ -103,6 +68,12 @@ pub size-cells-spec : {M : Type 1} → statement M
 size-cells-spec =
     tie.close (tie.spec
     Inv-loop μ-loop (λ c. search needs) (λ c κs. search needs) loop-holds (λ c. search needs) array-read-wide (λ c κs. search needs)
-    (λ c. search needs) slice-read-byte-of (λ c κs. search needs) (λ c κs. search needs) add-terms-take (λ c. search needs)
-    sub-terms-take part-terms-take-start part-terms-take-end (λ c κs. search needs) (λ c. search needs) slice-read-sized (λ c. search needs)
-    (λ c κs. search needs) (λ c. search needs) slice-write-t (λ c. search needs) loop-again (λ c. search needs) returns)
+    (λ c. search needs)
+    (λ c. search (needs, within (search depth 0))) (λ c κs. search needs) (λ c κs. search needs)
+    (λ c. search (needs, within (search depth 0))) (λ c. search needs)
+    (λ c. search (needs, within (search depth 0)))
+    (λ c. search (needs, within (search depth 0)))
+    (λ c. search (needs, within (search depth 0))) (λ c κs. search needs) (λ c. search needs)
+    (λ c. search (needs, within (search depth 0)))
+    (λ c. search needs) (λ c κs. search needs) (λ c. search needs)
+    (λ c. search (needs, within (search depth 0))) (λ c. search needs) loop-again (λ c. search needs) returns)
