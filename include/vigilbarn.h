@@ -9,7 +9,7 @@
  *
  * An answer is one number. But for vb_subterm and vb_lower it has a kind in the bits from 48 up, the number of a refusal or an end (docs/FORMAT.md) in
  * bits 32 to 47, and a value in bits 0 to 31. No part is ever cut off: numbers are at most 22, a refusal's place at most 8,192 (of vb_decide and
- * vb_outermost 16,384, of the calls that resume 49,152), counts of result bytes at most 13,726 and of a saved record's at most 17,791, units at most
+ * vb_outermost 16,384, of the calls that resume 49,152), counts of result bytes at most 13,726 and of a saved record's at most 17,781, units at most
  * 1,000,000 (proved: crates/capi/proofs/Unpacked and Resuming, over the Refusals of reading, problem, completion, record, checkpoint and decide).
  */
 #ifndef VIGILBARN_H

@@ -14,7 +14,7 @@ use Rattle.terms.proofs.Every.{every_one, every_append}
 use Rattle.terms.proofs.Shape.{either_has}
 use Rattle.order.specs.Order.{above}
 use Rattle.order.proofs.Decide.{above_dec}
-use Rattle.rewriting.specs.Overlap.{Rule, Overlap, Place, Key, sides_of}
+use Rattle.rewriting.specs.Overlap.{Rule, Overlap, Place, sides_of}
 use Rattle.rewriting.specs.Rewrite.{step, End, complete, neither_above, spent, too_large, rules_full, log_full, Paid, done, stop, Paying, return, end_with}
 use Rattle.rewriting.specs.Rewrite.{and_then, ◌>>=◌, end_if, pay, hold, normalise, normalise_pair, normalise_by, both_by}
 use Rattle.rewriting.proofs.Relations.{Below, Of}
@@ -168,10 +168,10 @@ module _ (rank : ℕ → ℕ) where
     scan_ending inputs [] = inputs_ending inputs
     scan_ending inputs (at ∷ ps) = then_ending _ _ (overlap_ending _) λ forms. different_overlap_ending at forms _ (scan_ending inputs ps)
 
-    take_ending : (T : Theory) (marks : Key) (cs : List Candidate) → Ending (take_pair T rules marks cs)
+    take_ending : (T : Theory) (cs : List Candidate) → Ending (take_pair T rules cs)
     unfolding take_pair
-    take_ending T marks [] = then_ending _ _ (scan_ending _ _) λ c. return_ending _
-    take_ending T marks (c ∷ cs) = then_ending _ _ (pair_ending c.sides) λ forms. return_ending _
+    take_ending T [] = then_ending _ _ (scan_ending _ _) λ c. return_ending _
+    take_ending T (c ∷ cs) = then_ending _ _ (pair_ending c.sides) λ forms. return_ending _
 
   -- step 7: a right side that is rewritten stays below
   right_down : (rules : List Rule) → DownRules rules → (e : Pair) (r : Term) → Form rules e.right r → Down e → Down (record { left = e.left; right = r })
@@ -230,6 +230,6 @@ module _ (T : Theory) where
     turn_ending =
         then_ending _ _ pay_ending λ _.
         then_ending _ _ (all_put_back_ending s.waiting s.put_back) λ _.
-        then_ending _ _ (take_ending rank s.rules d T s.marks s.waiting) λ t.
+        then_ending _ _ (take_ending rank s.rules d T s.waiting) λ t.
         then_ending _ _ (end_if_ending _ log_full tt) λ _.
         either_has Ending _ _ _ (return_ending _) (make_ending t)

@@ -14,12 +14,11 @@ use Rattle.checkpoint.specs.Resume.{complete_saving_call, resume_call, resume_sa
 
 -- all that runs in these lines
 unfoldable pub resumes : Unit {0}
-unfolding items_compute Checkpoint.symbol_bytes Checkpoint.equation_field_of Checkpoint.waiting_field Checkpoint.marks_bytes
+unfolding items_compute Checkpoint.symbol_bytes Checkpoint.equation_field_of Checkpoint.waiting_field
     Checkpoint.checkpoint_fields Checkpoint.checkpoint_bytes Checkpoint.read_equation Checkpoint.read_next
-    Checkpoint.origin_with Checkpoint.read_origin Checkpoint.read_waiting Checkpoint.read_entry Checkpoint.read_put_back Checkpoint.key_fits
-    Checkpoint.read_key Checkpoint.read_marks Checkpoint.few_entries Checkpoint.read_checkpoint Resume.saved_at Resume.leaves
-    Resume.resumed Resume.enough_to_save Resume.complete_saving_call Resume.read_resumption
-    Resume.resume_call Resume.resume_saving_call Resume.after_result Resume.after_saved
+    Checkpoint.origin_with Checkpoint.read_origin Checkpoint.read_waiting Checkpoint.read_entry Checkpoint.read_put_back Checkpoint.few_entries
+    Checkpoint.read_checkpoint Resume.saved_at Resume.leaves Resume.resumed Resume.enough_to_save Resume.complete_saving_call
+    Resume.read_resumption Resume.resume_call Resume.resume_saving_call Resume.after_result Resume.after_saved
 resumes = tt
 
 -- f(f(x)) = x, budget 2: one rule made, and the scan unfinished
@@ -27,30 +26,16 @@ abbrev given : List ℕ
 given = number_bytes 21 0x01_0004_00000101_02_0004_00000002_03_0004_01018080
 
 abbrev saved : List ℕ
-saved = number_bytes 46 0x01_0004_00000101_03_0004_01018080_20_0002_0002_12_0006_000101018080_13_0008_0100010000000001_22_0001_00_23_0000
+saved = number_bytes 43 0x01_0004_00000101_03_0004_01018080_20_0002_0002_12_0006_000101018080_13_0008_0100010000000001_22_0001_00
 
--- the result with these rules and this log, this end and so many units
-abbrev result_of : List ℕ → ℕ → ℕ → List ℕ
-result_of fields end units = number_bytes 3 0x10_0001 ++ (end ∷ (number_bytes 3 0x11_0004 ++ (number_bytes 4 units ++ fields)))
-
+-- the result with this end and so many units
 abbrev result : ℕ → ℕ → List ℕ
-result = result_of (number_bytes 20 0x12_0006_000101018080_13_0008_0100010000000001)
+result end units =
+    number_bytes 3 0x10_0001 ++ (end ∷ (number_bytes 3 0x11_0004 ++ (number_bytes 4 units ++ number_bytes 20 0x12_0006_000101018080_13_0008_0100010000000001)))
 
 -- x*y = y*x, put back
 abbrev waits : List ℕ
-waits = number_bytes 56 0x01_0006_000001020201_03_0006_028081028180_20_0002_0001_21_000c_010001000000028081028180_13_0008_010001000000ffff_22_0001_01_23_0000
-
--- f(f(x)) = g(x), f above g, budget 2: the rules and the log. The second rule, f(g(x)) to g(f(x)), is made from the overlap of the first with itself at 1.
-abbrev two_rules : List ℕ
-two_rules = number_bytes 43 0x12_0007_00010101800080_12_0008_0002010080000180_13_0008_0100010000000001_13_0008_0400010001010002
-
--- the saved record with this field for the marks, which begins at 67
-abbrev with_marks : List ℕ → List ℕ
-with_marks field = number_bytes 20 0x01_0004_01000101_03_0005_0101800080_20_0002_0003 ++ (two_rules ++ (number_bytes 4 0x22_0001_00 ++ field))
-
--- they are up to that place
-abbrev marked : List ℕ
-marked = with_marks (number_bytes 10 0x23_0007_00010001000101)
+waits = number_bytes 53 0x01_0006_000001020201_03_0006_028081028180_20_0002_0001_21_000c_010001000000028081028180_13_0008_010001000000ffff_22_0001_01
 
 -- resumed with two units, into a result buffer that is long enough
 abbrev two_more : List ℕ → Reading (List ℕ)
@@ -71,17 +56,12 @@ pub instances :
     × (complete_saving_call (problem group 1 ((x * y ≈ y * x) ∷ [])) 16_384 49_152 ≡ ok
     (record { result = number_bytes 22 0x10_0001_15_11_0004_00000001_13_0008_010001000000ffff; saved = waits }))
     × (resume_call waits 1 16_384 ≡ ok (number_bytes 31 0x10_0001_14_11_0004_00000001_13_0008_010001000000ffff_14_0006_028081028180))
-    -- the place from which the second rule was made is marked, and the next scan passes over it; with no place marked it pays one unit more
-    × (complete_saving_call (number_bytes 22 0x01_0004_01000101_02_0004_00000002_03_0005_0101800080) 16_384 49_152 ≡ ok
-    (record { result = result_of two_rules 0x15 2; saved = marked }))
-    × (resume_call marked 4 16_384 ≡ ok (result_of two_rules 0 4))
-    × (resume_call (with_marks (number_bytes 3 0x23_0000)) 5 16_384 ≡ ok (result_of two_rules 0 5))
     -- the lent bytes: behind the saved record, and all of them where nothing is saved or the call refuses
     × (after_saved (complete_saving_call given 16_384 49_152) (saved ++ (7 ∷ [])) ≡ saved ++ (7 ∷ []))
     × (after_saved (resume_saving_call saved 2 16_384 49_152) (7 ∷ 8 ∷ []) ≡ 7 ∷ 8 ∷ [])
     × (after_result (resume_saving_call [] 2 16_384 49_152) (7 ∷ 8 ∷ []) ≡ 7 ∷ 8 ∷ [])
 unfolding resumes
-instances = (refl, refl, refl, refl, refl, refl, refl, refl, refl, refl, refl, refl)
+instances = (refl, refl, refl, refl, refl, refl, refl, refl, refl)
 
 pub refused_instances :
     -- 1, of either buffer, before all else; 17 after 16
@@ -94,7 +74,7 @@ pub refused_instances :
     -- 16 at the end where a field is due, at the first byte of one that is cut, and at bytes behind the last one
     × (two_more (take 39 saved) ≡ refused 16 39)
     × (two_more (take 42 saved) ≡ refused 16 39)
-    × (two_more (saved ++ (0 ∷ [])) ≡ refused 16 46)
+    × (two_more (saved ++ (0 ∷ [])) ≡ refused 16 43)
     -- a symbol of arity 5, and an equation with no right side
     × (two_more (number_bytes 7 0x01_0004_00000501) ≡ refused 16 0)
     × (two_more (number_bytes 13 0x01_0004_00000101_03_0003_010180) ≡ refused 16 7)
@@ -112,10 +92,6 @@ pub refused_instances :
     × (two_more (behind (number_bytes 18 0x20_0002_0002_12_0006_000101018080_22_0001_00)) ≡ refused 16 28)
     -- more put back than wait
     × (two_more (behind (number_bytes 9 0x20_0002_0001_22_0001_01)) ≡ refused 16 19)
-    -- the end where the marks are due; a rule with itself at position 0, and a later number that is the next one
-    × (two_more (with_marks []) ≡ refused 16 67)
-    × (two_more (with_marks (number_bytes 10 0x23_0007_00010001000100)) ≡ refused 16 67)
-    × (two_more (with_marks (number_bytes 10 0x23_0007_00030001000101)) ≡ refused 16 67)
 unfolding resumes
 refused_instances =
-    (refl, refl, refl, refl, refl, refl, refl, refl, refl, refl, refl, refl, refl, refl, refl, refl, refl, refl, refl, refl, refl, refl, refl)
+    (refl, refl, refl, refl, refl, refl, refl, refl, refl, refl, refl, refl, refl, refl, refl, refl, refl, refl, refl, refl)

@@ -1,6 +1,5 @@
 pub mod Again
 pub mod Items
-pub mod Marks
 pub mod RoundTrip
 pub mod Saved
 pub mod NoBudget

@@ -20,7 +20,6 @@ use Rattle.rewriting.specs.Overlap.{Rule}
 use Rattle.problem.specs.Problem.{Reading, ok, ReadField, read_field, ReadPart, Symbol}
 use Rattle.problem.proofs.Reading.{from_bind, ok_injective, no_ok}
 use Rattle.completion.specs.Turn.{Origin, waiting_input, removed_rule, scanned_input, Candidate, Entry}
-use Rattle.completion.specs.Numbered.{Ascends}
 use Rattle.completion.specs.Keeps.{PairKeeps, RulesKeep}
 use Rattle.completion.specs.Promise.{fields_from}
 use Rattle.completion.proofs.Held.{HeldPair}
@@ -157,25 +156,18 @@ module _ (Σ : List Symbol) where
       subst (λ (c : Candidate). OriginWide c.origin × PairKeeps Σ c.sides) (ok_injective e)
       (origin_read f.contents o b k, (pair_read Σ (f.first + 9) _ sides h).0)
 
-  -- rules: numbers ascend, none above `most`
+  -- rules: numbers ascend
   module _ (ordered : Bool) (most : ℕ) where
-    number_read : (before : Option RuleAt) (f : ReadField) (a : RuleAt) → read_rule_at Σ ordered most before f ≡ ok a →
-        (number_before before < a.rule.number) × (a.rule.number ≤ most)
+    low_read : (before : Option RuleAt) (f : ReadField) (a : RuleAt) → read_rule_at Σ ordered most before f ≡ ok a → number_before before < a.rule.number
     unfolding read_rule_at read_rule
-    number_read before f a e =
+    low_read before f a e =
         from_bind _ _ a e λ r d e.
         from_bind _ _ r d λ sides _ d.
         from_bind _ _ r d λ u g d.
         let number : ℕ = number_from 0 (take 2 f.contents) in
         let y = both_true (ltb (number_before before) number) (leb number most) (demanded _ u g) in
         let q : number ≡ a.rule.number = ap (λ (r : Rule). r.number) (ok_injective d) ∙ ap (λ (a : RuleAt). a.rule.number) (ok_injective e) in
-        rw (← q) (ltb-true (number_before before) number y.0, leb-true number most y.1)
-
-    pub ascends_read : {before : Option RuleAt} {fs : List ReadField} {rules : List RuleAt} → ReadFrom 0x12 (read_rule_at Σ ordered most) before fs rules →
-        Ascends (number_before before) most (rules_of rules)
-    unfolding Ascends number_before
-    ascends_read none_from = tt
-    ascends_read (one_from {before = before} {f = f} {a = a} t h k) = let n = number_read before f a h in (n.0, n.1, ascends_read k)
+        rw (← q) (ltb-true (number_before before) number y.0)
 
   pub rules_read : (most : ℕ) → most ≤ most_number → {before : Option RuleAt} {fs : List ReadField} {rules : List RuleAt} →
       ReadFrom 0x12 (read_rule_at Σ true most) before fs rules → Every (λ (r : RuleAt). RuleRead Σ true most 0 r.rule) rules →
@@ -183,6 +175,6 @@ module _ (Σ : List Symbol) where
   unfolding RulesKeep number_before
   rules_read most few none_from of_none = tt
   rules_read most few (one_from {before = before} {f = f} {a = a} t h k) (of_cons q qs) = (
-    record { low = (number_read true most before f a h).0; high = omega (arith, q.high); sides = q.sides; down = q.down },
+    record { low = low_read true most before f a h; high = omega (arith, q.high); sides = q.sides; down = q.down },
     rules_read most few k qs,
   )

@@ -1,6 +1,6 @@
--- Every saved record that is read, whoever wrote it, keeps the form and limits: it is one that can be written, and is read back from what is written; and
--- its rules stand by their numbers. Assumes nothing.
--- Read first: proofs/ReadItems, proofs/Marks, proofs/RoundTrip (Writable), items/proofs/Parts (OneRead, ThereRead), completion/specs/Numbered.
+-- Every saved record that is read, whoever wrote it, keeps the form and limits: it is one that can be written, and is read back from what is written.
+-- Assumes nothing.
+-- Read first: proofs/ReadItems, proofs/RoundTrip (Writable), items/proofs/Parts (OneRead, ThereRead).
 use mathlib.Core.Path.{◌≡◌, refl, subst}
 use mathlib.Core.Bool.{true}
 use mathlib.Core.List.{List, [], ◌∷◌, map}
@@ -16,19 +16,17 @@ use Rattle.reading.specs.Stops.{wrong_saved}
 use Rattle.reading.proofs.Refusals.{was_read}
 use Rattle.problem.specs.Problem.{ok, Symbol, symbol_field}
 use Rattle.problem.proofs.Reading.{from_bind, ok_injective, passed}
-use Rattle.completion.specs.Numbered.{Numbered}
 use Rattle.completion.specs.Promise.{fields_from, rules_in}
 use Rattle.completion.proofs.Accepts.{symbols_few}
 use Rattle.items.specs.Fields.{number_before, RuleAt, rules_of, read_rule_at}
 use Rattle.items.proofs.Parts.{plain, AreFields, one_read, there_read, rules_again}
 use Rattle.items.proofs.Refusals.{one_within}
-use Rattle.checkpoint.specs.Checkpoint.{Checkpoint, read_equation, read_next, read_waiting, read_entry, read_put_back, read_marks, checkpoint_bytes}
+use Rattle.checkpoint.specs.Checkpoint.{Checkpoint, read_equation, read_next, read_waiting, read_entry, read_put_back, checkpoint_bytes}
 use Rattle.checkpoint.specs.Checkpoint.{read_checkpoint}
 use Rattle.checkpoint.proofs.Items.{EntryWide, SymbolsRead, symbols_back}
-use Rattle.checkpoint.proofs.Marks.{marks_read}
 use Rattle.checkpoint.proofs.RoundTrip.{WaitingKeeps, Writable, checkpoint_back}
 use Rattle.checkpoint.proofs.ReadItems.{fields_bytes, items_have, there_few, entry_read, next_read, put_back_read, entries_read, equation_read}
-use Rattle.checkpoint.proofs.ReadItems.{waiting_read, ascends_read, rules_read}
+use Rattle.checkpoint.proofs.ReadItems.{waiting_read, rules_read}
 
 none_left : (at : ℕ) (bytes : List ℕ) → length bytes ≤ 0 → AreFields at bytes []
 unfolding fields_from
@@ -48,8 +46,7 @@ read_writable bytes c b e =
     from_bind _ _ c e λ log e₆ e.
     from_bind _ _ c e λ u₇ e₇ e.
     from_bind _ _ c e λ back e₈ e.
-    from_bind _ _ c e λ marks e₉ e.
-    from_bind _ _ c e λ u₁₀ e₁₀ e.
+    from_bind _ _ c e λ u₉ e₉ e.
     let r₁ = one_read wrong_saved 0x01 symbol_field 0 bytes Σ e₁ in
     let r₂ = there_read wrong_saved 0x03 (λ _ f. read_equation Σ.part f) most_equations none Σ.end Σ.rest es e₂ in
     let r₃ = one_read wrong_saved 0x20 read_next es.end es.rest next e₃ in
@@ -57,9 +54,7 @@ read_writable bytes c b e =
     let r₅ = there_read wrong_saved 0x21 (λ _ f. read_waiting Σ.part f) (most_pairs - length rules.part) none rules.end rules.rest waiting e₅ in
     let r₆ = there_read wrong_saved 0x13 (λ _ f. read_entry f) most_entries none waiting.end waiting.rest log e₆ in
     let r₈ = one_read wrong_saved 0x22 (read_put_back (length waiting.part)) log.end log.rest back e₈ in
-    let r₉ = one_read wrong_saved 0x23 (read_marks next.part) back.end back.rest marks e₉ in
-    let none_behind : length marks.rest ≤ 0 = ltb-false 0 (length marks.rest) (passed _ 16 marks.end u₁₀ e₁₀) in
-    let are_last = r₈.more_fields _ (r₉.more_fields [] (none_left marks.end marks.rest none_behind)) in
+    let are_last = r₈.more_fields [] (none_left back.end back.rest (ltb-false 0 (length back.rest) (passed _ 16 back.end u₉ e₉))) in
     let are = r₁.more_fields _ (r₂.more_fields _ (r₃.more_fields _ (r₄.more_fields _ (r₅.more_fields _ (r₆.more_fields _ are_last))))) in
     let from03 = every_tail (fields_bytes (suc (length bytes)) 0 bytes _ (are (suc (length bytes)) (omega arith)) b) in
     let from12 = every_tail (every_right (map plain r₂.fields) _ from03) in
@@ -73,7 +68,6 @@ read_writable bytes c b e =
     let few_waiting : length waiting.part ≤ most_pairs - length rules.part =
     there_few wrong_saved 0x21 _ _ none rules.end rules.rest waiting e₅ in
     let numbers = next_read r₃.field next.part r₃.is in
-    let above : next.part ≡ suc (next.part - 1) = omega (arith, numbers.0) in
     let each = (rules_again Σ.part symbols.1 true (next.part - 1) r₄.items [] refl).1 in
     subst Writable (ok_injective e)
     (record {
@@ -92,28 +86,8 @@ read_writable bytes c b e =
       log_few = there_few wrong_saved 0x13 _ most_entries none waiting.end waiting.rest log e₆;
       log_fit = items_have EntryWide 0x13 _ (λ _ f a b h. entry_read f a b h) r₆.items (every_left (map plain r₆.fields) _ from13);
       put_back_few = put_back_read (length waiting.part) r₈.field back.part r₈.is;
-      marks_fit = marks_read (next.part - 1) r₉.field marks.part (subst (λ n. read_marks n r₉.field ≡ ok marks.part) above r₉.is);
     })
 
 -- So what is read is read again from what is written of it.
 pub read_again : (bytes : List ℕ) (c : Checkpoint) → Bytes bytes → read_checkpoint bytes ≡ ok c → read_checkpoint (checkpoint_bytes c) ≡ ok c
 read_again bytes c b e = checkpoint_back c (read_writable bytes c b e)
-
--- The rules of what is read stand by their numbers, from 1 on and below the next one.
-pub read_numbered : (bytes : List ℕ) (c : Checkpoint) → read_checkpoint bytes ≡ ok c → Numbered c.state.made c.state.rules
-unfolding read_checkpoint number_before
-read_numbered bytes c e =
-    from_bind _ _ c e λ _ _ e.
-    from_bind _ _ c e λ Σ _ e.
-    from_bind _ _ c e λ _ _ e.
-    from_bind _ _ c e λ next _ e.
-    from_bind _ _ c e λ rules e₄ e.
-    from_bind _ _ c e λ _ _ e.
-    from_bind _ _ c e λ _ _ e.
-    from_bind _ _ c e λ _ _ e.
-    from_bind _ _ c e λ _ _ e.
-    from_bind _ _ c e λ _ _ e.
-    from_bind _ _ c e λ _ _ e.
-    let r₄ = there_read wrong_saved 0x12 (read_rule_at Σ.part true (next.part - 1)) most_rules none next.end next.rest rules e₄ in
-    subst (λ (c : Checkpoint). Numbered c.state.made c.state.rules) (ok_injective e)
-    (record { ascends = ascends_read Σ.part true (next.part - 1) r₄.items })

@@ -54,8 +54,7 @@ checkpoint_placed bytes =
     within_bind _ _ (there_placed 0x13 _ most_entries waiting.end waiting.rest (omega arith)) λ log g.
     within_bind _ _ (within_test _ wrong_saved log.end refl (omega arith)) λ _ _.
     within_bind _ _ (one_placed 0x22 _ log.end log.rest (omega arith)) λ back h.
-    within_bind _ _ (one_placed 0x23 _ back.end back.rest (omega arith)) λ marks i.
-    within_bind _ _ (within_test _ wrong_saved marks.end refl (omega arith)) λ _ _. reads tt
+    within_bind _ _ (within_test _ wrong_saved back.end refl (omega arith)) λ _ _. reads tt
 
 -- A refusal of a sequence is one of its first part, or of what follows it.
 from_refused : {A B C : Type 0} (m : Reading A) (next : A → Reading B) (n p : ℕ) → (m >>= next) ≡ refused n p → (m ≡ refused n p → C) →
@@ -121,7 +120,6 @@ saved_refused bytes n p e =
     from_refused _ _ n p e (there_refused _ _ _ _ _ _ _ n p) λ log _ e.
     from_refused _ _ n p e (λ h. (if_refused _ _ _ n p h).1) λ _ _ e.
     from_refused _ _ n p e (one_refused _ _ _ _ _ n p) λ back _ e.
-    from_refused _ _ n p e (one_refused _ _ _ _ _ n p) λ marks _ e.
     from_refused _ _ n p e (λ h. (if_refused _ _ _ n p h).1) λ _ _ e.
     absurd (no_ok (sym e)) in
     not_well (ltb-false most_saved (length bytes) (passed _ 2 most_saved u h)) number place

@@ -1,5 +1,5 @@
--- A saved record that keeps the limits is read back as what was saved, and has at most 17,791 bytes. Assumes nothing.
--- Read first: specs/Checkpoint, proofs/Items, proofs/Marks, items/proofs/Back (Backs, there_back, rules_at_back).
+-- A saved record that keeps the limits is read back as what was saved, and has at most 17,781 bytes. Assumes nothing.
+-- Read first: specs/Checkpoint, proofs/Items, items/proofs/Back (Backs, there_back, rules_at_back).
 use mathlib.Core.Path.{◌≡◌, refl, ap, ◌∙◌}
 use mathlib.Core.Bool.{Bool, false}
 use mathlib.Core.List.{List, [], ◌∷◌, ◌++◌, map, flat_map}
@@ -24,7 +24,6 @@ use Rattle.completion.specs.Turn.{Candidate, State}
 use Rattle.completion.specs.Calls.{pair_bytes, rule_field, origin_bytes, entry_field}
 use Rattle.completion.specs.Keeps.{PairKeeps, RulesKeep}
 use Rattle.completion.proofs.Held.{HeldPair}
-use Rattle.completion.proofs.Limits.{MarksFit}
 use Rattle.completion.proofs.Over.{OverPair}
 use Rattle.completion.proofs.Widths.{flat, flat_cons, pair_bytes_length, rule_length, origin_bytes_length, entry_length}
 use Rattle.items.specs.Fields.{one_field, fields_there, number_before, read_rule_at}
@@ -32,11 +31,10 @@ use Rattle.items.specs.Readers.{rules_at}
 use Rattle.items.proofs.Walking.{OtherTag}
 use Rattle.items.proofs.Back.{placed, one_back, end_of, Backs, none_back, one_more, there_back, rules_at_back}
 use Rattle.items.proofs.Slotted.{length_rules_at, rules_of_at}
-use Rattle.checkpoint.specs.Checkpoint.{Checkpoint, symbol_bytes, equation_field_of, waiting_field, marks_bytes, checkpoint_fields}
-use Rattle.checkpoint.specs.Checkpoint.{checkpoint_bytes, read_equation, read_next, read_waiting, read_entry, read_put_back, read_marks, read_checkpoint}
+use Rattle.checkpoint.specs.Checkpoint.{Checkpoint, symbol_bytes, equation_field_of, waiting_field, checkpoint_fields, checkpoint_bytes}
+use Rattle.checkpoint.specs.Checkpoint.{read_equation, read_next, read_waiting, read_entry, read_put_back, read_checkpoint}
 use Rattle.checkpoint.proofs.Items.{OriginWide, EntryWide, SymbolsRead, entry_back, next_back, put_back_back, entries_enough, equation_back}
 use Rattle.checkpoint.proofs.Items.{waiting_back}
-use Rattle.checkpoint.proofs.Marks.{marks_bytes_length, marks_back}
 
 -- a waiting equation that can be saved
 pub record WaitingKeeps (Σ : List Symbol) (c : Candidate) : Type 0 where
@@ -58,7 +56,6 @@ pub record Writable (c : Checkpoint) : Type 0 where
   pub log_few : length c.state.log ≤ most_entries
   pub log_fit : Every EntryWide c.state.log
   pub put_back_few : c.state.put_back ≤ length c.state.waiting
-  pub marks_fit : MarksFit c.state.made c.state.marks
 
 -- Items of one tag that do not ask for the one before them.
 module _ {A : Type 0} (tag : ℕ) (read : ReadField → Reading A) (field : A → Field) (Q : A → Type 0) (has_tag : (a : A) → (field a).tag ≡ tag)
@@ -128,15 +125,9 @@ module _ (c : Checkpoint) (w : Writable c) where
   abbrev f22 : Field
   f22 = tagged 0x22 (number_bytes 1 s.put_back)
 
-  abbrev f23 : Field
-  f23 = tagged 0x23 (marks_bytes s.marks)
-
   -- what stands from each group on
-  abbrev from23 : List ℕ
-  from23 = field_bytes f23 ++ []
-
   abbrev from22 : List ℕ
-  from22 = field_bytes f22 ++ from23
+  from22 = field_bytes f22 ++ []
 
   abbrev from13 : List ℕ
   from13 = flat (map entry_field s.log) ++ from22
@@ -160,19 +151,18 @@ module _ (c : Checkpoint) (w : Writable c) where
       let rules : List Field = map rule_field s.rules in
       let waiting : List Field = map waiting_field s.waiting in
       let log : List Field = map entry_field s.log in
-      let last : List Field = f22 ∷ f23 ∷ [] in
       ap (λ l. field_bytes f01 ++ l)
-      (flat_map_append field_bytes eqs (f20 ∷ (rules ++ (waiting ++ (log ++ last))))
+      (flat_map_append field_bytes eqs (f20 ∷ (rules ++ (waiting ++ (log ++ (f22 ∷ [])))))
       ∙ ap (λ l. flat eqs ++ (field_bytes f20 ++ l))
-      (flat_map_append field_bytes rules (waiting ++ (log ++ last))
+      (flat_map_append field_bytes rules (waiting ++ (log ++ (f22 ∷ [])))
       ∙ ap (λ l. flat rules ++ l)
-      (flat_map_append field_bytes waiting (log ++ last)
-      ∙ ap (λ l. flat waiting ++ l) (flat_map_append field_bytes log last))))
+      (flat_map_append field_bytes waiting (log ++ (f22 ∷ []))
+      ∙ ap (λ l. flat waiting ++ l) (flat_map_append field_bytes log (f22 ∷ [])))))
 
   made_few : s.made ≤ most_number
   made_few = omega (arith, w.made_few, w.log_few)
 
-  -- 35 for the symbols, 243 an equation, 245 a rule, 249 a waiting equation, 11 an entry, 9 for the two numbers, 10 for the marks
+  -- 35 for the symbols, 243 an equation, 245 a rule, 249 a waiting equation, 11 an entry, 9 for the two numbers
   pub checkpoint_length : length (checkpoint_bytes c) ≤ longest_saved
   checkpoint_length =
       let a = ap length laid in
@@ -182,8 +172,7 @@ module _ (c : Checkpoint) (w : Writable c) where
       let f = length-append (flat (map rule_field s.rules)) from21 in
       let g = length-append (flat (map waiting_field s.waiting)) from13 in
       let h = length-append (flat (map entry_field s.log)) from22 in
-      let i = length-append (field_bytes f22) from23 in
-      let j = length-append (field_bytes f23) [] in
+      let i = length-append (field_bytes f22) [] in
       let eqs : length (flat (map equation_field_of c.theory.equations)) ≤ 243 * length c.theory.equations =
       group_length equation_field_of 240 c.theory.equations (every_map (equation_short Σ) w.equations_fit) in
       let rules : length (flat (map rule_field s.rules)) ≤ 245 * length s.rules =
@@ -200,8 +189,6 @@ module _ (c : Checkpoint) (w : Writable c) where
         length_number_bytes 2 (suc s.made),
         length_field_bytes f22,
         length_number_bytes 1 s.put_back,
-        length_field_bytes f23,
-        marks_bytes_length s.marks,
         w.few,
         w.equations_few,
         w.rules_few,
@@ -265,9 +252,7 @@ module _ (c : Checkpoint) (w : Writable c) where
       ∙ bind_ok _ (back_21 _ _)
       ∙ bind_ok _ (back_13 _)
       ∙ bind_ok _ (not_refused _ _ _ (entries_enough s.made (length s.log) w.made_few))
-      ∙ bind_ok _ (one_back wrong_saved (read_put_back (length s.waiting)) _ f22 from23 s.put_back (omega (arith, length_number_bytes 1 s.put_back))
+      ∙ bind_ok _ (one_back wrong_saved (read_put_back (length s.waiting)) _ f22 [] s.put_back (omega (arith, length_number_bytes 1 s.put_back))
       (put_back_back (length s.waiting) s.put_back w.put_back_few (omega (arith, w.put_back_few, w.together)) _ _))
-      ∙ bind_ok _ (one_back wrong_saved (read_marks (suc s.made)) _ f23 [] s.marks (omega (arith, marks_bytes_length s.marks))
-      (marks_back s.made s.marks made_few w.marks_fit _ _))
       ∙ bind_ok _ (not_refused _ _ _ refl)
       ∙ rw (last_is, rules_of_at _ s.rules) refl

@@ -100,7 +100,6 @@ module _ (T : Theory) (f : Finished) (k : Known T f) where
             })
             lim.log_fits;
         put_back_few = lim.put_back_few;
-        marks_fit = lim.marks_fit;
       }
 
   -- Round trip: what is saved is read back as the theory and the state.

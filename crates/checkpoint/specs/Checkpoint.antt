@@ -1,21 +1,20 @@
--- Document 02, Seven and Nine: the saved record's bytes, and reading it back; section 21 of docs/DEFINITION.md. Assumes nothing.
+-- Document 02, Seven: the saved record's bytes, and reading it back; section 21 of docs/DEFINITION.md. Assumes nothing.
 -- Read first: items/specs/Fields (one_field, fields_there, read_rule_at), completion/specs/Turn (State), completion/specs/Calls (rule_field, entry_field).
 use Rattle.std.specs.Prelude.{Bool, true, ◌&&◌, ◌||◌, ℕ, suc, ◌+◌, ◌-◌, eqb, ltb, leb, length, take, drop, get_or}
 use mathlib.Core.List.{List, [], ◌∷◌, ◌++◌, map, flat_map}
 use Rattle.std.proofs.Math.Option.{none}
-use Rattle.limits.specs.Limits.{most_nodes, most_equations, most_rules, most_pairs, most_entries, most_saved, most_next, key_width}
+use Rattle.limits.specs.Limits.{most_equations, most_rules, most_pairs, most_entries, most_saved, most_next}
 use Rattle.terms.specs.Base.{if◌then◌else◌, number_bytes, number_from, Field, field_bytes}
 use Rattle.terms.specs.Term.{Pair}
 use Rattle.reading.specs.Stops.{long_problem, wrong_saved}
 use Rattle.problem.specs.Problem.{Reading, ok, ◌>>=◌, refuse_if, ReadField, Symbol, read_pair, symbol_field, Theory}
-use Rattle.rewriting.specs.Overlap.{Key}
 use Rattle.completion.specs.Turn.{Origin, waiting_input, removed_rule, scanned_input, overlapping, Candidate, Entry, State}
 use Rattle.completion.specs.Calls.{pair_bytes, rule_field, origin_bytes, entry_field}
 use Rattle.items.specs.Fields.{demand, one_field, read_number, fields_there, renamed_pair, read_rule_at, rules_of}
 
 -- "the problem without its budget, the next rule number, the live rules, the waiting list with each equation's origin as logged, the log, and how many
--- equations were put back since the last change", and the marks: a theory, and the state in which the unfinished turn began; the next rule number is one
--- above `made`. [21.3, 21.10]
+-- equations were put back since the last change": a theory, and the state in which the unfinished turn began; the next rule number is one above `made`.
+-- [21.3, 21.10]
 pub record Checkpoint : Type 0 where
   pub theory : Theory
   pub state : State
@@ -32,15 +31,8 @@ equation_field_of e = record { tag = 0x03; contents = pair_bytes e }
 unfoldable pub waiting_field : Candidate → Field
 waiting_field c = record { tag = 0x21; contents = origin_bytes c.origin ++ pair_bytes c.sides }
 
--- Document 02, Nine: "Saved records carry the marks." 23: nothing while no place is marked, else the key up to which they are: the later rule's number,
--- the earlier's and the inner one's in two bytes each, and the position in one [21.25]
-unfoldable pub marks_bytes : Key → List ℕ
-marks_bytes marks =
-    if eqb (length marks) 0 then []
-    else number_bytes 2 (get_or marks 0 0) ++ (number_bytes 2 (get_or marks 1 0) ++ (number_bytes 2 (get_or marks 2 0) ++ number_bytes 1 (get_or marks 3 0)))
-
 -- 01; 03 once an equation; 20, the next rule number in two bytes; 12 once a live rule; 21 once a waiting equation, oldest first; 13 once a log entry;
--- 22, how many were put back, in one byte; 23, the marks [21.3 to 21.9, 21.25]
+-- 22, how many were put back, in one byte [21.3 to 21.9]
 unfoldable pub checkpoint_fields : Checkpoint → List Field
 checkpoint_fields c =
     record { tag = 0x01; contents = symbol_bytes c.theory.symbols }
@@ -49,8 +41,7 @@ checkpoint_fields c =
     ∷ (map rule_field c.state.rules
     ++ (map waiting_field c.state.waiting
     ++ (map entry_field c.state.log
-    ++ (record { tag = 0x22; contents = number_bytes 1 c.state.put_back }
-    ∷ (record { tag = 0x23; contents = marks_bytes c.state.marks } ∷ [])))))))
+    ++ (record { tag = 0x22; contents = number_bytes 1 c.state.put_back } ∷ []))))))
 
 unfoldable pub checkpoint_bytes : Checkpoint → List ℕ
 checkpoint_bytes c = flat_map field_bytes (checkpoint_fields c)
@@ -103,25 +94,6 @@ read_put_back waiting f = do
   _ ← demand (leb n waiting)
   ok n
 
--- the marks: nothing, or a key. "numbers from 1 and below the next number (the rules need not live any more), earlier at most later, inner one of the two,
--- position below 120 (for a rule with itself from 1)" [21.26]
-unfoldable pub key_fits : ℕ → ℕ → ℕ → ℕ → ℕ → Bool
-key_fits next later earlier inner position =
-    leb 1 earlier && leb earlier later && ltb later next && (eqb inner earlier || eqb inner later)
-    && ltb position most_nodes && (ltb earlier later || leb 1 position)
-
-unfoldable pub read_key : ℕ → List ℕ → Reading Key
-read_key next bytes = do
-  let later = number_from 0 (take 2 bytes)
-  let earlier = number_from 0 (take 2 (drop 2 bytes))
-  let inner = number_from 0 (take 2 (drop 4 bytes))
-  let position = get_or bytes 6 0
-  _ ← demand (eqb (length bytes) key_width && key_fits next later earlier inner position)
-  ok (later ∷ earlier ∷ inner ∷ position ∷ [])
-
-unfoldable pub read_marks : ℕ → ReadField → Reading Key
-read_marks next f = if eqb (length f.contents) 0 then ok [] else read_key next f.contents
-
 -- fewer entries than the next rule number less one: each rule was made with an entry [21.14]
 unfoldable pub few_entries : ℕ → ℕ → Bool
 few_entries next entries = ltb (suc entries) next
@@ -129,7 +101,7 @@ few_entries next entries = ltb (suc entries) next
 -- 2 for over 49,152 bytes, at place 49,152. Then 16, "at the first bad field's first byte (the end if it stops where one is due)": whatever is wrong with
 -- what is due at a place, the refusal is `wrong_saved` at that place. "rules and waiting equations at most 33 together"; the log has at least as many
 -- entries as the next number less one, else an entry is due where the next field stands; bytes behind the last field are refused at their first.
--- [21.12 to 21.16, 21.26]
+-- [21.12 to 21.16]
 unfoldable pub read_checkpoint : List ℕ → Reading Checkpoint
 read_checkpoint bytes = do
   _ ← refuse_if (ltb most_saved (length bytes)) long_problem most_saved
@@ -141,16 +113,8 @@ read_checkpoint bytes = do
   log ← fields_there wrong_saved 0x13 (λ _ f. read_entry f) most_entries none waiting.end waiting.rest
   _ ← refuse_if (few_entries next.part (length log.part)) wrong_saved log.end
   back ← one_field wrong_saved 0x22 (read_put_back (length waiting.part)) log.end log.rest
-  marks ← one_field wrong_saved 0x23 (read_marks next.part) back.end back.rest
-  _ ← refuse_if (ltb 0 (length marks.rest)) wrong_saved marks.end
+  _ ← refuse_if (ltb 0 (length back.rest)) wrong_saved back.end
   ok (record {
     theory = record { symbols = Σ.part; equations = es.part };
-    state = record {
-      rules = rules_of rules.part;
-      made = next.part - 1;
-      waiting = waiting.part;
-      log = log.part;
-      put_back = back.part;
-      marks = marks.part;
-    };
+    state = record { rules = rules_of rules.part; made = next.part - 1; waiting = waiting.part; log = log.part; put_back = back.part };
   })

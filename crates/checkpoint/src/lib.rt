@@ -8,6 +8,3 @@ pub const WAITING: u8 = 0x21;
 
 // How many equations were put back since a rule was made or an equation settled.
 pub const BACK: u8 = 0x22;
-
-// The key up to which places are marked.
-pub const MARKS: u8 = 0x23;

@@ -76,8 +76,7 @@ module _ (T : Theory) (accepted : Accepted T) where
       variables_few 32 o.sides (made_vars _ (λ x. x < 32) o.sides.left h.left_made) (made_vars _ (λ x. x < 32) o.sides.right h.right_made)
 
   -- what a turn takes: at most 120 nodes a side, variables below 32, and at most 32 equations wait
-  pub taken_fits : {s : State} (r : Reachable T s) (now rest : ℕ) (t : Taken) →
-      take_pair T s.rules s.marks s.waiting now ≡ done t rest →
+  pub taken_fits : {s : State} (r : Reachable T s) (now rest : ℕ) (t : Taken) → take_pair T s.rules s.waiting now ≡ done t rest →
       TakenFits T accepted s (state_limits r) t
   taken_fits {s} r now rest t e =
       Kept.taken_fits T accepted s (state_limits r) t (subst (Holds (Takes T s) (Because T s)) e ((takes T s).out now))

@@ -90,11 +90,11 @@ module _ (T : Theory) (R W Q : Pair → Type 0) (k : Closed T R W Q) where
       let a = source_has s h g.of t.waiting g.source in
       (k.rewritten s.rules h.rules g.of.sides t.pair.sides g.forms.left.reached g.forms.right.reached a.0, a.1)
 
-  pub oriented_has : (e f : Pair) → Q e → length (pair_variables e) ≤ 16 → Oriented T e f → R f
+  oriented_has : (e f : Pair) → Q e → length (pair_variables e) ≤ 16 → Oriented T e f → R f
   oriented_has e f h few (as_taken a q) = subst R (sym q) (k.oriented e h few a)
   oriented_has e f h few (other_way a q) = subst R (sym q) (k.oriented (swapped e) (k.turned e h) (omega (arith, swapped_variables e)) a)
 
-  pub rights_have : {new : Rule} {older done later : List Rule} → Every RuleHas older → RuleHas new → Rights new older done later →
+  rights_have : {new : Rule} {older done later : List Rule} → Every RuleHas older → RuleHas new → Rights new older done later →
       Every RuleHas done × Every RuleHas later
   rights_have h n (none_yet e d) = (subst (Every RuleHas) (sym e) of_none, subst (Every RuleHas) (sym d) h)
   rights_have {new} h n (one_more {before} {done} {later} {old} {r} g f e) = go (rights_have h n g)

@@ -22,12 +22,10 @@ unfolding flat_map Base.if◌then◌else◌ Base.mapped Base.or_else Base.is_som
     Order.some_reaches Order.first_above
     Order.same_length Order.comparison Unify.disagreement Unify.disagreement_in Unify.single Unify.under Unify.mgu_in Unify.mgu Overlap.apart
     Overlap.overlap_by Overlap.overlap_at Overlap.overlap Overlap.places Overlap.positions Overlap.places_with Overlap.places_self Overlap.all_places
-    Overlap.place_key Overlap.up_to
     Rewrite.bound Rewrite.bind_to Rewrite.matching Rewrite.matching_all Rewrite.bound_or_variable Rewrite.instantiate Rewrite.root_step Rewrite.step
     Rewrite.step_in Rewrite.return Rewrite.end_with Rewrite.and_then Rewrite.◌>>=◌ Rewrite.end_if Rewrite.pay Rewrite.hold Rewrite.normalise_by
     Rewrite.both_by Turn.candidates Turn.initial Turn.scan_overlap Turn.if_different Turn.if_different_overlap Turn.scan_inputs Turn.scan
-    Turn.unmarked Turn.last_key Turn.marks_behind Turn.take_pair Turn.orient Turn.rewrites Turn.kept Turn.removed Turn.normalise_rights
-    Turn.waits_again Turn.if_oriented Turn.make_rule Turn.settled
+    Turn.take_pair Turn.orient Turn.rewrites Turn.kept Turn.removed Turn.normalise_rights Turn.waits_again Turn.if_oriented Turn.make_rule Turn.settled
     Turn.end_if_all_put_back Turn.turn Turn.turns Turn.run_from Turn.run Rewrite.end_number Calls.pair_bytes Calls.rule_field Calls.origin_bytes
     Calls.entry_field Calls.oldest_field Calls.forms_field Calls.result_fields Calls.result_bytes
     Calls.enough Calls.complete_call Calls.parse_single Calls.compare_call Calls.unified Calls.unify_call Calls.part_of Calls.subterm_part

@@ -7,10 +7,10 @@ use Rattle.problem.specs.Problem.{Theory}
 use Rattle.rewriting.specs.Rewrite.{complete}
 use Rattle.completion.specs.Turn.{Finished}
 use Rattle.completion.specs.Decides.{Decides}
-use Rattle.completion.proofs.Held.{Accepted}
+use Rattle.completion.proofs.Over.{OverEquations}
 use Rattle.completion.proofs.Stopped.{Stopped}
 use Rattle.completion.proofs.AtEnd.{stop_delivered}
 
-pub delivered : (T : Theory) → Accepted T → {budget : ℕ} {f : Finished} → Stopped T budget f → f.end ≡ complete →
+pub delivered : (T : Theory) → OverEquations T.symbols T.equations → {budget : ℕ} {f : Finished} → Stopped T budget f → f.end ≡ complete →
     Decides T.symbols T.equations f.state.rules
-delivered T ok {budget} {f} h e = stop_delivered T ok f.state h.reachable h.left h.left_over f.end h.stops e
+delivered T given {budget} {f} h e = stop_delivered T given f.state h.reachable h.left h.left_over f.end h.stops e

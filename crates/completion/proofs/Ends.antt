@@ -1,6 +1,6 @@
 -- What a turn does, and what each of its ends says of the state that it began with. Assumes nothing.
 -- Read first: specs/Turn, rewriting/proofs/Holds, proofs/Sentences (`next_state`).
-use mathlib.Core.Path.{◌≡◌, refl, ap}
+use mathlib.Core.Path.{◌≡◌}
 use mathlib.Core.Bool.{true, false}
 use mathlib.Core.Logic.{◌⊎◌}
 use mathlib.Core.List.{List, [], ◌∷◌, ◌++◌, Memᴰ}
@@ -13,12 +13,12 @@ use Rattle.terms.proofs.Shape.{zero≢one}
 use Rattle.terms.proofs.Below.{swapped}
 use Rattle.terms.specs.Base.{Every}
 use Rattle.order.specs.Order.{above}
-use Rattle.rewriting.specs.Overlap.{Rule, Overlap, overlap, Place, all_places, Key, place_key, up_to}
+use Rattle.rewriting.specs.Overlap.{Rule, Overlap, overlap, Place, all_places}
 use Rattle.rewriting.specs.Rewrite.{End, complete, neither_above, spent, too_large, rules_full, log_full}
 use Rattle.rewriting.proofs.Covers.{HoldsAt}
 use Rattle.rewriting.proofs.Holds.{Form, Forms, Outgrown}
 use Rattle.problem.specs.Problem.{rank_of, Theory}
-use Rattle.completion.specs.Turn.{overlapping, Candidate, scanned_input, State, Taken, candidates, unmarked, last_key, kept, waits_again, settled}
+use Rattle.completion.specs.Turn.{overlapping, Candidate, scanned_input, State, Taken, candidates, kept, waits_again, settled}
 
 -- Step 1: what is taken.
 abbrev pub inputs : Theory → List Candidate
@@ -44,52 +44,19 @@ pub record SameForm (rules : List Rule) (e : Pair) : Type 0 where
 abbrev pub SameAt : List Rule → Pair → Pair → ℕ → Type 0
 SameAt rules inner outer p = (o : Overlap) → overlap inner outer p ≡ some o → SameForm rules (renamed o.sides)
 
-abbrev pub SameCandidate : List Rule → Candidate → Type 0
-SameCandidate rules c = SameForm rules c.sides
-
--- A place is marked when it comes no later than the key. [8.10]
-abbrev pub Marked : Key → Place → Type 0
-Marked marks at = up_to (place_key at) marks ≡ true
-
--- the places that the scan comes to, and of all of these
-abbrev pub to_scan : State → List Place
-to_scan s = unmarked s.marks (all_places [] s.rules)
-
-abbrev pub OverlapsSame : State → Type 0
-OverlapsSame s = Every (HoldsAt (SameAt s.rules)) (to_scan s)
+abbrev pub OverlapsSame : List Rule → Type 0
+OverlapsSame rules = Every (HoldsAt (SameAt rules)) (all_places [] rules)
 
 -- the pair before it is normalised, and the equations that wait behind it: the oldest of the waiting list, an overlap, an input when all overlaps
--- that are not marked have one form
+-- have one form
 pub data Source (T : Theory) (s : State) : Candidate → List Candidate → Type 0 where
   of_waiting : {c : Candidate} {cs : List Candidate} → s.waiting ≡ c ∷ cs → Source T s c cs
   of_overlap : {c : Candidate} {cs : List Candidate} (at : Place) (o : Overlap) → Scanned s at o → Small o →
       c ≡ record { origin = overlapping at.inner.number at.outer.number at.position; sides = renamed o.sides } → cs ≡ [] → Source T s c cs
-  of_input : {c : Candidate} {cs : List Candidate} → s.waiting ≡ [] → OverlapsSame s → Memᴰ c (inputs T) → cs ≡ [] → Source T s c cs
-
--- The marks that are left: as they were; up to the overlap that was taken, all before it having one normal form; or past all overlaps.
-pub data Marking (s : State) (c : Candidate) : Key → Type 0 where
-  as_before : {marks : Key} → marks ≡ s.marks → Marking s c marks
-  at_overlap : {marks : Key} (front rest : List Place) (at : Place) (o : Overlap) → to_scan s ≡ front ++ (at ∷ rest) →
-      Every (HoldsAt (SameAt s.rules)) front → Memᴰ at (all_places [] s.rules) →
-      overlap at.inner.sides at.outer.sides at.position ≡ some o → c.sides ≡ renamed o.sides → marks ≡ place_key at → Marking s c marks
-  past_all : {marks : Key} → OverlapsSame s → marks ≡ last_key s.marks (to_scan s) → Marking s c marks
+  of_input : {c : Candidate} {cs : List Candidate} → s.waiting ≡ [] → OverlapsSame s.rules → Memᴰ c (inputs T) → cs ≡ [] → Source T s c cs
 
 pub none≢waiting : {c : Candidate} {cs : List Candidate} → [] ≡ c ∷ cs → ⊥
 none≢waiting e = zero≢one (cc)
-
--- the last of some places, if there is one
-pub data LastOf (marks : Key) (ps : List Place) : Type 0 where
-  no_last : ps ≡ [] → last_key marks ps ≡ marks → LastOf marks ps
-  last_is : (front : List Place) (at : Place) → ps ≡ front ++ (at ∷ []) → last_key marks ps ≡ place_key at → LastOf marks ps
-
-pub last_of : (marks : Key) (ps : List Place) → LastOf marks ps
-unfolding last_key
-last_of marks [] = no_last refl refl
-last_of marks (x ∷ ps) = go (last_of (place_key x) ps)
-  where
-    go : LastOf (place_key x) ps → LastOf marks (x ∷ ps)
-    go (no_last e k) = last_is [] x (ap (λ l. x ∷ l) e) k
-    go (last_is front at e k) = last_is (x ∷ front) at (ap (λ l. x ∷ l) e) k
 
 -- the pair as its normal forms, which differ where the scan took it
 pub record Takes (T : Theory) (s : State) (t : Taken) : Type 0 where
@@ -98,7 +65,6 @@ pub record Takes (T : Theory) (s : State) (t : Taken) : Type 0 where
   pub origin : t.pair.origin ≡ of.origin
   pub forms : Forms s.rules of.sides t.pair.sides
   pub scanned : s.waiting ≡ [] → same t.pair.sides.left t.pair.sides.right ≡ false
-  pub marking : Marking s of t.marks
 
 -- Steps 4 and 5: the upper side to the left.
 pub data Oriented (T : Theory) (e : Pair) : Pair → Type 0 where
@@ -146,10 +112,13 @@ pub data Next (T : Theory) (s : State) : State → Type 0 where
   puts_back : {s' : State} (t : Taken) → Takes T s t → length s.log < 512 → same t.pair.sides.left t.pair.sides.right ≡ false →
       length (pair_variables t.pair.sides) ≤ 16 → NeitherAbove T t.pair.sides → MayTake s → s' ≡ waits_again s t → Next T s s'
 
--- 0: nothing waits, the sides of each overlap that is not marked have one normal form, and so have those of each input equation.
+-- 0: nothing waits, the sides of each overlap have one normal form, and so have those of each input equation.
+abbrev pub SameCandidate : List Rule → Candidate → Type 0
+SameCandidate rules c = SameForm rules c.sides
+
 pub record Certified (T : Theory) (s : State) : Type 0 where
   pub idle : s.waiting ≡ []
-  pub overlaps : OverlapsSame s
+  pub overlaps : OverlapsSame s.rules
   pub inputs_same : Every (SameCandidate s.rules) (inputs T)
 
 -- 22: "a term over 120 nodes, or a taken pair over 16 variables"

@@ -3,7 +3,7 @@
 use mathlib.Core.Path.{◌≡◌, refl, sym, ap, ◌∙◌, subst}
 use mathlib.Core.Bool.{Bool, true, false}
 use mathlib.Core.Logic.{◌⊎◌, inl, inr, ⊎_elim}
-use mathlib.Core.List.{List, [], ◌∷◌, ◌++◌, append_assoc, append-nil, map-append, Memᴰ}
+use mathlib.Core.List.{List, [], ◌∷◌, ◌++◌, append_assoc, append-nil, map-append}
 use mathlib.Core.Option.{some}
 use Prim.Native.Nat.{ℕ, suc, ◌+◌, ◌≤◌, ◌<◌}
 use native.Mathlib.Omega.{arith}
@@ -12,22 +12,21 @@ use Rattle.completion.proofs.Sentences.{MayTake, new_rule, next_state}
 use Rattle.terms.specs.Base.{if◌then◌else◌, Every, of_none, of_cons}
 use Rattle.terms.specs.Term.{Term, Pair, size, pair_variables, renamed}
 use Rattle.terms.proofs.Every.{every_head, every_tail, every_one, every_in, every_append, every_map, every_both, every_mapped, mapped_every}
-use Rattle.rewriting.specs.Overlap.{Rule, Overlap, overlap, Place, all_places, Key, place_key}
+use Rattle.rewriting.specs.Overlap.{Rule, Overlap, overlap, Place, all_places}
 use Rattle.rewriting.specs.Rewrite.{step}
 use Rattle.rewriting.proofs.Limits.{step_made, MaybeOverlap, overlap_made}
 use Rattle.rewriting.proofs.Covers.{all_places_hold}
-use Rattle.rewriting.proofs.InOrder.{all_listed}
 use Rattle.rewriting.proofs.Holds.{Reached, reached_keeps}
 use Rattle.problem.specs.Problem.{Theory}
 use Rattle.completion.specs.Turn.{Origin, overlapping, scanned_input, Candidate, made_put_back, State, Taken, rewrites, kept, removed}
 use Rattle.completion.specs.Turn.{waits_again, settled}
-use Rattle.completion.proofs.Held.{HeldTo, HeldPair, RuleFits, Accepted, pair_wide, renamed_held, few_variables}
-use Rattle.completion.proofs.Limits.{OriginFits, CandidateFits, EntryFits, MarksFit, marked_to, Ascending, numbers, rising, Limits}
-use Rattle.completion.proofs.Limits.{later_origin, later_candidate, later_entry, later_marks, candidates_fit, initial_limits}
-use Rattle.completion.proofs.Ends.{inputs, Small, Source, of_waiting, of_overlap, of_input, to_scan, Marking, as_before, at_overlap, past_all}
-use Rattle.completion.proofs.Ends.{LastOf, no_last, last_is, last_of, Takes, Rights, none_yet, one_more, with_right, older_rules}
-use Rattle.completion.proofs.Ends.{Next, settles, makes, puts_back}
-use Rattle.completion.proofs.Traced.{last_in}
+use Rattle.completion.proofs.Held.{HeldTo, HeldPair, RuleFits, Accepted}
+use Rattle.completion.proofs.Limits.{OriginFits, CandidateFits, EntryFits, Ascending, numbers, Limits}
+use Rattle.completion.proofs.Held.{pair_wide, renamed_held, few_variables}
+use Rattle.completion.proofs.Limits.{later_origin, later_candidate, later_entry, candidates_fit}
+use Rattle.completion.proofs.Limits.{initial_limits}
+use Rattle.completion.proofs.Ends.{inputs, Small, Source, of_waiting, of_overlap, of_input, Takes, Rights, none_yet, one_more, with_right}
+use Rattle.completion.proofs.Ends.{older_rules, Next, settles, makes, puts_back}
 use Rattle.completion.proofs.Closed.{Closed, Has, taken_has, next_has, kept_every, removed_every}
 use Rattle.completion.proofs.Reachable.{Reachable, from_start, by_turn, turn_next}
 
@@ -161,7 +160,6 @@ module _ (T : Theory) (ok : Accepted T) where
       pub room : length s.rules + suc (length t.waiting) ≤ 33
       pub waiting_few : suc (length t.waiting) ≤ 32
       pub behind : MayTake s → s.put_back ≤ length t.waiting
-      pub marks_fit : MarksFit s.made t.marks
 
     inputs_fit : Every (CandidateFits symbols 16 s.made) (inputs T)
     unfolding OriginFits
@@ -194,29 +192,6 @@ module _ (T : Theory) (ok : Accepted T) where
         (f.inner_fits.first, f.inner_fits.last, f.outer_fits.first, f.outer_fits.last, f.position_fits))
     source_fits c cs (of_input w a i q) = rw q (none_wait c.origin w (every_in inputs_fit i).from)
 
-    key_fits : (at : Place) → Memᴰ at (all_places [] s.rules) → (marks : Key) → marks ≡ place_key at → MarksFit s.made marks
-    unfolding place_key
-    key_fits at i marks e =
-        let f : PlaceFits symbols s.made at = every_in (all_places_fit s.rules lim.rules_fit) i in
-        marked_to at.inner.number at.outer.number at.position e
-        (record {
-          inner_first = f.inner_fits.first;
-          inner_last = f.inner_fits.last;
-          outer_first = f.outer_fits.first;
-          outer_last = f.outer_fits.last;
-          within = f.position_fits;
-          below_root = (every_in (all_listed s.rules (rising 0 s.rules lim.ascending)) i).not_itself;
-        })
-
-    marking_fits : (c : Candidate) (marks : Key) → Marking s c marks → MarksFit s.made marks
-    marking_fits c marks (as_before e) = subst (MarksFit s.made) (sym e) lim.marks_fit
-    marking_fits c marks (at_overlap front rest at o e same i d q k) = key_fits at i marks k
-    marking_fits c marks (past_all all k) = go (last_of s.marks (to_scan s))
-      where
-        go : LastOf s.marks (to_scan s) → MarksFit s.made marks
-        go (no_last e q) = subst (MarksFit s.made) (sym (k ∙ q)) lim.marks_fit
-        go (last_is front at e q) = key_fits at (last_in s front at e) marks (k ∙ q)
-
     pub taken_fits : (t : Taken) → Takes T s t → TakenFits t
     taken_fits t g =
         let a = source_fits g.of t.waiting g.source in
@@ -227,7 +202,6 @@ module _ (T : Theory) (ok : Accepted T) where
           room = a.2;
           waiting_few = a.3;
           behind = a.4;
-          marks_fit = marking_fits g.of t.marks g.marking;
         }
 
     entry_fits : (t : Taken) (m k : ℕ) → TakenFits t → s.made ≤ m → (k ≤ m) ⊎ (k ≡ made_put_back) →
@@ -246,7 +220,6 @@ module _ (T : Theory) (ok : Accepted T) where
           waiting = waiting;
           log = s.log ++ (record { origin = t.pair.origin; made = made } ∷ []);
           put_back = back;
-          marks = t.marks;
         })
     same_rules_limits t made waiting back f room h fit few l =
         let logs : length (s.log ++ (record { origin = t.pair.origin; made = made } ∷ [])) ≡ length s.log + 1 =
@@ -262,7 +235,6 @@ module _ (T : Theory) (ok : Accepted T) where
           waiting_few = omega (arith, f.waiting_few);
           together = omega (arith, f.room);
           put_back_few = l;
-          marks_fit = f.marks_fit;
         }
 
     settled_limits : (t : Taken) → TakenFits t → length s.log < 512 → Limits symbols (settled s t)
@@ -315,7 +287,6 @@ module _ (T : Theory) (ok : Accepted T) where
           waiting_few = omega arith;
           together = omega arith;
           put_back_few = omega arith;
-          marks_fit = later_marks s.made m (omega arith) t.marks f.marks_fit;
         }
 
     pub next_limits : (s' : State) → Next T s s' → Limits symbols s'

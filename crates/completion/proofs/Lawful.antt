@@ -9,7 +9,7 @@ use lib.ListN.{length}
 use Rattle.terms.proofs.Shape.{either_has}
 use Rattle.terms.specs.Base.{if◌then◌else◌}
 use Rattle.terms.specs.Term.{Term, Pair, same, size, renamed}
-use Rattle.rewriting.specs.Overlap.{Rule, Overlap, Place, Key}
+use Rattle.rewriting.specs.Overlap.{Rule, Overlap, Place}
 use Rattle.rewriting.specs.Rewrite.{End, complete, neither_above, spent, too_large, rules_full, log_full, Paying, return, end_with, ◌>>=◌, end_if}
 use Rattle.rewriting.specs.Rewrite.{pay, hold, normalise, normalise_pair, both_by}
 use Rattle.problem.specs.Problem.{Theory}
@@ -82,10 +82,10 @@ module _ (L : (A : Type 0) → Paying A → Type 0) (k : Lawful L) where
   scan_lawful rules inputs [] = inputs_lawful rules inputs
   scan_lawful rules inputs (at ∷ ps) = k.bound _ _ _ _ (overlap_lawful rules _) λ forms. different_overlap_lawful at forms _ (scan_lawful rules inputs ps)
 
-  pub take_lawful : (T : Theory) (rules : List Rule) (marks : Key) (cs : List Candidate) → L Taken (take_pair T rules marks cs)
+  pub take_lawful : (T : Theory) (rules : List Rule) (cs : List Candidate) → L Taken (take_pair T rules cs)
   unfolding take_pair
-  take_lawful T rules marks [] = k.bound _ _ _ _ (scan_lawful rules _ _) λ c. k.returned _ _
-  take_lawful T rules marks (c ∷ cs) = k.bound _ _ _ _ (pair_lawful rules c.sides) λ forms. k.returned _ _
+  take_lawful T rules [] = k.bound _ _ _ _ (scan_lawful rules _ _) λ c. k.returned _ _
+  take_lawful T rules (c ∷ cs) = k.bound _ _ _ _ (pair_lawful rules c.sides) λ forms. k.returned _ _
 
   pub rights_lawful : (before rules : List Rule) (new : Rule) → L (List Rule) (normalise_rights before rules new)
   unfolding normalise_rights
@@ -112,12 +112,12 @@ module _ (L : (A : Type 0) → Paying A → Type 0) (k : Lawful L) where
   -- the turn behind its first unit
   pub rest_lawful : (T : Theory) (s : State) →
       L State (end_if_all_put_back s.waiting s.put_back >>= λ _.
-      take_pair T s.rules s.marks s.waiting >>= λ t.
+      take_pair T s.rules s.waiting >>= λ t.
       end_if (leb 512 (length s.log)) log_full >>= λ _.
       if same t.pair.sides.left t.pair.sides.right then return (settled s t) else make_rule T s t)
   rest_lawful T s =
       k.bound _ _ _ _ (all_put_back_lawful s.waiting s.put_back) λ _.
-      k.bound _ _ _ _ (take_lawful T s.rules s.marks s.waiting) λ t.
+      k.bound _ _ _ _ (take_lawful T s.rules s.waiting) λ t.
       k.bound _ _ _ _ (end_if_lawful _ log_full tt) λ _.
       either_has (L _) _ _ _ (k.returned _ _) (make_lawful T s t)
 

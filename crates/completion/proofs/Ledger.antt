@@ -12,13 +12,12 @@ use lib.ListN.{length, length-append}
 use Rattle.terms.specs.Base.{if◌then◌else◌, Every, of_none, of_cons}
 use Rattle.terms.specs.Term.{Term, Pair, same, size, pair_variables, renamed}
 use Rattle.terms.proofs.Every.{every_append}
-use Rattle.rewriting.specs.Overlap.{Rule, Overlap, overlap, Place, all_places, Key}
+use Rattle.rewriting.specs.Overlap.{Rule, Overlap, overlap, Place, all_places}
 use Rattle.rewriting.specs.Rewrite.{step, End, complete, neither_above, too_large, rules_full, log_full, Paid, done, stop, Paying, return, end_with}
 use Rattle.rewriting.specs.Rewrite.{and_then, ◌>>=◌, end_if, pay, hold, normalise, normalise_pair, normalise_by, both_by}
 use Rattle.problem.specs.Problem.{Theory}
-use Rattle.completion.specs.Turn.{Origin, Candidate, State, Taken, Finished, scan_overlap, if_different, if_different_overlap}
-use Rattle.completion.specs.Turn.{scan_inputs, scan, unmarked, take_pair, orient, normalise_rights, if_oriented, make_rule, settled}
-use Rattle.completion.specs.Turn.{end_if_all_put_back, turn, turns, run_from}
+use Rattle.completion.specs.Turn.{Origin, Candidate, State, Taken, Finished, scan_overlap, if_different, if_different_overlap, scan_inputs, scan}
+use Rattle.completion.specs.Turn.{take_pair, orient, normalise_rights, if_oriented, make_rule, settled, end_if_all_put_back, turn, turns, run_from}
 use Rattle.completion.proofs.Sentences.{new_rule}
 use Rattle.completion.proofs.Ends.{inputs, older_rules}
 use Rattle.completion.proofs.Units.{left_of}
@@ -83,9 +82,9 @@ scan_events rules inputs (at ∷ places) =
     let o : Option Overlap = overlap at.inner.sides at.outer.sides at.position in
     also (overlap_events rules o) (scan_overlap rules o) λ forms. different_overlap_events forms (scan_events rules inputs places)
 
-unfoldable pub take_events : Theory → List Rule → Key → List Candidate → Ledger
-take_events T rules marks [] = scan_events rules (inputs T) (unmarked marks (all_places [] rules))
-take_events T rules marks (c ∷ waiting) = pair_events rules c.sides
+unfoldable pub take_events : Theory → List Rule → List Candidate → Ledger
+take_events T rules [] = scan_events rules (inputs T) (all_places [] rules)
+take_events T rules (c ∷ waiting) = pair_events rules c.sides
 
 unfoldable pub rights_events : List Rule → List Rule → Rule → Ledger
 rights_events before [] new = nothing
@@ -107,7 +106,7 @@ make_events T s t =
 unfoldable pub rest_events : Theory → State → Ledger
 rest_events T s =
     also nothing (end_if_all_put_back s.waiting s.put_back) λ _.
-    also (take_events T s.rules s.marks s.waiting) (take_pair T s.rules s.marks s.waiting) λ t.
+    also (take_events T s.rules s.waiting) (take_pair T s.rules s.waiting) λ t.
     also nothing (end_if (leb 512 (length s.log)) log_full) λ _.
     if same t.pair.sides.left t.pair.sides.right then nothing else make_events T s t
 
@@ -240,10 +239,10 @@ scan_books rules inputs (at ∷ ps) =
     bind_books (scan_overlap rules o) _ (overlap_events rules o) _ (overlap_books rules o) λ forms.
     different_overlap_books at forms (scan rules inputs ps) (scan_events rules inputs ps) (scan_books rules inputs ps)
 
-take_books : (T : Theory) (rules : List Rule) (marks : Key) (cs : List Candidate) → Books (take_pair T rules marks cs) (take_events T rules marks cs)
+take_books : (T : Theory) (rules : List Rule) (cs : List Candidate) → Books (take_pair T rules cs) (take_events T rules cs)
 unfolding take_pair take_events
-take_books T rules marks [] = last_books (scan rules (inputs T) _) _ _ (scan_books rules (inputs T) (unmarked marks (all_places [] rules)))
-take_books T rules marks (c ∷ cs) = last_books (normalise_pair rules c.sides) _ (pair_events rules c.sides) (pair_books rules c.sides)
+take_books T rules [] = last_books (scan rules (inputs T) (all_places [] rules)) _ _ (scan_books rules (inputs T) (all_places [] rules))
+take_books T rules (c ∷ cs) = last_books (normalise_pair rules c.sides) _ (pair_events rules c.sides) (pair_books rules c.sides)
 
 rights_books : (before rules : List Rule) (new : Rule) → Books (normalise_rights before rules new) (rights_events before rules new)
 unfolding normalise_rights rights_events
@@ -276,8 +275,7 @@ pub rest_books : (T : Theory) (s : State) (left : ℕ) → Booked left (left_of 
 unfolding turn rest_events ◌>>=◌ and_then pay
 rest_books T s left =
     bind_books (end_if_all_put_back s.waiting s.put_back) _ nothing _ (all_put_back_books s.waiting s.put_back) (λ _.
-    bind_books (take_pair T s.rules s.marks s.waiting) _ (take_events T s.rules s.marks s.waiting) _
-    (take_books T s.rules s.marks s.waiting) (λ t.
+    bind_books (take_pair T s.rules s.waiting) _ (take_events T s.rules s.waiting) _ (take_books T s.rules s.waiting) (λ t.
     bind_books (end_if (leb 512 (length s.log)) log_full) _ nothing _ (end_if_books _ log_full) λ _.
     if_books _ (return (settled s t)) (make_rule T s t) nothing (make_events T s t) (return_books (settled s t)) (make_books T s t))) left
 

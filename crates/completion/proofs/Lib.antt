@@ -8,17 +8,9 @@ pub mod Reachable
 pub mod Stopped
 pub mod Closed
 pub mod Invariant
-pub mod AllLinked
 pub mod AtEnd
 pub mod PutBack
 pub mod Certificate
-pub mod Marked
-pub mod MarkedRights
-pub mod MarkedRun
-pub mod MarksMean
-pub mod BehindKey
-pub mod LastPlace
-pub mod ByNumber
 pub mod Over
 pub mod OverRules
 pub mod OverRun

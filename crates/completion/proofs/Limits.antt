@@ -4,13 +4,12 @@
 use mathlib.Core.Path.{◌≡◌, refl, ap}
 use mathlib.Core.Logic.{◌⊎◌, inl, inr, ⊎_elim}
 use mathlib.Core.List.{List, [], ◌∷◌, map}
-use Prim.Native.Nat.{ℕ, suc, ◌+◌, ◌≤◌, ◌<◌, min, max}
+use Prim.Native.Nat.{ℕ, suc, ◌+◌, ◌≤◌, ◌<◌}
 use native.Mathlib.Omega.{arith}
 use lib.ListN.{length}
 use Rattle.terms.specs.Term.{Pair, renamed}
 use Rattle.terms.specs.Base.{Every, of_none, of_cons}
-use Rattle.rewriting.specs.Overlap.{Rule, Key}
-use Rattle.rewriting.proofs.InOrder.{Rising, no_more, one_more}
+use Rattle.rewriting.specs.Overlap.{Rule}
 use Rattle.problem.specs.Problem.{Theory}
 use Rattle.completion.specs.Turn.{Origin, waiting_input, removed_rule, scanned_input, overlapping, Candidate, made_put_back, Entry, State, candidates}
 use Rattle.completion.specs.Turn.{initial}
@@ -32,19 +31,6 @@ pub record EntryFits (made : ℕ) (e : Entry) : Type 0 where
   pub from : OriginFits made e.origin
   pub last : (e.made ≤ made) ⊎ (e.made ≡ made_put_back)
 
--- the marks: none, or the key of a place of rules that were made; they need not live any more
-pub record KeyFits (made inner outer p : ℕ) : Type 0 where
-  pub inner_first : 1 ≤ inner
-  pub inner_last : inner ≤ made
-  pub outer_first : 1 ≤ outer
-  pub outer_last : outer ≤ made
-  pub within : p < 120
-  pub below_root : inner ≡ outer → 1 ≤ p
-
-pub data MarksFit (made : ℕ) (marks : Key) : Type 0 where
-  no_marks : marks ≡ [] → MarksFit made marks
-  marked_to : (inner outer p : ℕ) → marks ≡ max inner outer ∷ min inner outer ∷ inner ∷ p ∷ [] → KeyFits made inner outer p → MarksFit made marks
-
 -- strictly ascending, from above lo
 unfoldable pub Ascending : ℕ → List ℕ → Type 0
 Ascending lo [] = Unit {0}
@@ -52,11 +38,6 @@ Ascending lo (k ∷ ks) = (lo < k) × Ascending k ks
 
 abbrev pub numbers : List Rule → List ℕ
 numbers rules = map (λ r. r.number) rules
-
-pub rising : (lo : ℕ) (rules : List Rule) → Ascending lo (numbers rules) → Rising lo rules
-unfolding Ascending
-rising lo [] h = no_more
-rising lo (r ∷ rules) h = one_more h.0 (rising r.number rules h.1)
 
 -- What the fixed arrays rely on, n being the count of the symbols.
 pub record Limits (n : ℕ) (s : State) : Type 0 where
@@ -70,7 +51,6 @@ pub record Limits (n : ℕ) (s : State) : Type 0 where
   pub waiting_few : length s.waiting ≤ 32
   pub together : length s.rules + length s.waiting ≤ 33
   pub put_back_few : s.put_back ≤ length s.waiting
-  pub marks_fit : MarksFit s.made s.marks
 
 -- More rules made, and the same still fits.
 pub later_origin : (a b : ℕ) → a ≤ b → (o : Origin) → OriginFits a o → OriginFits b o
@@ -85,23 +65,6 @@ later_candidate n v a b l c h = record { from = later_origin a b l c.origin h.fr
 
 pub later_entry : (a b : ℕ) → a ≤ b → (e : Entry) → EntryFits a e → EntryFits b e
 later_entry a b l e h = record { from = later_origin a b l e.origin h.from; last = ⊎_elim (λ k. inl (omega arith)) inr h.last }
-
-pub later_key : (a b : ℕ) → a ≤ b → (inner outer p : ℕ) → KeyFits a inner outer p → KeyFits b inner outer p
-later_key a b l inner outer p h =
-    let i : inner ≤ a = h.inner_last in
-    let o : outer ≤ a = h.outer_last in
-    record {
-      inner_first = h.inner_first;
-      inner_last = omega arith;
-      outer_first = h.outer_first;
-      outer_last = omega arith;
-      within = h.within;
-      below_root = h.below_root;
-    }
-
-pub later_marks : (a b : ℕ) → a ≤ b → (marks : Key) → MarksFit a marks → MarksFit b marks
-later_marks a b l marks (no_marks e) = no_marks e
-later_marks a b l marks (marked_to i o p e f) = marked_to i o p e (later_key a b l i o p f)
 
 -- The inputs as candidates.
 pub length_candidates : (origin : ℕ → Origin) (k : ℕ) (es : List Pair) → length (candidates origin k es) ≡ length es
@@ -140,5 +103,4 @@ initial_limits T a =
       waiting_few = omega arith;
       together = omega arith;
       put_back_few = omega arith;
-      marks_fit = no_marks refl;
     }

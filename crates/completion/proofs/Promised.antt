@@ -15,7 +15,7 @@ use Rattle.terms.specs.Base.{if◌then◌else◌, number_bytes, Field, Every, of
 use Rattle.terms.proofs.Every.{every_one, every_append, every_map, every_both}
 use Rattle.rewriting.specs.Overlap.{Rule}
 use Rattle.rewriting.specs.Rewrite.{End, complete, neither_above, spent, too_large, rules_full, log_full, end_number}
-use Rattle.problem.specs.Problem.{ok, Theory, theory}
+use Rattle.problem.specs.Problem.{ok, Theory, Problem, theory, parse}
 use Rattle.problem.proofs.Reading.{from_bind, ok_injective}
 use Rattle.completion.specs.Turn.{Candidate, Entry, Finished, run}
 use Rattle.completion.specs.Calls.{rule_field, entry_field, oldest_field, forms_field, result_fields, result_bytes, complete_call}
@@ -114,9 +114,9 @@ module _ (T : Theory) (accepted : Accepted T) (budget : ℕ) (f : Finished) (h :
         are_rules = rules_read;
         are_live = refl;
         keeps = run_keeps T accepted budget f h few;
-        decide = λ k. delivered T accepted h (end_read.0 k);
-        derived = run_derived T accepted h;
-        derived_alone = λ k. complete_derived T accepted h (end_read.0 k);
+        decide = λ k. delivered T accepted.equations_over h (end_read.0 k);
+        derived = run_derived T h;
+        derived_alone = λ k. complete_derived T h (end_read.0 k);
       }
 
 -- What a reader of kept results rests on, however they came to be: their bytes, what these promise, and that the symbols fit bytes.

@@ -34,11 +34,7 @@ use Rattle.completion.proofs.Reachable.{Reachable, from_start, by_turn, turn_nex
 use Rattle.completion.proofs.Stopped.{Stopped, run_complete}
 use Rattle.completion.proofs.Closed.{removed_every, candidates_every}
 use Rattle.completion.proofs.Invariant.{Good, GoodRules, Equal, good_closed, reachable_good}
-use Rattle.completion.proofs.Held.{Accepted}
-use Rattle.completion.proofs.Limits.{Ascending, numbers}
-use Rattle.completion.proofs.Kept.{reachable_limits}
-use Rattle.completion.proofs.MarkedRun.{MarksHold, reachable_marks}
-use Rattle.completion.proofs.AllLinked.{overlaps_linked}
+use Rattle.completion.proofs.AtEnd.{overlaps_same_join}
 use Rattle.completion.proofs.Reorders.{with_behind, with_before, put_back, exchanged, reordered_eq}
 use Rattle.completion.proofs.Soundness.{Both, Falls, derivation_falls, derived_sound, derived_falls}
 use Rattle.completion.proofs.Deriving.{derives, same_as, by_one, none_more}
@@ -80,7 +76,7 @@ module _ (T : Theory) (E W : List Pair) (rules : List Rule) where
       (subst (λ l. Derivation ranked Properly (E ⨾ sides_of (kept new rules) ++ (new.sides ∷ X)) (E ⨾ l)) q
       (rights_derive ranked E X new r (derivation_falls ranked start f)))
 
-module _ (T : Theory) (ok : Accepted T) where
+module _ (T : Theory) where
   abbrev rank : ℕ → ℕ
   rank = rank_of T.symbols
 
@@ -98,10 +94,9 @@ module _ (T : Theory) (ok : Accepted T) where
   unfolding together waiting_equations waiting_rules
   idle_system s w = rw w (ap (λ R. [] ⨾ R) (append-nil (sides_of s.rules)))
 
-  module _ (s : State) (derived : Derivation rank Properly (given T) (system_of rank s)) (good : GoodRules T s.rules)
-      (ascending : Ascending 0 (numbers s.rules)) (marks : MarksHold T s) where
+  module _ (s : State) (derived : Derivation rank Properly (given T) (system_of rank s)) (good : GoodRules T s.rules) where
     -- When all overlaps have one form, so has each input equation.
-    never_found : s.waiting ≡ [] → OverlapsSame s → (c : Candidate) → Memᴰ c (inputs T) → (f : Pair) → Forms s.rules c.sides f →
+    never_found : s.waiting ≡ [] → OverlapsSame s.rules → (c : Candidate) → Memᴰ c (inputs T) → (f : Pair) → Forms s.rules c.sides f →
         f.left ≡ f.right
     never_found w same_forms c i f h =
         let rules : List Pair = sides_of s.rules in
@@ -111,13 +106,13 @@ module _ (T : Theory) (ok : Accepted T) where
         let by_rules : Conv (Step (Of rules)) c.sides.left c.sides.right =
         conv_conv (λ l r j. sound_itself (Of rules) l r (⊎_elim (λ k. absurd (Memᴰ.not-nil k)) (λ k. k) j)) now in
         conv_same_last rank rules (λ l r j. (of_every (Good T) good l r j).down) (λ l r j. (of_every (Good T) good l r j).low)
-        (overlaps_linked T s good ascending marks w same_forms)
+        (overlaps_same_join s.rules same_forms)
         _ _ f.left f.right by_rules
         (reached_star h.left.reached) (step_none s.rules f.left h.left.normal)
         (reached_star h.right.reached) (step_none s.rules f.right h.right.normal)
 
     -- So the scan takes none, for what it takes has two different forms;
-    never_taken : (t : Taken) → (h : Takes T s t) → s.waiting ≡ [] → OverlapsSame s → Memᴰ h.of (inputs T) → ⊥
+    never_taken : (t : Taken) → (h : Takes T s t) → s.waiting ≡ [] → OverlapsSame s.rules → Memᴰ h.of (inputs T) → ⊥
     never_taken t h w same_forms i =
         let e : t.pair.sides.left ≡ t.pair.sides.right = never_found w same_forms h.of i t.pair.sides h.forms in
         false≢true (sym (h.scanned w) ∙ (same_dec t.pair.sides.left t.pair.sides.right).1 e)
@@ -189,18 +184,13 @@ module _ (T : Theory) (ok : Accepted T) where
   reachable_derived (from_start e) = rw e initial_derived
   reachable_derived (by_turn {s} {s'} left {left'} r e) =
       let d : Derivation rank Properly (given T) (system_of rank s) = reachable_derived r in
-      derives rank d
-      (next_derives s d (reachable_good T r) (reachable_limits T ok r).ascending (reachable_marks T ok r) (reachable_postponed T r)
-      (reachable_free T r)
-      s' (turn_next T s s' left left' e))
+      derives rank d (next_derives s d (reachable_good T r) (reachable_postponed T r) (reachable_free T r) s' (turn_next T s s' left left' e))
 
   -- each turn that goes on by transitions from the state before it,
   pub turn_derives : {s : State} → Reachable T s → (s' : State) (left left' : ℕ) → turn T s left ≡ done s' left' →
       Derivation rank Properly (system_of rank s) (system_of rank s')
   turn_derives {s} r s' left left' e =
-      next_derives s (reachable_derived r) (reachable_good T r) (reachable_limits T ok r).ascending (reachable_marks T ok r)
-      (reachable_postponed T r) (reachable_free T r)
-      s' (turn_next T s s' left left' e)
+      next_derives s (reachable_derived r) (reachable_good T r) (reachable_postponed T r) (reachable_free T r) s' (turn_next T s s' left left' e)
 
   -- and so is what turns leave; with end 0, as rules without an equation.
   pub run_derived : {budget : ℕ} {f : Finished} → Stopped T budget f → Derivation rank Properly (given T) (system_of rank f.state)
@@ -211,9 +201,9 @@ module _ (T : Theory) (ok : Accepted T) where
   complete_derived {budget} {f} h e = subst (Derivation rank Properly (given T)) (idle_system f.state (run_complete h e).idle) (run_derived h)
 
   -- The test of input equations at the scan finds nothing: each has one normal form once all overlaps have.
-  pub inputs_same_forms : {s : State} → Reachable T s → s.waiting ≡ [] → OverlapsSame s → (c : Candidate) →
+  pub inputs_same_forms : {s : State} → Reachable T s → s.waiting ≡ [] → OverlapsSame s.rules → (c : Candidate) →
       Memᴰ c (inputs T) → (f : Pair) → Forms s.rules c.sides f → f.left ≡ f.right
-  inputs_same_forms {s} r = never_found s (reachable_derived r) (reachable_good T r) (reachable_limits T ok r).ascending (reachable_marks T ok r)
+  inputs_same_forms {s} r = never_found s (reachable_derived r) (reachable_good T r)
 
   -- So what the scan takes is an overlap: no pair of kind 3 is ever taken.
   pub record OverlapTaken (s : State) (t : Taken) : Type 0 where
@@ -228,5 +218,4 @@ module _ (T : Theory) (ok : Accepted T) where
       go : Source T s h.of t.waiting → OverlapTaken s t
       go (of_waiting e) = absurd (none≢waiting (sym w ∙ e))
       go (of_overlap at o z small e q) = record { at = at; overlap = o; scanned = z; origin = h.origin ∙ ap (λ (c : Candidate). c.origin) e }
-      go (of_input w' a i q) = absurd (never_taken s (reachable_derived r) (reachable_good T r) (reachable_limits T ok r).ascending
-          (reachable_marks T ok r) t h w' a i)
+      go (of_input w' a i q) = absurd (never_taken s (reachable_derived r) (reachable_good T r) t h w' a i)

@@ -1,5 +1,5 @@
--- The steps of a turn as document 01 and document 02, Six and Nine, say them: each law is one of their sentences, of what `turn` and its parts come to
--- when the steps before have come to something. Assumes nothing.
+-- The steps of a turn as document 01 and document 02, Six, say them: each law is one of their sentences, of what `turn` and its parts come to when the
+-- steps before have come to something. Assumes nothing.
 -- Read first: specs/Turn.
 use mathlib.Core.Path.{◌≡◌, refl, sym, ap, ◌∙◌}
 use mathlib.Core.Bool.{Bool, true, false}
@@ -14,14 +14,13 @@ use borrow.Author.Tests.{le-leb, lt-leb, lt-ltb, le-ltb}
 use Rattle.terms.specs.Base.{if◌then◌else◌}
 use Rattle.terms.specs.Term.{Pair, same, pair_variables}
 use Rattle.order.specs.Order.{above}
-use Rattle.rewriting.specs.Overlap.{Rule, Place, Key, place_key, up_to}
-use Rattle.rewriting.specs.Rewrite.{End, neither_above, spent, too_large, rules_full, log_full, Paid, done, stop, return, end_with, and_then, ◌>>=◌}
-use Rattle.rewriting.specs.Rewrite.{end_if, pay, normalise_pair, Paying}
+use Rattle.rewriting.specs.Overlap.{Rule}
+use Rattle.rewriting.specs.Rewrite.{End, neither_above, spent, too_large, rules_full, log_full, Paid, done, stop, return, end_with}
+use Rattle.rewriting.specs.Rewrite.{and_then, ◌>>=◌, end_if, pay, normalise_pair, Paying}
 use Rattle.rewriting.proofs.Holds.{Holds, Pays, bind_holds, return_holds, and_then_assoc}
 use Rattle.problem.specs.Problem.{rank_of, Theory}
-use Rattle.completion.specs.Turn.{Candidate, State, Taken, if_different, scan_inputs, scan, unmarked}
-use Rattle.completion.specs.Turn.{take_pair, orient, kept, removed, waits_again, if_oriented, make_rule, settled, end_if_all_put_back}
-use Rattle.completion.specs.Turn.{turn}
+use Rattle.completion.specs.Turn.{Candidate, State, Taken, if_different, scan_inputs, scan, take_pair, orient, kept, removed}
+use Rattle.completion.specs.Turn.{waits_again, if_oriented, make_rule, settled, end_if_all_put_back, turn}
 
 -- 1. "Pay a unit": with none left, the end is 21.
 pub turn_unpaid : (T : Theory) (s : State) → turn T s 0 ≡ stop spent 0
@@ -45,16 +44,6 @@ pub scan_takes_input : (rules : List Rule) (c : Candidate) (cs : List Candidate)
 unfolding scan scan_inputs ◌>>=◌ and_then if_different if◌then◌else◌ return
 scan_takes_input rules c cs forms units left h d = rw (h, d) refl
 
--- Nine, 1. "the scan passes over those", and over no others;
-pub marked_passed_over : (marks : Key) (at : Place) (ps : List Place) → up_to (place_key at) marks ≡ true → unmarked marks (at ∷ ps) ≡ unmarked marks ps
-unfolding unmarked if◌then◌else◌
-marked_passed_over marks at ps h = rw h refl
-
-pub unmarked_scanned : (marks : Key) (at : Place) (ps : List Place) → up_to (place_key at) marks ≡ false →
-    unmarked marks (at ∷ ps) ≡ at ∷ unmarked marks ps
-unfolding unmarked if◌then◌else◌
-unmarked_scanned marks at ps h = rw h refl
-
 -- An end that is due is given, one that is not due is not,
 ends : (b : Bool) (e : End) (units : ℕ) → b ≡ true → end_if b e units ≡ stop e units
 unfolding end_if end_with
@@ -71,15 +60,15 @@ ends_all b e units next h = ap (λ p. and_then p next) (ends b e units h)
 
 -- Behind its unit: not every one waiting has been put back, and a pair is taken.
 abbrev pub taking : Theory → State → Paying Taken
-taking T s = end_if_all_put_back s.waiting s.put_back >>= λ _. take_pair T s.rules s.marks s.waiting
+taking T s = end_if_all_put_back s.waiting s.put_back >>= λ _. take_pair T s.rules s.waiting
 
 -- Where none waits, or fewer were put back than wait, a pair is taken;
 abbrev pub MayTake : State → Type 0
 MayTake s = (length s.waiting ≡ 0) ⊎ (s.put_back < length s.waiting)
 
-pub taking_on : (T : Theory) (s : State) (units : ℕ) → MayTake s → taking T s units ≡ take_pair T s.rules s.marks s.waiting units
+pub taking_on : (T : Theory) (s : State) (units : ℕ) → MayTake s → taking T s units ≡ take_pair T s.rules s.waiting units
 unfolding ◌>>=◌
-taking_on T s units h = ap (λ p. and_then p (λ _. take_pair T s.rules s.marks s.waiting)) (go s.waiting h) ∙ unfold and_then in refl
+taking_on T s units h = ap (λ p. and_then p (λ _. take_pair T s.rules s.waiting)) (go s.waiting h) ∙ unfold and_then in refl
   where
     go : (cs : List Candidate) → (length cs ≡ 0) ⊎ (s.put_back < length cs) → end_if_all_put_back cs s.put_back units ≡ done tt units
     go [] h = unfold end_if_all_put_back return in refl
@@ -94,8 +83,7 @@ pub record AllPutBack (s : State) : Type 0 where
 
 pub taking_ends : (T : Theory) (s : State) (units : ℕ) → AllPutBack s → taking T s units ≡ stop neither_above units
 unfolding ◌>>=◌
-taking_ends T s units h =
-    ap (λ p. and_then p (λ _. take_pair T s.rules s.marks s.waiting)) (go s.waiting h.some h.all) ∙ unfold and_then in refl
+taking_ends T s units h = ap (λ p. and_then p (λ _. take_pair T s.rules s.waiting)) (go s.waiting h.some h.all) ∙ unfold and_then in refl
   where
     go : (cs : List Candidate) → 0 < length cs → length cs ≤ s.put_back → end_if_all_put_back cs s.put_back units ≡ stop neither_above units
     go [] h k = absurd (omega arith)
@@ -109,7 +97,7 @@ behind_taking T s t =
 pub turn_takes : (T : Theory) (s : State) (units : ℕ) → turn T s (suc units) ≡ and_then (taking T s units) (behind_taking T s)
 unfolding turn ◌>>=◌ pay and_then
 turn_takes T s units =
-    sym (and_then_assoc (end_if_all_put_back s.waiting s.put_back units) (λ _. take_pair T s.rules s.marks s.waiting) (behind_taking T s))
+    sym (and_then_assoc (end_if_all_put_back s.waiting s.put_back units) (λ _. take_pair T s.rules s.waiting) (behind_taking T s))
 
 -- 2. "24 when a 513th log entry is due, at step 2 of the turn"
 pub turn_log_full : (T : Theory) (s : State) (units : ℕ) (t : Taken) (left : ℕ) → taking T s units ≡ done t left →
@@ -136,7 +124,6 @@ next_state s t sides rules = record {
   waiting = t.waiting ++ removed (new_rule s sides) s.rules;
   log = s.log ++ (record { origin = t.pair.origin; made = suc s.made } ∷ []);
   put_back = 0;
-  marks = t.marks;
 }
 
 -- whatever is paid for, with any answer and any end

@@ -3,8 +3,7 @@
 use mathlib.Core.Path.{◌≡◌, refl, sym, ap, subst, ◌∙◌}
 use mathlib.Core.Bool.{Bool, true, false}
 use mathlib.Core.Logic.{inl, inr}
-use mathlib.Core.List.Memᴰ
-use mathlib.Core.List.{List, [], ◌∷◌, ◌++◌, append_assoc, append-nil, Memᴰ}
+use mathlib.Core.List.{List, [], ◌∷◌, ◌++◌, Memᴰ}
 use mathlib.Core.Option.{Option, none, some}
 use Prim.Native.Nat.{ℕ, suc, ◌≤◌, ◌<◌}
 use native.Mathlib.Omega.{arith}
@@ -12,45 +11,22 @@ use lib.ListN.{length}
 use borrow.Author.Tests.{ltb-true, ltb-false, leb-true, leb-false}
 use Rattle.completion.proofs.Sentences.{MayTake, new_rule, next_state}
 use Rattle.terms.specs.Term.{Pair, same, pair_variables, renamed}
-use Rattle.terms.proofs.Shape.{none≢some, some_inj, same_dec, either_has}
+use Rattle.terms.proofs.Shape.{none≢some, some_inj, same_dec}
 use Rattle.terms.specs.Base.{if◌then◌else◌, Every, of_none, of_cons}
 use Rattle.terms.proofs.Below.{swapped}
-use Rattle.terms.proofs.Every.{every_in, every_of, every_one, every_append}
+use Rattle.terms.proofs.Every.{every_of}
 use Rattle.order.specs.Order.{above}
-use Rattle.rewriting.specs.Overlap.{Rule, Overlap, overlap, Place, all_places, Key, place_key, up_to}
+use Rattle.rewriting.specs.Overlap.{Rule, Overlap, overlap, Place, all_places}
 use Rattle.rewriting.specs.Rewrite.{End, complete, neither_above, spent, too_large, rules_full, log_full, Paying, normalise_pair}
 use Rattle.rewriting.proofs.Covers.{HoldsAt}
-use Rattle.rewriting.proofs.Holds.{Form, Forms, Pays, bind_holds, pays_weaker, return_holds, end_with_holds, end_if_holds, if_holds, pay_holds}
-use Rattle.rewriting.proofs.Holds.{hold_holds, normalise_holds, normalise_pair_holds}
+use Rattle.rewriting.proofs.Holds.{Form, Forms, Pays, bind_holds, pays_weaker, return_holds, end_with_holds, end_if_holds, if_holds, pay_holds, hold_holds}
+use Rattle.rewriting.proofs.Holds.{normalise_holds, normalise_pair_holds}
 use Rattle.problem.specs.Problem.{rank_of, Theory}
-use Rattle.completion.specs.Turn.{Origin, overlapping, Candidate, State, Taken, scan_overlap, if_different, if_different_overlap, scan_inputs}
-use Rattle.completion.specs.Turn.{candidates, scanned_input, scan, unmarked, last_key, marks_behind, take_pair, orient, normalise_rights}
-use Rattle.completion.specs.Turn.{if_oriented, make_rule, end_if_all_put_back, turn}
-use Rattle.completion.proofs.Ends.{none≢waiting, inputs, Scanned, Source, of_waiting, of_overlap, of_input, to_scan, Takes, as_taken, other_way}
-use Rattle.completion.proofs.Ends.{OrientedAs, Due, Marking, as_before, at_overlap, past_all, Rights, none_yet, one_more, older_rules, Next}
-use Rattle.completion.proofs.Ends.{settles, makes, puts_back, SameForm, SameAt, OverlapsSame, SameCandidate, Certified, Large, in_taking}
-use Rattle.completion.proofs.Ends.{in_overlap, in_right, variables, Because}
-
--- What holds of all places holds of those that are not marked.
-pub unmarked_every : {Q : Place → Type 0} (marks : Key) {ps : List Place} → Every Q ps → Every Q (unmarked marks ps)
-unfolding unmarked
-unmarked_every marks of_none = of_none
-unmarked_every {Q} marks (of_cons {x = at} {l = ps} q h) =
-    either_has (Every Q) (up_to (place_key at) marks) (unmarked marks ps) (at ∷ unmarked marks ps)
-    (unmarked_every marks h) (of_cons q (unmarked_every marks h))
-
--- The last place to which a scan comes is one of all.
-pub last_in : (s : State) (front : List Place) (at : Place) → to_scan s ≡ front ++ (at ∷ []) → Memᴰ at (all_places [] s.rules)
-last_in s front at e =
-    every_in (unmarked_every s.marks (every_of (all_places [] s.rules) (λ at i. i)))
-    (subst (Memᴰ at) (sym e) (Memᴰ.append_right front (Memᴰ.head refl)))
-
--- Behind an input that is taken all places are marked.
-inputs_behind : (marks : Key) (ps : List Place) (n : ℕ) (es : List Pair) →
-    Every (λ (c : Candidate). marks_behind marks ps c.origin ≡ last_key marks ps) (candidates scanned_input n es)
-unfolding candidates marks_behind
-inputs_behind marks ps n [] = of_none
-inputs_behind marks ps n (e ∷ es) = of_cons refl (inputs_behind marks ps (suc n) es)
+use Rattle.completion.specs.Turn.{overlapping, Candidate, State, Taken, scan_overlap, if_different, if_different_overlap, scan_inputs}
+use Rattle.completion.specs.Turn.{scan, take_pair, orient, normalise_rights, if_oriented, make_rule, end_if_all_put_back, turn}
+use Rattle.completion.proofs.Ends.{none≢waiting, inputs, Scanned, Source, of_waiting, of_overlap, of_input, Takes, as_taken, other_way, OrientedAs, Due}
+use Rattle.completion.proofs.Ends.{Rights, none_yet, one_more, older_rules, Next, settles, makes, puts_back, SameForm, SameAt, OverlapsSame}
+use Rattle.completion.proofs.Ends.{SameCandidate, Certified, Large, in_taking, in_overlap, in_right, variables, Because}
 
 module _ (T : Theory) (s : State) where
   abbrev pub E : End → ℕ → Type 0
@@ -69,38 +45,32 @@ module _ (T : Theory) (s : State) where
   forms c cs h =
       normalise_pair_holds E s.rules out_of_units c.sides (λ o. large (in_taking c cs h _ (inl refl) o)) (λ o. large (in_taking c cs h _ (inr refl) o))
 
-  -- what the scan finds, and the marks behind it
-  abbrev pub behind : Origin → Key
-  behind o = marks_behind s.marks (to_scan s) o
-
+  -- what the scan finds
   pub record Found (c : Candidate) : Type 0 where
     pub of : Candidate
     pub source : Source T s of []
     pub origin : c.origin ≡ of.origin
     pub forms : Forms s.rules of.sides c.sides
     pub differ : same c.sides.left c.sides.right ≡ false
-    pub marking : Marking s of (behind c.origin)
 
   same_form : (e f : Pair) → f.left ≡ f.right → Forms s.rules e f → SameForm s.rules e
   same_form e f q h = record { to = f.right; left = subst (Form s.rules e.left) q h.left; right = h.right }
 
-  different : (c : Candidate) (f : Pair) (next : Paying Candidate) → Source T s c [] → Marking s c (behind c.origin) → Forms s.rules c.sides f →
+  different : (c : Candidate) (f : Pair) (next : Paying Candidate) → Source T s c [] → Forms s.rules c.sides f →
       (SameForm s.rules c.sides → Pays Found E next) →
       Pays Found E (if_different c.origin f next)
   unfolding if_different
-  different c f next h m k go =
+  different c f next h k go =
       if_holds _ _ _ (λ b. go (same_form c.sides f ((same_dec f.left f.right).0 b) k))
-      (λ b. return_holds _ (record { of = c; source = h; origin = refl; forms = k; differ = b; marking = m }))
+      (λ b. return_holds _ (record { of = c; source = h; origin = refl; forms = k; differ = b }))
 
-  scan_inputs_traced : s.waiting ≡ [] → OverlapsSame s → (cs : List Candidate) → Every (λ c. Memᴰ c (inputs T)) cs →
+  scan_inputs_traced : s.waiting ≡ [] → OverlapsSame s.rules → (cs : List Candidate) → Every (λ c. Memᴰ c (inputs T)) cs →
       (Every (SameCandidate s.rules) cs → Certified T s) → Pays Found E (scan_inputs s.rules cs)
   unfolding scan_inputs Because
   scan_inputs_traced w a [] of_none k = end_with_holds complete (λ _. k of_none)
   scan_inputs_traced w a (c ∷ cs) (of_cons i h) k =
       bind_holds _ _ (forms c [] (of_input w a i refl)) λ f g.
-      different c f (scan_inputs s.rules cs) (of_input w a i refl)
-      (past_all a (every_in (inputs_behind s.marks (to_scan s) 1 T.equations) i)) g λ q. scan_inputs_traced w a cs h
-      (λ qs. k (of_cons q qs))
+      different c f (scan_inputs s.rules cs) (of_input w a i refl) g λ q. scan_inputs_traced w a cs h (λ qs. k (of_cons q qs))
 
   -- an overlap and its forms
   abbrev place_candidate : Place → Overlap → Candidate
@@ -123,51 +93,33 @@ module _ (T : Theory) (s : State) where
       return_holds (some f) (o, refl, from, g)
 
   different_overlap : (at : Place) (o : Option Overlap) (f : Option Pair) (next : Paying Candidate) → Formed at o f →
-      ((v : Overlap) → o ≡ some v → Marking s (place_candidate at v) (place_key at)) →
       (((v : Overlap) → o ≡ some v → SameForm s.rules (renamed v.sides)) → Pays Found E next) → Pays Found E (if_different_overlap at f next)
-  unfolding if_different_overlap marks_behind place_key
-  different_overlap at o none next h m go = go (λ v e. absurd (none≢some (sym h ∙ e)))
-  different_overlap at o (some f) next h m go =
-      different (place_candidate at h.0) f next h.2 (m h.0 h.1) h.3 λ q. go
+  unfolding if_different_overlap
+  different_overlap at o none next h go = go (λ v e. absurd (none≢some (sym h ∙ e)))
+  different_overlap at o (some f) next h go =
+      different (place_candidate at h.0) f next h.2 h.3 λ q. go
       (λ v e. subst (λ (w : Overlap). SameForm s.rules (renamed w.sides)) (some_inj (sym h.1 ∙ e)) q)
 
-  -- The scan has come past `front`, and `ps` is still to come.
-  scan_traced : s.waiting ≡ [] → (front ps : List Place) → to_scan s ≡ front ++ ps → Every (HoldsAt (SameAt s.rules)) front →
-      Every (λ at. Memᴰ at (all_places [] s.rules)) ps → Pays Found E (scan s.rules (inputs T) ps)
+  scan_traced : s.waiting ≡ [] → (ps : List Place) → Every (λ at. Memᴰ at (all_places [] s.rules)) ps →
+      (Every (HoldsAt (SameAt s.rules)) ps → OverlapsSame s.rules) → Pays Found E (scan s.rules (inputs T) ps)
   unfolding scan
-  scan_traced w front [] e same of_none =
-      let all : OverlapsSame s = subst (Every (HoldsAt (SameAt s.rules))) (sym (append-nil front) ∙ sym e) same in
-      scan_inputs_traced w all (inputs T) (every_of _ (λ c i. i)) (λ b. record { idle = w; overlaps = all; inputs_same = b })
-  scan_traced w front (at ∷ ps) e same (of_cons i h) =
+  scan_traced w [] of_none k =
+      scan_inputs_traced w (k of_none) (inputs T) (every_of _ (λ c i. i)) (λ b. record { idle = w; overlaps = k of_none; inputs_same = b })
+  scan_traced w (at ∷ ps) (of_cons i h) k =
       bind_holds _ _ (scan_overlap_traced at (overlap at.inner.sides at.outer.sides at.position)
-      (λ v d. record { idle = w; listed = i; is = d })) λ f g.
-      different_overlap at _ f (scan s.rules (inputs T) ps) g (λ v d. at_overlap front ps at v e same i d refl refl) λ q.
-      scan_traced w (front ++ (at ∷ [])) ps (e ∙ sym (append_assoc front (at ∷ []) ps)) (every_append same (every_one q)) h
+      (λ v e. record { idle = w; listed = i; is = e })) λ f g.
+      different_overlap at _ f (scan s.rules (inputs T) ps) g λ q. scan_traced w ps h (λ qs. k (of_cons q qs))
 
-  take_traced : (waiting : List Candidate) → s.waiting ≡ waiting → Pays (Takes T s) E (take_pair T s.rules s.marks waiting)
+  take_traced : (waiting : List Candidate) → s.waiting ≡ waiting → Pays (Takes T s) E (take_pair T s.rules waiting)
   unfolding take_pair
   take_traced [] w =
-      bind_holds _ _ (scan_traced w [] (to_scan s) refl of_none (unmarked_every s.marks (every_of (all_places [] s.rules) (λ at i. i)))) λ c f.
-      return_holds _ (record {
-        of = f.of;
-        source = f.source;
-        origin = f.origin;
-        forms = f.forms;
-        scanned = λ _. f.differ;
-        marking = f.marking;
-      })
+      bind_holds _ _ (scan_traced w (all_places [] s.rules) (every_of _ (λ at i. i)) (λ a. a)) λ c f.
+      return_holds _ (record { of = f.of; source = f.source; origin = f.origin; forms = f.forms; scanned = λ _. f.differ })
   take_traced (c ∷ waiting) w =
       bind_holds _ _ (forms c waiting (of_waiting w)) λ f g.
-      return_holds _ (record {
-        of = c;
-        source = of_waiting w;
-        origin = refl;
-        forms = g;
-        scanned = λ e. absurd (none≢waiting (sym e ∙ w));
-        marking = as_before refl;
-      })
+      return_holds _ (record { of = c; source = of_waiting w; origin = refl; forms = g; scanned = λ e. absurd (none≢waiting (sym e ∙ w)) })
 
-  pub takes : Pays (Takes T s) E (take_pair T s.rules s.marks s.waiting)
+  pub takes : Pays (Takes T s) E (take_pair T s.rules s.waiting)
   takes = take_traced s.waiting refl
 
   oriented_as : (e : Pair) → OrientedAs T e (orient T e)

@@ -12,11 +12,12 @@ use lib.ListN.{length}
 use borrow.Author.Tests.{lt-leb, le-ltb}
 use Rattle.terms.specs.Base.{if◌then◌else◌}
 use Rattle.terms.specs.Term.{Pair, same, pair_variables}
-use Rattle.rewriting.specs.Overlap.{Rule, Place, all_places, Key}
-use Rattle.rewriting.specs.Rewrite.{End, rules_full, log_full, done, stop, Paying, return, and_then, ◌>>=◌, end_if, normalise_pair}
+use Rattle.rewriting.specs.Overlap.{Rule, all_places}
+use Rattle.rewriting.specs.Rewrite.{End, rules_full, log_full, done, stop, Paying, return, and_then, ◌>>=◌, end_if}
+use Rattle.rewriting.specs.Rewrite.{normalise_pair}
 use Rattle.problem.specs.Problem.{Theory}
-use Rattle.completion.specs.Turn.{scanned_input, Candidate, State, Taken, candidates, scan, unmarked, marks_behind, take_pair, orient, kept}
-use Rattle.completion.specs.Turn.{normalise_rights, if_oriented, make_rule, settled, turn, Finished, turns, run_from}
+use Rattle.completion.specs.Turn.{scanned_input, Candidate, State, Taken, candidates, scan, take_pair, orient, kept, normalise_rights}
+use Rattle.completion.specs.Turn.{if_oriented, make_rule, settled, turn, Finished, turns, run_from}
 pub use Rattle.completion.proofs.Sentences.{turn_unpaid, turn_log_full, taking, AllPutBack, taking_ends, MayTake, taking_on, new_rule, next_state}
 pub use Rattle.completion.proofs.Sentences.{make_many_variables, make_waits_again, make_many_rules}
 use Rattle.completion.proofs.Sentences.{turn_takes, behind_taking, make_oriented}
@@ -77,33 +78,30 @@ module _ (T : Theory) (s : State) (t : Taken) (units : ℕ) (few : length (pair_
   make_done live rules now r = past_rules live ∙ ap (λ p. and_then p (λ rules. return (next_state s t sides rules))) r
 
 -- Step 1: the scan, or the oldest waiting equation.
-module _ (T : Theory) (rules : List Rule) (marks : Key) (units : ℕ) where
-  abbrev to_come : List Place
-  to_come = unmarked marks (all_places [] rules)
-
+module _ (T : Theory) (rules : List Rule) (units : ℕ) where
   abbrev scanned : Candidate → Paying Taken
-  scanned c = return (record { pair = c; waiting = []; marks = marks_behind marks to_come c.origin })
+  scanned c = return (record { pair = c; waiting = [] })
 
-  pub take_scan_stops : (e : End) (left : ℕ) → scan rules (candidates scanned_input 1 T.equations) to_come units ≡ stop e left →
-      take_pair T rules marks [] units ≡ stop e left
+  pub take_scan_stops : (e : End) (left : ℕ) → scan rules (candidates scanned_input 1 T.equations) (all_places [] rules) units ≡ stop e left →
+      take_pair T rules [] units ≡ stop e left
   unfolding take_pair ◌>>=◌ and_then
   take_scan_stops e left h = ap (λ p. and_then p scanned) h
 
-  pub take_scan : (c : Candidate) (left : ℕ) → scan rules (candidates scanned_input 1 T.equations) to_come units ≡ done c left →
-      take_pair T rules marks [] units ≡ done (record { pair = c; waiting = []; marks = marks_behind marks to_come c.origin }) left
+  pub take_scan : (c : Candidate) (left : ℕ) → scan rules (candidates scanned_input 1 T.equations) (all_places [] rules) units ≡ done c left →
+      take_pair T rules [] units ≡ done (record { pair = c; waiting = [] }) left
   unfolding take_pair ◌>>=◌ and_then return
   take_scan c left h = ap (λ p. and_then p scanned) h
 
   module _ (c : Candidate) (cs : List Candidate) where
     abbrev oldest : Pair → Paying Taken
-    oldest forms = return (record { pair = record { origin = c.origin; sides = forms }; waiting = cs; marks = marks })
+    oldest forms = return (record { pair = record { origin = c.origin; sides = forms }; waiting = cs })
 
-    pub take_waiting_stops : (e : End) (left : ℕ) → normalise_pair rules c.sides units ≡ stop e left → take_pair T rules marks (c ∷ cs) units ≡ stop e left
+    pub take_waiting_stops : (e : End) (left : ℕ) → normalise_pair rules c.sides units ≡ stop e left → take_pair T rules (c ∷ cs) units ≡ stop e left
     unfolding take_pair ◌>>=◌ and_then
     take_waiting_stops e left h = ap (λ p. and_then p oldest) h
 
     pub take_waiting : (forms : Pair) (left : ℕ) → normalise_pair rules c.sides units ≡ done forms left →
-        take_pair T rules marks (c ∷ cs) units ≡ done (record { pair = record { origin = c.origin; sides = forms }; waiting = cs; marks = marks }) left
+        take_pair T rules (c ∷ cs) units ≡ done (record { pair = record { origin = c.origin; sides = forms }; waiting = cs }) left
     unfolding take_pair ◌>>=◌ and_then return
     take_waiting forms left h = ap (λ p. and_then p oldest) h
 

@@ -1,5 +1,4 @@
 pub mod Turn
-pub mod Numbered
 pub mod Calls
 pub mod Settle
 pub mod Delivery

@@ -7,7 +7,7 @@ use Rattle.terms.specs.Base.{if◌then◌else◌, is_some}
 use Rattle.terms.specs.Term.{Pair, same, pair_variables, renamed}
 use Rattle.problem.specs.Problem.{rank_of, Theory, Problem, theory}
 use Rattle.order.specs.Order.{above}
-use Rattle.rewriting.specs.Overlap.{Rule, Overlap, overlap, Place, all_places, Key, key_of, place_key, up_to}
+use Rattle.rewriting.specs.Overlap.{Rule, Overlap, overlap, Place, all_places}
 use Rattle.rewriting.specs.Rewrite.{step, End, complete, neither_above, spent, too_large, rules_full, log_full, done, stop, Paying, return, end_with}
 use Rattle.rewriting.specs.Rewrite.{◌>>=◌, end_if, pay, hold, normalise, normalise_pair}
 
@@ -36,18 +36,13 @@ pub record Entry : Type 0 where
 -- the log and the units." Places are the representation's.
 -- The rules stand ascending and the waiting list oldest first. The units that are left go beside the state, as `Paying` hands them on.
 -- `put_back` counts the equations put back "since a rule was last made or an equation settled"; proofs/PutBack says which of the waiting list they are.
--- Document 02, Nine: "Each pair of live rules, a rule with itself included, now records its overlaps settled or taken, and the scan passes over those."
--- The scan comes to the places in one order and stops at the one that it takes, and those of a new rule come last: so the marked ones are always all
--- up to some place. `marks` is the key of that place, [] while none is marked. A key has numbers of rules and a position only: "Removing a rule removes
--- its marks; a changed right side keeps them", and a new rule, whose number is new, has none; proofs/MarksMean has the sentence itself.
--- [8.1, 8.2, 8.9, 8.10]
+-- [8.1, 8.2, 8.9]
 pub record State : Type 0 where
   pub rules : List Rule
   pub made : ℕ
   pub waiting : List Candidate
   pub log : List Entry
   pub put_back : ℕ
-  pub marks : Key
 
 -- "Equations are numbered from 1." "Every equation and rule held is so renamed." [2.11, 3.8]
 unfoldable pub candidates : (ℕ → Origin) → ℕ → List Pair → List Candidate
@@ -56,7 +51,7 @@ candidates origin n (e ∷ es) = record { origin = origin n; sides = renamed e }
 
 -- "the waiting list (at first the equations in order)" [8.3, 8.4]
 unfoldable pub initial : Theory → State
-initial T = record { rules = []; made = 0; waiting = candidates waiting_input 1 T.equations; log = []; put_back = 0; marks = [] }
+initial T = record { rules = []; made = 0; waiting = candidates waiting_input 1 T.equations; log = []; put_back = 0 }
 
 -- Step 1, the scan. "Test the size of the peak, of the left, of the right, then normalise left, then right."
 -- "Every equation and rule held is so renamed": the pair is renamed first, so no answer depends on which most general unifier was found.
@@ -94,40 +89,19 @@ scan rules inputs (at ∷ places) = do
   forms ← scan_overlap rules (overlap at.inner.sides at.outer.sides at.position)
   if_different_overlap at forms (scan rules inputs places)
 
--- the places that are not marked: "the scan passes over those" [9.21]
-unfoldable pub unmarked : Key → List Place → List Place
-unmarked marks [] = []
-unmarked marks (at ∷ places) =
-    let rest : List Place = unmarked marks places in
-    if up_to (place_key at) marks then rest else (at ∷ rest)
-
--- "records its overlaps settled or taken": behind a scan all places are marked to which it came. These are those up to the overlap that it took; where it
--- took an input, all. [9.22]
-unfoldable pub last_key : Key → List Place → Key
-last_key marks [] = marks
-last_key marks (at ∷ places) = last_key (place_key at) places
-
-unfoldable pub marks_behind : Key → List Place → Origin → Key
-marks_behind marks places (overlapping inner outer p) = key_of inner outer p
-marks_behind marks places (waiting_input n) = last_key marks places
-marks_behind marks places (removed_rule n) = last_key marks places
-marks_behind marks places (scanned_input n) = last_key marks places
-
--- What a turn takes: the pair, as its normal forms, the equations that still wait, and the marks then.
+-- What a turn takes: the pair, as its normal forms, and the equations that still wait.
 pub record Taken : Type 0 where
   pub pair : Candidate
   pub waiting : List Candidate
-  pub marks : Key
 
 -- Step 1. "Take the oldest waiting equation and normalise left, then right. If none waits, scan." [9.2, 9.3]
-unfoldable pub take_pair : Theory → List Rule → Key → List Candidate → Paying Taken
-take_pair T rules marks [] = do
-  let places : List Place = unmarked marks (all_places [] rules)
-  c ← scan rules (candidates scanned_input 1 T.equations) places
-  return (record { pair = c; waiting = []; marks = marks_behind marks places c.origin })
-take_pair T rules marks (c ∷ waiting) = do
+unfoldable pub take_pair : Theory → List Rule → List Candidate → Paying Taken
+take_pair T rules [] = do
+  c ← scan rules (candidates scanned_input 1 T.equations) (all_places [] rules)
+  return (record { pair = c; waiting = [] })
+take_pair T rules (c ∷ waiting) = do
   forms ← normalise_pair rules c.sides
-  return (record { pair = record { origin = c.origin; sides = forms }; waiting = waiting; marks = marks })
+  return (record { pair = record { origin = c.origin; sides = forms }; waiting = waiting })
 
 -- Step 5. "The upper side becomes a new rule's left side." None: neither side is above. [9.12]
 unfoldable pub orient : Theory → Pair → Option Pair
@@ -170,7 +144,6 @@ waits_again s t = record {
   waiting = t.waiting ++ (record { origin = t.pair.origin; sides = renamed t.pair.sides } ∷ []);
   log = s.log ++ (record { origin = t.pair.origin; made = made_put_back } ∷ []);
   put_back = suc s.put_back;
-  marks = t.marks;
 }
 
 -- Steps 5 to 7, of the new rule's sides if one side is above. "Each older rule, ascending, whose left side the new rule rewrites is removed .. Over 32
@@ -188,7 +161,6 @@ if_oriented s t (some sides) = do
     waiting = t.waiting ++ removed new s.rules;
     log = s.log ++ (record { origin = t.pair.origin; made = new.number } ∷ []);
     put_back = 0;
-    marks = t.marks;
   })
 
 -- Steps 4 to 7. "The taken pair has at most 16 different variables, else 22." [9.10]
@@ -205,7 +177,6 @@ settled s t = record {
   waiting = t.waiting;
   log = s.log ++ (record { origin = t.pair.origin; made = 0 } ∷ []);
   put_back = 0;
-  marks = t.marks;
 }
 
 -- "End 20 is given exactly when some equation waits and every one waiting has been put back since a rule was last made or an equation settled. This is
@@ -221,7 +192,7 @@ unfoldable pub turn : Theory → State → Paying State
 turn T s = do
   _ ← pay
   _ ← end_if_all_put_back s.waiting s.put_back
-  t ← take_pair T s.rules s.marks s.waiting
+  t ← take_pair T s.rules s.waiting
   _ ← end_if (leb most_entries (length s.log)) log_full
   if same t.pair.sides.left t.pair.sides.right then return (settled s t) else make_rule T s t
 

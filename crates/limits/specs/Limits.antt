@@ -138,12 +138,6 @@ symbols_width = field_head + 2 * most_symbols
 abbrev pub waiting_width : ℕ
 waiting_width = field_head + origin_width + most_pair
 
--- The key of a place: three numbers of rules in two bytes each, and a position in one. 7
-abbrev pub key_width : ℕ
-key_width = 2 + 2 + 2 + 1
-
--- A saved record at most, 17,791 bytes: the symbols, the equations, the next rule number, rules and waiting equations, the log, the count and the marks.
+-- A saved record at most, 17,781 bytes: the symbols, the equations, the next rule number, rules and waiting equations, the log and the count.
 abbrev pub longest_saved : ℕ
-longest_saved =
-    symbols_width + forms_width * most_equations + (field_head + 2) + waiting_width * most_pairs + entry_width * most_entries + (field_head + 1)
-    + (field_head + key_width)
+longest_saved = symbols_width + forms_width * most_equations + (field_head + 2) + waiting_width * most_pairs + entry_width * most_entries + (field_head + 1)

@@ -89,6 +89,3 @@ pub const ORIGIN: usize = 6;
 
 // The field of a log entry: an origin, and the number of the rule made in two bytes. 11
 pub const ENTRY: usize = FIELD_HEAD + ORIGIN + 2;
-
-// The key of a place: three numbers of rules in two bytes each, and a position in one. 7
-pub const KEY: usize = 7;

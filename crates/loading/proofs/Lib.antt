@@ -1,5 +1,3 @@
 mod Singles
 mod Equations
-mod KeyField
-mod Ending
 mod Whole

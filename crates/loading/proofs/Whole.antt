@@ -1,37 +1,72 @@
--- The parts of a saved record, one behind the other: `read_pairs` and `read_checkpoint`, a lemma for each return. Assumes nothing.
--- Read first: specs/Loads (read_pairs, FrontAt, LoadedAt), checkpoint/specs/Checkpoint (read_checkpoint), proofs/Ending.
-use mathlib.Core.Path.{◌≡◌, refl, sym, subst, ◌∙◌}
-use mathlib.Core.Bool.{true}
-use mathlib.Core.List.{List, ◌++◌, map}
+-- The parts of a saved record, one behind the other: `read_end`, `read_pairs` and `read_checkpoint`, a lemma for each return. Assumes nothing.
+-- Read first: specs/Loads (read_end, read_pairs, FrontAt, LoadedAt), checkpoint/specs/Checkpoint (read_checkpoint).
+use mathlib.Core.Path.{◌≡◌, refl, ap, sym, subst, ◌∙◌}
+use mathlib.Core.Bool.{Bool, true, false}
+use mathlib.Core.List.{List, [], ◌∷◌, ◌++◌, map}
 use mathlib.Core.Option.{none}
-use Prim.Native.Nat.{ℕ, ◌+◌, ◌-◌, ◌<◌, ◌≤◌}
+use Prim.Native.Nat.{ℕ, suc, ◌+◌, ◌-◌, ◌<◌, ◌≤◌}
 use native.Mathlib.Omega.{arith}
-use lib.ListN.{length, drop, length-map}
+use lib.ListN.{length, drop, length-drop, length-map}
 use borrow.Author.Tests.{lt-ltb, le-ltb}
-use Rattle.limits.specs.Limits.{most_equations, most_rules, most_pairs, most_saved}
+use Rattle.limits.specs.Limits.{most_equations, most_rules, most_pairs, most_entries, most_saved}
 use Rattle.terms.specs.Term.{Pair}
 use Rattle.reading.specs.Stops.{long_problem, wrong_saved}
 use Rattle.reading.specs.Answers.{symbols_of}
 use Rattle.reading.proofs.Reading.{bind_ok, bind_refused, refuses}
-use Rattle.problem.specs.Problem.{Reading, refused, ◌>>=◌, symbol_field, Theory}
+use Rattle.problem.specs.Problem.{Reading, ok, refused, ◌>>=◌, refuse_if, symbol_field, Theory}
 use Rattle.problem.specs.Parser.{SymbolsAt}
-use Rattle.rewriting.specs.Overlap.{Rule, Key as PlaceKey}
+use Rattle.rewriting.specs.Overlap.{Rule}
 use Rattle.slots.specs.Slots.{Marked}
 use Rattle.completion.specs.Turn.{Candidate, Entry}
-use Rattle.items.specs.Fields.{fields_there, read_rule_at}
+use Rattle.items.specs.Fields.{fields_there, read_rule_at, rules_of}
 use Rattle.items.specs.Written.{row}
-use Rattle.items.specs.Readers.{part, OneBad, There, ThereBad, rules_at, InSlots}
+use Rattle.items.specs.Readers.{part, OneAt, OneBad, There, ThereBad, rules_at, InSlots}
 use Rattle.items.proofs.Slotted.{length_rules_at, rules_of_at}
-use Rattle.checkpoint.specs.Checkpoint.{Checkpoint, read_equation, read_next, read_waiting, read_checkpoint}
-use Rattle.keys.specs.declared.Key.{Key}
-use Rattle.keys.specs.Keys.{key_list}
+use Rattle.checkpoint.specs.Checkpoint.{Checkpoint, read_equation, read_next, read_waiting, read_entry, read_put_back, few_entries, read_checkpoint}
 use Rattle.inputs.specs.Inputs.{marked}
 use Rattle.candidates.specs.Candidates.{InRows}
 use Rattle.loading.specs.declared.Front.{Front}
-use Rattle.loading.specs.Loads.{read_last, read_end, EndIs, PairsAre, read_pairs, FrontAt, LoadedAt}
+use Rattle.loading.specs.Loads.{read_end, EndIs, PairsAre, read_pairs, FrontAt, LoadedAt}
 use Rattle.loading.proofs.Singles.{first_one}
 use Rattle.loading.proofs.Equations.{equations_stand}
-use Rattle.loading.proofs.Ending.{goes_on, EndRefused}
+
+goes_on : {A : Type 0} (b : Bool) (n at : ℕ) (f : Unit {0} → Reading A) → b ≡ false → (refuse_if b n at >>= f) ≡ f tt
+unfolding refuse_if ◌>>=◌
+goes_on b n at f e = rw e refl
+
+-- `read_end`
+module _ (l : List ℕ) (at next waiting : ℕ) where
+  -- whatever is made of what is read, it is refused at p
+  abbrev EndRefused : ℕ → Type 0
+  EndRefused p = (k : List Entry → ℕ → Checkpoint) → read_end k next waiting at (drop at l) ≡ refused wrong_saved p
+
+  pub end_bad : (p : ℕ) → ThereBad 0x13 (λ _ f. read_entry f) most_entries l at p → EndRefused p
+  unfolding read_end
+  end_bad p B k = bind_refused _ (B wrong_saved)
+
+  module _ (es : List Entry) (e : ℕ) (L : There 0x13 (λ _ f. read_entry f) most_entries l at e es) where
+    pub end_few : suc (length es) < next → EndRefused e
+    unfolding read_end few_entries
+    end_few h k = bind_ok _ (L.is wrong_saved) ∙ refuses _ wrong_saved e _ (lt-ltb (suc (length es)) next h)
+
+    module _ (enough : next ≤ suc (length es)) where
+      pub end_unread : (p : ℕ) → OneBad 0x22 (read_put_back waiting) l e p → EndRefused p
+      unfolding read_end few_entries
+      end_unread p B k =
+          bind_ok _ (L.is wrong_saved) ∙ goes_on _ wrong_saved e _ (le-ltb (suc (length es)) next enough) ∙ bind_refused _ (B wrong_saved)
+
+      module _ (back : ℕ) (B : OneAt 0x22 (read_put_back waiting) l e back (e + 4)) where
+        pub end_more : e + 4 < length l → EndRefused (e + 4)
+        unfolding read_end few_entries
+        end_more h k =
+            bind_ok _ (L.is wrong_saved) ∙ goes_on _ wrong_saved e _ (le-ltb (suc (length es)) next enough) ∙ bind_ok _ (B.is wrong_saved)
+            ∙ refuses _ wrong_saved (e + 4) _ (lt-ltb 0 (length (drop (e + 4) l)) (omega (arith, length-drop (e + 4) l)))
+
+        pub end_fine : length l ≤ e + 4 → (k : List Entry → ℕ → Checkpoint) → read_end k next waiting at (drop at l) ≡ ok (k es back)
+        unfolding read_end few_entries
+        end_fine h k =
+            bind_ok _ (L.is wrong_saved) ∙ goes_on _ wrong_saved e _ (le-ltb (suc (length es)) next enough) ∙ bind_ok _ (B.is wrong_saved)
+            ∙ goes_on _ wrong_saved (e + 4) _ (le-ltb 0 (length (drop (e + 4) l)) (omega (arith, length-drop (e + 4) l)))
 
 -- `read_pairs`
 module _ (tab l : List ℕ) (at next : ℕ) where
@@ -81,9 +116,9 @@ module _ (tab l : List ℕ) (at next : ℕ) where
       }
 
 -- the record's state, from its parts
-abbrev made_of : Theory → ℕ → List Rule → List Candidate → List Entry → ℕ → PlaceKey → Checkpoint
-made_of T next rules waiting log back marks =
-    record { theory = T; state = record { rules = rules; made = next - 1; waiting = waiting; log = log; put_back = back; marks = marks } }
+abbrev made_of : Theory → ℕ → List Rule → List Candidate → List Entry → ℕ → Checkpoint
+made_of T next rules waiting log back =
+    record { theory = T; state = record { rules = rules; made = next - 1; waiting = waiting; log = log; put_back = back } }
 
 -- the front, and what is read behind it
 module _ (l : List ℕ) (front : Front) (F : FrontAt l front) where
@@ -97,7 +132,7 @@ module _ (l : List ℕ) (front : Front) (F : FrontAt l front) where
   behind rules waiting at bytes = read_end (made_of T front.next rules waiting) front.next (length waiting) at bytes
 
   front_then : read_checkpoint l ≡ read_pairs behind (symbols_of tab) front.next (front.end + 5) (drop (front.end + 5) l)
-  unfolding read_checkpoint read_pairs read_end read_last
+  unfolding read_checkpoint read_pairs read_end
   front_then =
       goes_on _ long_problem most_saved _ (le-ltb most_saved (length l) F.small) ∙ bind_ok _ ((first_one l front.table F.table).is wrong_saved)
       ∙ bind_ok _ (F.there.is wrong_saved) ∙ bind_ok _ (F.next.is wrong_saved)
@@ -115,12 +150,12 @@ module _ (l : List ℕ) (front : Front) (F : FrontAt l front) where
     pub end_refused : (p : ℕ) → EndRefused l e front.next (count - live) p → read_checkpoint l ≡ refused wrong_saved p
     end_refused p B = pairs_then ∙ B _
 
-    pub loaded : (log : List ℕ) (entries back : ℕ) (passed : Key) → EndIs l e front.next (count - live) log entries back passed →
-        (c : Checkpoint) × LoadedAt l front slots log (record { live = live; pairs = count; entries = entries; back = back; passed = passed }) c
-    loaded log entries back passed E =
-        let k : List Entry → ℕ → PlaceKey → Checkpoint = made_of T front.next P.rules P.waiting in
+    pub loaded : (log : List ℕ) (entries back : ℕ) → EndIs l e front.next (count - live) log entries back →
+        (c : Checkpoint) × LoadedAt l front slots log (record { live = live; pairs = count; entries = entries; back = back }) c
+    loaded log entries back E =
+        let k : List Entry → ℕ → Checkpoint = made_of T front.next P.rules P.waiting in
         let some = F.next_some in (
-          k E.entered back (key_list passed),
+          k E.entered back,
           record {
             is = pairs_then ∙ E.is k;
             small = F.small;
@@ -140,8 +175,6 @@ module _ (l : List ℕ) (front : Front) (F : FrontAt l front) where
             next_few = E.next_few;
             back_is = refl;
             back_few = omega (arith, E.back_few, P.count_few);
-            marks_are = refl;
-            proper = E.proper;
           },
         )
 

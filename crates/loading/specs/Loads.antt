@@ -9,23 +9,18 @@ use Rattle.reading.specs.Stops.{long_problem, wrong_saved}
 use Rattle.reading.specs.Answers.{symbols_of}
 use Rattle.problem.specs.Problem.{Reading, ok, refused, ◌>>=◌, refuse_if, Symbol, symbol_field}
 use Rattle.problem.specs.Parser.{SymbolsAt}
-use Rattle.rewriting.specs.Overlap.{Rule, Key as PlaceKey}
+use Rattle.rewriting.specs.Overlap.{Rule}
 use Rattle.completion.specs.Turn.{Candidate, Entry}
 use Rattle.items.specs.Fields.{one_field, fields_there, read_rule_at, rules_of}
 use Rattle.items.specs.Written.{row, logged_width, logged}
 use Rattle.items.specs.Readers.{part, OneAt, OneBad, There, ThereBad, rules_at}
 use Rattle.items.specs.declared.Outcome.{Outcome}
 use Rattle.items.specs.declared.Outcome.TheVariants.{Value, Bad}
-use Rattle.checkpoint.specs.Checkpoint.{Checkpoint, read_equation, read_next, read_waiting, read_entry, read_put_back, read_marks, few_entries}
-use Rattle.checkpoint.specs.Checkpoint.{read_checkpoint}
-use Rattle.keys.specs.declared.Key.{Key}
-use Rattle.keys.specs.Keys.{key_list, Proper}
+use Rattle.checkpoint.specs.Checkpoint.{Checkpoint, read_equation, read_next, read_waiting, read_entry, read_put_back, few_entries, read_checkpoint}
 use Rattle.inputs.specs.Inputs.{marked, InFields}
 use Rattle.candidates.specs.Candidates.{InRows}
 use Rattle.candidates.specs.declared.Group.{Group}
 use Rattle.candidates.specs.declared.Group.TheVariants.{Fine as FineGroup, Bad as BadGroup}
-use Rattle.loading.specs.declared.LastFound.{LastFound}
-use Rattle.loading.specs.declared.LastFound.TheVariants.{Fine as FineLast, Bad as BadLast}
 use Rattle.loading.specs.declared.Ended.{Ended}
 use Rattle.loading.specs.declared.Ended.TheVariants.{Fine as FineEnd, Bad as BadEnd}
 use Rattle.loading.specs.declared.PairsFound.{PairsFound}
@@ -60,43 +55,27 @@ abbrev pub IsBack : List ℕ → ℕ → ℕ → Outcome → Type 0
 IsBack l at waiting (Value back) = OneAt 0x22 (read_put_back waiting) l at back (at + 4) × (back ≤ waiting)
 IsBack l at waiting (Bad p) = OneBad 0x22 (read_put_back waiting) l at p
 
--- `read_last`: `read_checkpoint` behind its log, whatever is made of the count and the marks
-unfoldable pub read_last : (ℕ → PlaceKey → Checkpoint) → ℕ → ℕ → ℕ → List ℕ → Reading Checkpoint
-read_last k next waiting at bytes = do
-  back ← one_field wrong_saved 0x22 (read_put_back waiting) at bytes
-  marks ← one_field wrong_saved 0x23 (read_marks next) back.end back.rest
-  _ ← refuse_if (ltb 0 (length marks.rest)) wrong_saved marks.end
-  ok (k back.part marks.part)
-
-pub record LastIs (l : List ℕ) (at next waiting back : ℕ) (passed : Key) : Type 0 where
-  pub is : (k : ℕ → PlaceKey → Checkpoint) → read_last k next waiting at (drop at l) ≡ ok (k back (key_list passed))
-  pub back_few : back ≤ waiting
-  pub proper : Proper passed
-
-abbrev pub IsLast : List ℕ → ℕ → ℕ → ℕ → LastFound → Type 0
-IsLast l at next waiting (FineLast back passed) = LastIs l at next waiting back passed
-IsLast l at next waiting (BadLast p) = (k : ℕ → PlaceKey → Checkpoint) → read_last k next waiting at (drop at l) ≡ refused wrong_saved p
-
--- `read_end`: `read_checkpoint` behind its waiting equations, whatever is made of the log, the count and the marks
-unfoldable pub read_end : (List Entry → ℕ → PlaceKey → Checkpoint) → ℕ → ℕ → ℕ → List ℕ → Reading Checkpoint
+-- `read_end`: `read_checkpoint` behind its waiting equations, whatever is made of the log and the count
+unfoldable pub read_end : (List Entry → ℕ → Checkpoint) → ℕ → ℕ → ℕ → List ℕ → Reading Checkpoint
 read_end k next waiting at bytes = do
   log ← fields_there wrong_saved 0x13 (λ _ f. read_entry f) most_entries none at bytes
   _ ← refuse_if (few_entries next (length log.part)) wrong_saved log.end
-  read_last (k log.part) next waiting log.end log.rest
+  back ← one_field wrong_saved 0x22 (read_put_back waiting) log.end log.rest
+  _ ← refuse_if (ltb 0 (length back.rest)) wrong_saved back.end
+  ok (k log.part back.part)
 
-pub record EndIs (l : List ℕ) (at next waiting : ℕ) (log : List ℕ) (entries back : ℕ) (passed : Key) : Type 0 where
+pub record EndIs (l : List ℕ) (at next waiting : ℕ) (log : List ℕ) (entries back : ℕ) : Type 0 where
   pub entered : List Entry
-  pub is : (k : List Entry → ℕ → PlaceKey → Checkpoint) → read_end k next waiting at (drop at l) ≡ ok (k entered back (key_list passed))
+  pub is : (k : List Entry → ℕ → Checkpoint) → read_end k next waiting at (drop at l) ≡ ok (k entered back)
   pub entries_are : entries ≡ length entered
   pub entries_few : entries ≤ most_entries
   pub next_few : next ≤ suc entries
   pub back_few : back ≤ waiting
   pub log_is : take (logged_width * entries) log ≡ flat_map logged entered
-  pub proper : Proper passed
 
 abbrev pub IsEnd : List ℕ → ℕ → ℕ → ℕ → List ℕ → Ended → Type 0
-IsEnd l at next waiting log (FineEnd entries back passed) = EndIs l at next waiting log entries back passed
-IsEnd l at next waiting log (BadEnd p) = (k : List Entry → ℕ → PlaceKey → Checkpoint) → read_end k next waiting at (drop at l) ≡ refused wrong_saved p
+IsEnd l at next waiting log (FineEnd entries back) = EndIs l at next waiting log entries back
+IsEnd l at next waiting log (BadEnd p) = (k : List Entry → ℕ → Checkpoint) → read_end k next waiting at (drop at l) ≡ refused wrong_saved p
 
 -- `read_pairs`
 pub record PairsAre (tab l : List ℕ) (at next : ℕ) (slots : List ℕ) (live count e : ℕ) : Type 0 where
@@ -155,8 +134,6 @@ pub record LoadedAt (l : List ℕ) (front : Front) (slots log : List ℕ) (count
   pub next_few : front.next ≤ suc counts.entries
   pub back_is : counts.back ≡ c.state.put_back
   pub back_few : counts.back ≤ most_pairs
-  pub marks_are : key_list counts.passed ≡ c.state.marks
-  pub proper : Proper counts.passed
 
 -- `load`
 abbrev pub IsLoaded : List ℕ → List ℕ → List ℕ → Loaded → Type 0

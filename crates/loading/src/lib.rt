@@ -1,20 +1,16 @@
 // A saved record's bytes, read front to back: its rules and waiting equations into slots, its log into bytes. A field that is bad has its first byte for
 // a place.
-mod marks;
-
 ghost use Rattle.std.specs.Prelude.{◌≡◌, ◌+◌, ◌*◌, ◌≤◌, length};
 ghost use Rattle.limits.specs.Limits.{most_pairs, most_entries, most_next, most_saved};
 ghost use Rattle.reading.specs.Answers.{Table};
 ghost use Rattle.problem.specs.Parser.{SymbolsAt};
 ghost use Rattle.slots.specs.Slots.{slot_width};
 ghost use Rattle.items.specs.Written.{logged_width};
-ghost use Rattle.loading.specs.Loads.{IsFirst, IsEquation, IsEquations, IsNext, IsBack, IsLast, IsEnd, IsPairs, FrontAt, IsLoaded};
+ghost use Rattle.loading.specs.Loads.{IsFirst, IsEquation, IsEquations, IsNext, IsBack, IsEnd, IsPairs, FrontAt, IsLoaded};
 
 use candidates::Group;
 use items::{Outcome, RulesFound};
-use keys::Key;
 use limits::FIELD_HEAD;
-use marks::MarksFound;
 
 // Fields 20 and 22, each of one length only.
 const NEXT_WIDTH: usize = FIELD_HEAD + 2;
@@ -120,14 +116,13 @@ pub struct Front {
     pub next: usize,
 }
 
-// So many live rules and pairs, entries, and equations that were put back; and the key up to which places were passed.
+// So many live rules and pairs, entries, and equations that were put back.
 #[derive(Drop)]
 pub struct Counts {
     pub live: usize,
     pub pairs: usize,
     pub entries: usize,
     pub back: usize,
-    pub passed: Key,
 }
 
 #[derive(Drop)]
@@ -140,50 +135,16 @@ pub enum Loaded {
 }
 
 #[derive(Drop)]
-pub enum LastFound {
-    // So many equations that were put back, and the key up to which places were passed.
-    Fine { back: usize, passed: Key },
-    // The first byte of a bad field, or the end where a field is due.
-    Bad(usize),
-}
-
-// The record behind its log: the count and the marks, with nothing behind them.
-fn read_last(saved: &[u8], at: usize, next: usize, waiting: usize) -> LastFound
-    requires { next ≤ most_next }
-    ensures { IsLast saved.now at next waiting result }
-{
-    match back_field(saved, at, waiting) {
-        Outcome::Bad(place) => LastFound::Bad(place),
-        Outcome::Value(back) => {
-            let behind = at + BACK_WIDTH;
-            match marks::marks_field(saved, behind, next) {
-                MarksFound::Bad(place) => LastFound::Bad(place),
-                MarksFound::Upto { passed, end } => {
-                    if end < saved.len() {
-                        return LastFound::Bad(end);
-                    }
-                    LastFound::Fine { back, passed }
-                }
-            }
-        }
-    }
-}
-
-#[derive(Drop)]
 pub enum Ended {
-    // So many entries, equations that were put back, and the key up to which places were passed.
-    Fine {
-        entries: usize,
-        back: usize,
-        passed: Key,
-    },
+    // So many entries, and equations that were put back.
+    Fine { entries: usize, back: usize },
     // The first byte of a bad field, or the end where a field is due.
     Bad(usize),
 }
 
-// The record behind its waiting equations: the log, with an entry for each rule made, and what is behind it.
+// The record behind its waiting equations: the log, with an entry for each rule made, and the count, with nothing behind it.
 fn read_end(saved: &[u8], at: usize, next: usize, waiting: usize, log: &mut [u8]) -> Ended
-    requires at_in_bounds { (at ≤ length saved.now) × (length saved.now ≤ most_saved) × (next ≤ most_next) }
+    requires at_in_bounds { (at ≤ length saved.now) × (length saved.now ≤ most_saved) }
     requires most_entries_in_bounds { logged_width * most_entries ≤ length log.old }
     ensures { IsEnd saved.now at next waiting log.new result }
 {
@@ -193,13 +154,18 @@ fn read_end(saved: &[u8], at: usize, next: usize, waiting: usize, log: &mut [u8]
             if count + 1 < next {
                 return Ended::Bad(end);
             }
-            match read_last(saved, end, next, waiting) {
-                LastFound::Bad(place) => Ended::Bad(place),
-                LastFound::Fine { back, passed } => Ended::Fine {
-                    entries: count,
-                    back,
-                    passed,
-                },
+            match back_field(saved, end, waiting) {
+                Outcome::Bad(place) => Ended::Bad(place),
+                Outcome::Value(back) => {
+                    let behind = end + BACK_WIDTH;
+                    if behind < saved.len() {
+                        return Ended::Bad(behind);
+                    }
+                    Ended::Fine {
+                        entries: count,
+                        back,
+                    }
+                }
             }
         }
     }
@@ -255,18 +221,13 @@ fn read_behind(saved: &[u8], front: Front, slots: &mut [u8], log: &mut [u8]) -> 
             log,
         ) {
             Ended::Bad(place) => Loaded::Bad(place),
-            Ended::Fine {
-                entries,
-                back,
-                passed,
-            } => Loaded::Fine {
+            Ended::Fine { entries, back } => Loaded::Fine {
                 front,
                 counts: Counts {
                     live,
                     pairs: count,
                     entries,
                     back,
-                    passed,
                 },
             },
         },

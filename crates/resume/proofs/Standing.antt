@@ -15,7 +15,6 @@ use Rattle.items.specs.Written.{row}
 use Rattle.items.specs.Readers.{part}
 use Rattle.checkpoint.specs.Checkpoint.{Checkpoint}
 use Rattle.checkpoint.specs.Resume.{resumed}
-use Rattle.checkpoint.proofs.ReadState.{read_numbered}
 use Rattle.inputs.specs.Inputs.{InputsRead, marked}
 use Rattle.collapse.proofs.Rows.{held_rows, length_held, length_rows, length_marked}
 use Rattle.state.specs.declared.State.{State}
@@ -65,8 +64,6 @@ module _ {l : List ℕ} {front : Front} {slots log : List ℕ} {counts : Counts}
           made = omega (arith, L.next_is);
           log = record { bytes = L.log_is; counted = L.entries_are };
           back = L.back_is;
-          marks = L.marks_are;
-          by_number = read_numbered l c L.is;
         }
 
     state_fine : Fine first
@@ -79,7 +76,6 @@ module _ {l : List ℕ} {front : Front} {slots log : List ℕ} {counts : Counts}
           log_few = L.entries_few;
           made_few = omega (arith, L.next_few, L.next_is);
           back_few = omega (arith, L.back_few);
-          proper = L.proper;
         }
 
     -- what the run from it leaves

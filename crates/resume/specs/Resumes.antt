@@ -31,7 +31,6 @@ state_of next counts slots log units = record {
   made = next - 1;
   log = record { bytes = log; count = counts.entries };
   back = counts.back;
-  passed = counts.passed;
   units = units;
 }
 

@@ -34,7 +34,6 @@ pub fn state_of(
     requires { 1 ≤ next }
     ensures { result ≡ state_of next counts bytes log units }
 {
-    let passed = counts.passed;
     State {
         pairs: Pairs {
             bytes: bytes,
@@ -47,7 +46,6 @@ pub fn state_of(
             count: counts.entries,
         },
         back: counts.back,
-        passed: passed,
         units: units,
     }
 }

@@ -1,10 +1,10 @@
--- Abstract rewriting: a relation `S` on a type `A`, read as one step. The Church-Rosser property, the existence of normal forms where reducibility is
--- decided. Nothing here knows of terms. Assumes nothing.
--- Read first: proofs/Relations. Newman's lemma: proofs/Linked.
+-- Abstract rewriting: a relation `S` on a type `A`, read as one step. Newman's lemma, the Church-Rosser property, the existence of normal forms where
+-- reducibility is decided. Nothing here knows of terms. Assumes nothing.
+-- Read first: proofs/Relations.
 use mathlib.Core.Path.{◌≡◌, refl, subst}
 use mathlib.Core.Logic.{◌⊎◌, inl, inr}
 use mathlib.Core.WellFounded.{Acc}
-use Rattle.rewriting.proofs.Relations.{Star, stop, move, Conv, same, ahead, back, Join, Normal, Below, Ends, Confluent}
+use Rattle.rewriting.proofs.Relations.{Star, stop, move, Conv, same, ahead, back, Join, Normal, Below, Ends, LocallyConfluent, Confluent}
 
 module _ {A : Type 0} {S : A → A → Type 0} where
   pub one : {a b : A} → S a b → Star S a b
@@ -31,6 +31,9 @@ module _ {A : Type 0} {S : A → A → Type 0} where
   pub join_conv : {a b : A} → Join S a b → Conv S a b
   join_conv j = chain (star_conv j.left) (turn (star_conv j.right))
 
+  pub join_swap : {a b : A} → Join S a b → Join S b a
+  join_swap j = record { at = j.at; left = j.right; right = j.left }
+
   pub join_refl : {a : A} → Join S a a
   join_refl {a} = record { at = a; left = stop; right = stop }
 
@@ -41,6 +44,22 @@ module _ {A : Type 0} {S : A → A → Type 0} where
   pub normal_stays : {a b : A} → Normal S a → Star S a b → a ≡ b
   normal_stays n stop = refl
   normal_stays n (move x s) = absurd (n _ x)
+
+  -- (a) Newman's lemma, at one accessible term and then for all.
+  newman_peak : {a b c : A} → ((y : A) → S a y → (d e : A) → Star S y d → Star S y e → Join S d e) → LocallyConfluent S → Star S a b → Star S a c → Join S b c
+  newman_peak ih lc stop t = record { at = _; left = t; right = stop }
+  newman_peak ih lc (move x s) stop = record { at = _; left = stop; right = move x s }
+  newman_peak ih lc (move x s) (move y t) =
+      let j = lc _ _ _ x y in
+      let k = ih _ x _ _ s j.left in
+      let m = ih _ y _ _ t (append j.right k.right) in
+      record { at = m.at; left = append k.left m.right; right = m.left }
+
+  pub newman_at : {a : A} → LocallyConfluent S → Acc (Below S) a → (b c : A) → Star S a b → Star S a c → Join S b c
+  newman_at lc (Acc.intro a h) b c = newman_peak (λ y x. newman_at lc (h y x)) lc
+
+  pub newman : Ends S → LocallyConfluent S → Confluent S
+  newman ends lc a b c = newman_at lc (ends a) b c
 
   -- Confluence is the Church-Rosser property: convertible terms have a common reduct.
   pub church_rosser : Confluent S → {a b : A} → Conv S a b → Join S a b

@@ -8,12 +8,11 @@ use Rattle.terms.specs.Term.{Term, size, variables, Pair}
 use Rattle.terms.proofs.Subst.{In, VarsIn}
 use Rattle.terms.proofs.Places.{place}
 use Rattle.rewriting.specs.Overlap.{Rule, sides_of}
-use Rattle.rewriting.proofs.Relations.{Join, Conv, Ends, Confluent, Step, Of, Solves}
+use Rattle.rewriting.proofs.Relations.{Join, Conv, Ends, LocallyConfluent, Step, Of, Solves}
 use Rattle.rewriting.proofs.Abstract.{Reducible?}
-use Rattle.rewriting.proofs.Linked.{LocallyLinked, linked_confluent}
 use Rattle.rewriting.proofs.Critical.{PairDone, pair_peak}
 use Rattle.rewriting.proofs.Finite.{lhs, rhs, IsNode, stands, finite_critical_pairs}
-use Rattle.rewriting.proofs.Order.{ReductionOrder, step_down, order_ends}
+use Rattle.rewriting.proofs.Order.{ReductionOrder, order_ends}
 use Rattle.rewriting.proofs.Converge.{solves}
 use Rattle.rewriting.proofs.Stepping.{step_reducible}
 
@@ -41,35 +40,32 @@ pub record Founded (gt : Term → Term → Type 0) (k : ℕ) (es rs : List Pair)
   pub sound : (i : ℕ) → i < length rs → Conv (Step (Of es)) (lhs rs i) (rhs rs i)
   pub complete : (i : ℕ) → i < length es → Join (Step (Of rs)) (lhs es i) (rhs es i)
 
--- Each critical pair is linked below its peak: of the rule `i` at the place `n` of the rule `j`; at the root only where `i` is before `j`.
-abbrev pub PairsDone : (gt : Term → Term → Type 0) → ℕ → List Pair → Type 0
-PairsDone gt k rs =
+-- Each critical pair is joined: of the rule `i` at the place `n` of the rule `j`; at the root only where `i` is before `j`.
+abbrev pub PairsDone : ℕ → List Pair → Type 0
+PairsDone k rs =
     (i j n : ℕ) → i < length rs → j < length rs → (h : n < size (lhs rs j)) → (n ≡ 0 → i < j) → IsNode (place (lhs rs j) n h).s →
-    PairDone gt (Of rs) k (lhs rs i) (rhs rs i) (rhs rs j) (place (lhs rs j) n h).c (place (lhs rs j) n h).s
+    PairDone (Of rs) k (lhs rs i) (rhs rs i) (rhs rs j) (place (lhs rs j) n h).c (place (lhs rs j) n h).s
 
-module _ {gt : Term → Term → Type 0} {k : ℕ} {es rs : List Pair} (order : ReductionOrder gt) (v : Founded gt k es rs) (pairs : PairsDone gt k rs) where
+module _ {gt : Term → Term → Type 0} {k : ℕ} {es rs : List Pair} (order : ReductionOrder gt) (v : Founded gt k es rs) (pairs : PairsDone k rs) where
   low_right : (i : ℕ) → i < length rs → VarsIn (λ (x : ℕ). x < k) (rhs rs i)
   low_right i h = λ x o. v.low i h x (v.vars i h x o)
 
-  pub checked_local : LocallyLinked gt (Step (Of rs))
+  pub checked_local : LocallyConfluent (Step (Of rs))
   checked_local =
-      finite_critical_pairs order rs v.down v.nodes v.vars
+      finite_critical_pairs rs v.nodes v.vars
       (λ i j n hi hj h o q.
-      pair_peak order (Of rs) k (lhs rs i) (rhs rs i) (lhs rs j) (rhs rs j) (place (lhs rs j) n h).c (place (lhs rs j) n h).s
-      (place (lhs rs j) n h).whole (v.low j hj) (low_right j hj) (pairs i j n hi hj h o q))
-
-  goes_down : (l r : Term) → Of rs l r → gt l r
-  goes_down l r m = let a = stands l r m in subst₂ gt (sym a.is_l) (sym a.is_r) (v.down a.i a.below)
+      pair_peak (Of rs) k (lhs rs i) (rhs rs i) (lhs rs j) (rhs rs j) (place (lhs rs j) n h).c (place (lhs rs j) n h).s (place (lhs rs j) n h).whole
+      (v.low j hj) (low_right j hj) (pairs i j n hi hj h o q))
 
   pub checked_ends : Ends (Step (Of rs))
-  checked_ends = order_ends order goes_down
-
-  pub checked_confluent : Confluent (Step (Of rs))
-  checked_confluent = linked_confluent (step_down order goes_down) checked_local order.founded
+  checked_ends =
+      order_ends order (λ l r m.
+      let a = stands l r m in
+      subst₂ gt (sym a.is_l) (sym a.is_r) (v.down a.i a.below))
 
   -- The whole theorem.
   pub checked_solves : Solves (Of es) (Of rs)
   checked_solves =
-      solves checked_ends (reducible rs) checked_confluent
+      solves checked_ends (reducible rs) checked_local
       (λ l r m. let a = stands l r m in subst₂ (Conv (Step (Of es))) (sym a.is_l) (sym a.is_r) (v.sound a.i a.below))
       (λ l r m. let a = stands l r m in subst₂ (Join (Step (Of rs))) (sym a.is_l) (sym a.is_r) (v.complete a.i a.below))

@@ -5,9 +5,9 @@ use mathlib.Core.Logic.{◌↔◌}
 use mathlib.Core.WellFounded.{Acc}
 use Prim.Native.Nat.{ℕ, zero, suc}
 use Rattle.terms.specs.Term.{Term, Terms, subst_term}
-use Rattle.rewriting.proofs.Relations.{Solves, Star, Conv, same, ahead, back, Join, Normal, Below, Ends, Confluent, Rules, Step, Steps, root}
-use Rattle.rewriting.proofs.Relations.{inside, here, there}
-use Rattle.rewriting.proofs.Abstract.{chain, turn, join_conv, church_rosser, normal_unique, normal_stays, append, last, Reducible?}
+use Rattle.rewriting.proofs.Relations.{Solves, Star, Conv, same, ahead, back, Join, Normal, Below, Ends, Confluent, LocallyConfluent, Rules}
+use Rattle.rewriting.proofs.Relations.{Step, Steps, root, inside, here, there}
+use Rattle.rewriting.proofs.Abstract.{chain, turn, join_conv, church_rosser, normal_unique, normal_stays, append, newman, last, Reducible?}
 use Rattle.rewriting.proofs.Steps.{conv_node, conv_head, conv_tail, conv_subst}
 
 -- Each step by the equations `E` can be made by those of `F`, forwards and backwards, and any number of them.
@@ -54,8 +54,11 @@ no_forever_at {R} (Acc.intro t h) s e go =
 pub no_forever : {R : Rules} → Ends (Step R) → (s : ℕ → Term) → ((n : ℕ) → Step R (s n) (s (suc n))) → ⊥
 no_forever ends s go = no_forever_at (ends (s zero)) s refl go
 
-module _ {E R : Rules} (ends : Ends (Step R)) (red : Reducible? (Step R)) (cf : Confluent (Step R))
+module _ {E R : Rules} (ends : Ends (Step R)) (red : Reducible? (Step R)) (lc : LocallyConfluent (Step R))
     (sound : (l r : Term) → R l r → Conv (Step E) l r) (complete : (l r : Term) → E l r → Join (Step R) l r) where
+  cf : Confluent (Step R)
+  cf = newman ends lc
+
   pub solves : Solves E R
   solves =
       record {

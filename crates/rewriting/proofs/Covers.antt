@@ -1,16 +1,16 @@
 -- `all_places` has every place of two rules that the critical pair lemma asks for, and no others. Assumes nothing.
 -- Read first: specs/Overlap, proofs/Relations.
-use mathlib.Core.Path.{◌≡◌, refl, sym, ◌∙◌, ap, subst}
-use mathlib.Core.Logic.{◌⊎◌, inl, inr, ⊎_elim}
+use mathlib.Core.Path.{◌≡◌, refl, sym, subst}
+use mathlib.Core.Logic.{⊎_elim}
 use mathlib.Core.List.Memᴰ
-use mathlib.Core.List.{List, [], ◌∷◌, ◌++◌, Memᴰ}
+use mathlib.Core.List.{List, [], ◌∷◌, ◌++◌}
 use Prim.Native.Nat.{ℕ, suc, zero, ◌+◌, ◌-◌, ◌≤◌, ◌<◌}
 use native.Mathlib.Omega.{arith}
 use lib.ListN.{length, get_or}
 use Rattle.terms.specs.Base.{count_from, Every, of_none, of_cons}
 use Rattle.terms.specs.Term.{Term, Pair, size}
 use Rattle.terms.proofs.Places.{size_pos}
-use Rattle.terms.proofs.Every.{every_append, every_left, every_right, every_map, every_head, every_in, counted}
+use Rattle.terms.proofs.Every.{every_append, every_left, every_right, every_map, every_head, counted}
 use Rattle.rewriting.specs.Overlap.{Rule, sides_of, Place, places, positions, places_with, places_self, all_places}
 use Rattle.rewriting.proofs.Relations.{Of}
 use Rattle.rewriting.proofs.Finite.{none_such}
@@ -29,38 +29,38 @@ pub of_every : (H : Pair → Type 0) {rules : List Rule} → Every (λ (r : Rule
 of_every H of_none l r i = absurd (Memᴰ.not-nil i)
 of_every H (of_cons q h) l r i = ⊎_elim (λ e. subst H (sym e) q) (of_every H h l r) (Memᴰ.cases_cons i)
 
--- What holds of every place holds of every two rules and a position; of a rule with itself not at the root.
-module _ (Q : Rule → Rule → ℕ → Type 0) where
-  abbrev pub HoldsOf : Place → Type 0
-  HoldsOf at = Q at.inner at.outer at.position
+-- What holds of every place holds of every two rules and a position; at the root only of an earlier inner and a later outer rule.
+module _ (Q : Pair → Pair → ℕ → Type 0) where
+  abbrev pub HoldsAt : Place → Type 0
+  HoldsAt at = Q at.inner.sides at.outer.sides at.position
 
-  places_each : (a b : Rule) (ps : List ℕ) → Every HoldsOf (places a b ps) → Every (λ n. Q a b n) ps
+  places_each : (a b : Rule) (ps : List ℕ) → Every HoldsAt (places a b ps) → Every (λ n. Q a.sides b.sides n) ps
   unfolding places
   places_each a b [] h = of_none
   places_each a b (n ∷ ps) (of_cons q h) = of_cons q (places_each a b ps h)
 
   abbrev Meets : Rule → Rule → Type 0
-  Meets b a = ((n : ℕ) → n < size b.sides.left → Q a b n) × ((n : ℕ) → n < size a.sides.left → Q b a n)
+  Meets b a = ((n : ℕ) → n < size b.sides.left → Q a.sides b.sides n) × ((n : ℕ) → n < size a.sides.left → Q b.sides a.sides n)
 
   abbrev Alone : Rule → Type 0
-  Alone a = (n : ℕ) → 1 ≤ n → n < size a.sides.left → Q a a n
+  Alone a = (n : ℕ) → 1 ≤ n → n < size a.sides.left → Q a.sides a.sides n
 
-  positions_each : (a b : Rule) → Every HoldsOf (places a b (positions b)) → (n : ℕ) → n < size b.sides.left → Q a b n
+  positions_each : (a b : Rule) → Every HoldsAt (places a b (positions b)) → (n : ℕ) → n < size b.sides.left → Q a.sides b.sides n
   unfolding positions
   positions_each a b h n lt = counted 0 (size b.sides.left) (places_each a b _ h) n (omega arith) (omega arith)
 
-  meets : (earlier : List Rule) (later : Rule) → Every HoldsOf (places_with earlier later) → Every (Meets later) earlier
+  meets : (earlier : List Rule) (later : Rule) → Every HoldsAt (places_with earlier later) → Every (Meets later) earlier
   unfolding places_with
   meets [] later h = of_none
   meets (a ∷ rules) later h =
       let one : List Place = places a later (positions later) in
       let two : List Place = places later a (positions a) in
-      let both : Every HoldsOf (one ++ two) = every_left (one ++ two) (places_with rules later) h in
+      let both : Every HoldsAt (one ++ two) = every_left (one ++ two) (places_with rules later) h in
       of_cons
       (positions_each a later (every_left one two both), positions_each later a (every_right one two both))
       (meets rules later (every_right (one ++ two) (places_with rules later) h))
 
-  alone : (a : Rule) → Every HoldsOf (places_self a) → Alone a
+  alone : (a : Rule) → Every HoldsAt (places_self a) → Alone a
   unfolding places_self
   alone a h n ge lt = counted 1 (size a.sides.left - 1) (places_each a a _ h) n ge (omega arith)
 
@@ -69,47 +69,20 @@ module _ (Q : Rule → Rule → ℕ → Type 0) where
     no_rule : Triangle []
     a_rule : {a : Rule} {rules : List Rule} → Alone a → Every (λ b. Meets b a) rules → Triangle rules → Triangle (a ∷ rules)
 
-  triangle : (earlier later : List Rule) → Every HoldsOf (all_places earlier later) → Every (λ b. Every (Meets b) earlier) later × Triangle later
+  triangle : (earlier later : List Rule) → Every HoldsAt (all_places earlier later) → Every (λ b. Every (Meets b) earlier) later × Triangle later
   unfolding all_places
   triangle earlier [] h = (of_none, no_rule)
   triangle earlier (rule ∷ later) h =
       let one : List Place = places_with earlier rule in
       let two : List Place = places_self rule in
       let three : List Place = all_places (earlier ++ (rule ∷ [])) later in
-      let both : Every HoldsOf (one ++ two) = every_left (one ++ two) three h in
+      let both : Every HoldsAt (one ++ two) = every_left (one ++ two) three h in
       let k = triangle (earlier ++ (rule ∷ [])) later (every_right (one ++ two) three h) in (
         of_cons (meets earlier rule (every_left one two both)) (every_map (λ b m. every_left earlier (rule ∷ []) m) k.0),
         a_rule (alone rule (every_right one two both)) (every_map (λ b m. every_head (every_right earlier (rule ∷ []) m)) k.0) k.1,
       )
 
-  meets_head : {a : Rule} {rules : List Rule} → Alone a → Every (λ b. Meets b a) rules → Triangle rules → (b c : Rule) → (b ≡ a) ⊎ Memᴰ b rules →
-      (c ≡ a) ⊎ Memᴰ c rules → (n : ℕ) → n < size c.sides.left → (b.number ≡ c.number → 1 ≤ n) →
-      (Memᴰ b rules → Memᴰ c rules → Q b c n) → Q b c n
-  meets_head {a} s m t b c (inl e) (inl d) n lt o ih = rw (e, d) (s n (o (ap (λ (r : Rule). r.number) (e ∙ sym d))) (rw d at lt))
-  meets_head {a} s m t b c (inl e) (inr j) n lt o ih = rw e ((every_in m j).0 n lt)
-  meets_head {a} s m t b c (inr i) (inl d) n lt o ih = rw d ((every_in m i).1 n (rw d at lt))
-  meets_head {a} s m t b c (inr i) (inr j) n lt o ih = ih i j
-
-  among : {rules : List Rule} → Triangle rules → (a b : Rule) → Memᴰ a rules → Memᴰ b rules → (n : ℕ) → n < size b.sides.left →
-      (a.number ≡ b.number → 1 ≤ n) → Q a b n
-  among no_rule a b i j n lt o = absurd (Memᴰ.not-nil i)
-  among (a_rule s m t) a b i j n lt o = meets_head s m t a b (Memᴰ.cases_cons i) (Memᴰ.cases_cons j) n lt o (λ i j. among t a b i j n lt o)
-
-  -- Every two rules and a position have their place.
-  pub each_place : (rules : List Rule) → Every HoldsOf (all_places [] rules) → (a b : Rule) → Memᴰ a rules → Memᴰ b rules →
-      (n : ℕ) → n < size b.sides.left →
-      (a.number ≡ b.number → 1 ≤ n) → Q a b n
-  each_place rules h = among (triangle [] rules h).1
-
--- The same for the sides of two rules by their numbers; at the root only of an earlier inner and a later outer rule.
-module _ (Q : Pair → Pair → ℕ → Type 0) where
-  abbrev pub HoldsAt : Place → Type 0
-  HoldsAt at = Q at.inner.sides at.outer.sides at.position
-
-  abbrev OfSides : Rule → Rule → ℕ → Type 0
-  OfSides a b n = Q a.sides b.sides n
-
-  covered : {rules : List Rule} → Triangle OfSides rules → (i j n : ℕ) → i < length (sides_of rules) → j < length (sides_of rules) →
+  covered : {rules : List Rule} → Triangle rules → (i j n : ℕ) → i < length (sides_of rules) → j < length (sides_of rules) →
       n < size (pair_at rules j).left → (n ≡ 0 → i < j) → Q (pair_at rules i) (pair_at rules j) n
   covered no_rule i j n hi hj lt o = absurd (omega arith)
   covered (a_rule s m t) zero zero n hi hj lt o = s n (at_least n o) lt
@@ -125,7 +98,7 @@ module _ (Q : Pair → Pair → ℕ → Type 0) where
 
   pub all_places_cover : (rules : List Rule) → Every HoldsAt (all_places [] rules) → (i j n : ℕ) → i < length (sides_of rules) →
       j < length (sides_of rules) → n < size (pair_at rules j).left → (n ≡ 0 → i < j) → Q (pair_at rules i) (pair_at rules j) n
-  all_places_cover rules h = covered (triangle OfSides [] rules h).1
+  all_places_cover rules h = covered (triangle [] rules h).1
 
 -- What holds of the rules holds of the two rules of every place; and its position is one of the outer rule's left side.
 module _ (H : Rule → Type 0) where

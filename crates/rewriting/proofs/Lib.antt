@@ -1,6 +1,5 @@
 pub mod Apart
 pub mod Abstract
-pub mod Linked
 pub mod Steps
 pub mod Peak
 pub mod Equal
@@ -17,11 +16,7 @@ pub mod Finite
 pub mod Checked
 pub mod Overlaps
 pub mod PathOrder
-pub mod Routes
-pub mod Recomposed
 pub mod Covers
-pub mod InOrder
-pub mod KeyOrder
 pub mod Lower
 pub mod Variables
 pub mod Limits

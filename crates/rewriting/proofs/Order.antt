@@ -57,10 +57,9 @@ module _ {R : Rules} where
   pub at_step : {t u : Term} → StepAt R t u → Step R t u
   at_step p = subst₂ (Step R) (sym p.before) (sym p.after) (step_plug p.c (instance R p.rule p.σ))
 
--- A well-founded, transitive order that substitutions and contexts keep.
+-- A well-founded order that substitutions and contexts keep.
 pub record ReductionOrder (gt : Term → Term → Type 0) : Type 0 where
   pub founded : Ends gt
-  pub trans : (s t u : Term) → gt s t → gt t u → gt s u
   pub on_subst : (σ : Subst) (t u : Term) → gt t u → gt (subst_term σ t) (subst_term σ u)
   pub on_plug : (c : Ctx) (t u : Term) → gt t u → gt (plug c t) (plug c u)
 

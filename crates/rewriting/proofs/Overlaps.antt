@@ -1,7 +1,6 @@
--- `overlap` finds the critical pairs: its peak steps to both of its sides, and where its sides are linked below it, those of every peak at the place
--- are. Assumes nothing.
+-- `overlap` finds the critical pairs: its peak steps to both of its sides, and where its sides join, every peak at the place does. Assumes nothing.
 -- Read first: specs/Overlap, proofs/Checked, unify/proofs/Correct.
-use mathlib.Core.Path.{◌≡◌, refl, sym, ◌∙◌, ap, subst, subst₂}
+use mathlib.Core.Path.{◌≡◌, refl, sym, ◌∙◌, ap, subst₂}
 use mathlib.Core.Logic.{inl, inr}
 use mathlib.Core.List.{List}
 use mathlib.Core.Option.{Option, none, some}
@@ -20,10 +19,8 @@ use Rattle.unify.proofs.Unique.{mgu_most_general}
 use Rattle.rewriting.specs.Overlap.{Overlap, apart, overlap_by, overlap_at, overlap}
 use Rattle.rewriting.proofs.Relations.{Join, Conv, same, ahead, back, Rules, Step, Of, Solves}
 use Rattle.rewriting.proofs.Steps.{instance, step_plug}
-use Rattle.rewriting.proofs.Linked.{Linked}
 use Rattle.rewriting.proofs.Finite.{lhs, rhs, IsNode, is_node}
-use Rattle.rewriting.proofs.Order.{ReductionOrder, step_down}
-use Rattle.rewriting.proofs.Peak.{joins_linked}
+use Rattle.rewriting.proofs.Order.{ReductionOrder}
 use Rattle.rewriting.proofs.Critical.{PairDone}
 use Rattle.rewriting.proofs.Checked.{checked_solves, Founded}
 
@@ -96,11 +93,11 @@ module _ (inner outer : Pair) (p : ℕ) (o : Overlap) where
     pub overlap_conv : Conv (Step R) o.sides.left o.sides.right
     overlap_conv = back peak_left (ahead peak_right same)
 
--- Where `overlap` answers none there is nothing to unify, and where its sides are linked below its peak the pair is done.
-module _ (gt : Term → Term → Type 0) (R : Rules) (inner outer : Pair) (p : ℕ) (h : p < size outer.left)
-    (linked : (o : Overlap) → overlap inner outer p ≡ some o → Linked (gt o.peak) (Step R) o.sides.left o.sides.right) where
+-- Where `overlap` answers none there is nothing to unify, and where its sides join the pair is done.
+module _ (R : Rules) (inner outer : Pair) (p : ℕ) (h : p < size outer.left)
+    (joins : (o : Overlap) → overlap inner outer p ≡ some o → Join (Step R) o.sides.left o.sides.right) where
   done_mgu : (f : ℕ) (ts : Terms) → (place outer.left p h).s ≡ node f ts → (a : Option (List Binding)) → mgu (apart inner.left) (node f ts) ≡ a →
-      PairDone gt R 16 inner.left inner.right outer.right (place outer.left p h).c (node f ts)
+      PairDone R 16 inner.left inner.right outer.right (place outer.left p h).c (node f ts)
   unfolding overlap overlap_at overlap_by apart
   done_mgu f ts e none q = inl (mgu_none _ _ q)
   done_mgu f ts e (some m) q =
@@ -111,49 +108,29 @@ module _ (gt : Term → Term → Type 0) (R : Rules) (inner outer : Pair) (p : �
         sides = record { left = under m (replace_at outer.left p (apart inner.right)); right = under m outer.right };
       } in
       let is_o : overlap inner outer p ≡ some o = ap (overlap_at inner outer p) at_p ∙ ap (overlap_by inner outer p) q' in
-      let whole : o.peak ≡ subst_term (unifier m) (plug (place outer.left p h).c (node f ts)) =
-      under_is m _ ∙ ap (subst_term (unifier m)) ((place outer.left p h).whole ∙ ap (plug (place outer.left p h).c) e) in
       let left : o.sides.left ≡ subst_term (unifier m) (plug (place outer.left p h).c (subst_term (up 16) inner.right)) =
       under_is m _ ∙ ap (subst_term (unifier m)) (replace_is outer.left p h (subst_term (up 16) inner.right)) in
       inr (
         record { m = unifier m; general = mgu_most_general _ _ m q },
-        subst₂ (Linked (gt (subst_term (unifier m) (plug (place outer.left p h).c (node f ts)))) (Step R)) left (under_is m outer.right)
-            (subst (λ z. Linked (gt z) (Step R) o.sides.left o.sides.right) whole (linked o is_o)),
+        subst₂ (Join (Step R)) left (under_is m outer.right) (joins o is_o),
       )
 
   pub overlap_done : IsNode (place outer.left p h).s →
-      PairDone gt R 16 inner.left inner.right outer.right (place outer.left p h).c (place outer.left p h).s
+      PairDone R 16 inner.left inner.right outer.right (place outer.left p h).c (place outer.left p h).s
   overlap_done n = go (place outer.left p h).s n refl
     where
-      go : (s : Term) → IsNode s → (place outer.left p h).s ≡ s → PairDone gt R 16 inner.left inner.right outer.right (place outer.left p h).c s
+      go : (s : Term) → IsNode s → (place outer.left p h).s ≡ s → PairDone R 16 inner.left inner.right outer.right (place outer.left p h).c s
       go s (is_node f ts) e = done_mgu f ts e (mgu (apart inner.left) (node f ts)) refl
 
--- Something holds of every overlap of the rules `rs` that the critical pair lemma asks for.
-abbrev pub EachOverlap : (Overlap → Type 0) → List Pair → Type 0
-EachOverlap Q rs =
-    (i j n : ℕ) → i < length rs → j < length rs → n < size (lhs rs j) → (n ≡ 0 → i < j) → (o : Overlap) →
-    overlap (record { left = lhs rs i; right = rhs rs i }) (record { left = lhs rs j; right = rhs rs j }) n ≡ some o → Q o
-
--- The sides of each overlap have a common reduct; or only are linked below its peak.
+-- What `overlap` finds joins, so the rules solve the equations.
 abbrev pub OverlapsJoin : List Pair → Type 0
-OverlapsJoin rs = EachOverlap (λ (o : Overlap). Join (Step (Of rs)) o.sides.left o.sides.right) rs
+OverlapsJoin rs =
+    (i j n : ℕ) → i < length rs → j < length rs → n < size (lhs rs j) → (n ≡ 0 → i < j) → (o : Overlap) →
+    overlap (record { left = lhs rs i; right = rhs rs i }) (record { left = lhs rs j; right = rhs rs j }) n ≡ some o →
+    Join (Step (Of rs)) o.sides.left o.sides.right
 
-abbrev pub OverlapsLinked : (gt : Term → Term → Type 0) → List Pair → Type 0
-OverlapsLinked gt rs = EachOverlap (λ (o : Overlap). Linked (gt o.peak) (Step (Of rs)) o.sides.left o.sides.right) rs
-
-module _ {gt : Term → Term → Type 0} (order : ReductionOrder gt) where
-  -- The first is a case of the second, where the rules go down.
-  pub overlap_linked : (R : Rules) → ((l r : Term) → R l r → gt l r) → (inner outer : Pair) (p : ℕ) (o : Overlap) → overlap inner outer p ≡ some o →
-      R inner.left inner.right → R outer.left outer.right → Join (Step R) o.sides.left o.sides.right →
-      Linked (gt o.peak) (Step R) o.sides.left o.sides.right
-  overlap_linked R down inner outer p o e a b j =
-      joins_linked order down
-      (step_down order down _ _ (peak_left inner outer p o R a b e))
-      (step_down order down _ _ (peak_right inner outer p o R a b e)) j
-
-  -- What `overlap` finds is linked below its peak, so the rules solve the equations.
-  pub settled_solves : {es rs : List Pair} → Founded gt 16 es rs → OverlapsLinked gt rs → Solves (Of es) (Of rs)
-  settled_solves {rs = rs} v overlaps =
-      checked_solves order v
-      (λ i j n hi hj h c k.
-      overlap_done gt (Of rs) (record { left = lhs rs i; right = rhs rs i }) (record { left = lhs rs j; right = rhs rs j }) n h (overlaps i j n hi hj h c) k)
+pub settled_solves : {gt : Term → Term → Type 0} {es rs : List Pair} → ReductionOrder gt → Founded gt 16 es rs → OverlapsJoin rs → Solves (Of es) (Of rs)
+settled_solves {rs = rs} order v overlaps =
+    checked_solves order v
+    (λ i j n hi hj h c k.
+    overlap_done (Of rs) (record { left = lhs rs i; right = rhs rs i }) (record { left = lhs rs j; right = rhs rs j }) n h (overlaps i j n hi hj h c) k)

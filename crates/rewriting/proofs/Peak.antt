@@ -1,17 +1,15 @@
--- Two steps from one term: where the second falls in the left side of the rule of the first, and every local peak is linked below where the proper
--- overlaps are. Assumes nothing.
--- Read first: proofs/Steps, proofs/Linked, proofs/Order.
-use mathlib.Core.Path.{◌≡◌, refl, sym, ◌∙◌, ap, ap₂, subst, subst₂}
+-- Two steps from one term: where the second falls in the left side of the rule of the first, and local confluence where the proper overlaps are
+-- joinable. Assumes nothing.
+-- Read first: proofs/Steps.
+use mathlib.Core.Path.{◌≡◌, refl, sym, ◌∙◌, ap, ap₂, subst}
 use Prim.Native.Nat.{ℕ}
 use native.Mathlib.Decide.{ℕ_discrete}
 use native.Mathlib.Omega.{arith}
 use Rattle.terms.specs.Term.{Term, Terms, var, node, nil, cons, subst_term, subst_terms}
 use Rattle.terms.proofs.Subst.{Subst}
 use Rattle.terms.proofs.Context.{Ctx, Ctxs, hole, beneath, first, later, plug, plugs, subst_context, subst_contexts}
-use Rattle.rewriting.proofs.Relations.{Star, stop, Join, Rules, Step, Steps, root, inside, here, there}
-use Rattle.rewriting.proofs.Abstract.{append, one, star_eq}
-use Rattle.rewriting.proofs.Linked.{Linked, ends_at, steps_to, steps_from, linked_turn, join_linked, linked_map, LocallyLinked}
-use Rattle.rewriting.proofs.Order.{ReductionOrder, step_down}
+use Rattle.rewriting.proofs.Relations.{Star, stop, Join, LocallyConfluent, Rules, Step, Steps, root, inside, here, there}
+use Rattle.rewriting.proofs.Abstract.{append, one, star_eq, join_swap, join_map}
 use Rattle.rewriting.proofs.Steps.{stars_subst, stars_plug}
 
 -- A step from `subst_term σ t` to `v`, seen from `t`: it is below a variable of `t`, or at a place of `t` that is no variable.
@@ -91,85 +89,55 @@ module _ {R : Rules} where
   put_star σ x w s y (yes e) = one (subst (λ z. Step R (σ z) w) (sym e) s)
   put_star σ x w s y (no n) = stop
 
--- The two sides of each peak at a proper overlap are linked below it: an instance `subst_term τ l` of the inner rule's left side stands at a place of
--- the outer rule's left side that is no variable.
-abbrev pub PeaksLinked : (gt : Term → Term → Type 0) → Rules → Type 0
-PeaksLinked gt R =
-    (l r l' r' : Term) → R l r → R l' r' → (c : Ctx) (f : ℕ) (ts : Terms) → l' ≡ plug c (node f ts) → (τ σ : Subst) → subst_term σ (node f ts) ≡
-    subst_term τ l →
-    Linked (gt (subst_term σ l')) (Step R) (plug (subst_context σ c) (subst_term τ r)) (subst_term σ r')
+-- Each peak at a proper overlap is joinable: an instance `subst_term τ l` of the inner rule's left side stands at a place of the outer rule's left side
+-- that is no variable.
+abbrev pub PeaksJoin : Rules → Type 0
+PeaksJoin R =
+    (l r l' r' : Term) → R l r → R l' r' → (c : Ctx) (f : ℕ) (ts : Terms) → l' ≡ plug c (node f ts) → (τ σ : Subst) → subst_term σ
+    (node f ts) ≡ subst_term τ l →
+    Join (Step R) (plug (subst_context σ c) (subst_term τ r)) (subst_term σ r')
 
--- Arguments below others: as arguments of one symbol they give a lower term.
-data LowIn (gt : Term → Term → Type 0) : Terms → Terms → Type 0 where
-  low_at : {ts us : Terms} (cs : Ctxs) (a b : Term) → gt a b → ts ≡ plugs cs a → us ≡ plugs cs b → LowIn gt ts us
-  low_then : {ts us vs : Terms} → LowIn gt ts us → LowIn gt us vs → LowIn gt ts vs
+module _ {R : Rules} (peaks : PeaksJoin R) where
+  -- A step at the root by the rule `l` to `r`, and any other step.
+  peak_fall : {l r v : Term} → R l r → (σ : Subst) → Fall R σ l v → Join (Step R) v (subst_term σ r)
+  unfolding subst_term
+  peak_fall {r = r} ρ σ (at_var c x w e s d) =
+      let σ' : Subst = put σ x w in
+      let h : (y : ℕ) → Star (Step R) (σ y) (σ' y) = λ y. put_star σ x w s y (ℕ_discrete y x) in
+      let w_is : σ' x ≡ w = put_same σ x w (ℕ_discrete x x) in
+      let a : Star (Step R) (plug (subst_context σ c) (σ' x)) (subst_term σ' (plug c (var x))) = stars_plug σ σ' h c (var x) in
+      let last : Step R (subst_term σ' (plug c (var x))) (subst_term σ' r) = root ρ σ' (ap (subst_term σ') (sym e)) refl in
+      record {
+        at = subst_term σ' r;
+        left = append (star_eq (d ∙ ap (plug (subst_context σ c)) (sym w_is))) (append a (one last));
+        right = stars_subst σ σ' h r;
+      }
+  peak_fall {r = r} ρ σ (at_node c f ts e ρ' τ q d) = subst (λ z. Join (Step R) z (subst_term σ r)) (sym d) (peaks _ _ _ _ ρ' ρ c f ts e τ σ q)
 
-module _ {gt : Term → Term → Type 0} where
-  low_head : {t u : Term} (ts : Terms) → gt t u → LowIn gt (cons t ts) (cons u ts)
-  unfolding plug plugs
-  low_head ts g = low_at (first hole ts) _ _ g refl refl
+  peak : {t u v l r : Term} → R l r → (σ : Subst) → t ≡ subst_term σ l → u ≡ subst_term σ r → Step R t v → Join (Step R) v u
+  peak {t} {u} {v} {l} {r} ρ σ e d s = subst (λ z. Join (Step R) v z) (sym d) (peak_fall ρ σ (fall l t v e s))
 
-  low_tail : {ts us : Terms} (t : Term) → LowIn gt ts us → LowIn gt (cons t ts) (cons t us)
-  unfolding plug plugs
-  low_tail t (low_at cs a b g e d) = low_at (later t cs) a b g (ap (cons t) e) (ap (cons t) d)
-  low_tail t (low_then x y) = low_then (low_tail t x) (low_tail t y)
+  join_node : {ts us : Terms} (f : ℕ) → Join (Steps R) ts us → Join (Step R) (node f ts) (node f us)
+  join_node f = join_map (node f) (λ t u. inside)
 
-  low_node : ReductionOrder gt → {ts us : Terms} (f : ℕ) → LowIn gt ts us → gt (node f ts) (node f us)
-  unfolding plug plugs
-  low_node o f (low_at cs a b g e d) = subst₂ gt (ap (node f) (sym e)) (ap (node f) (sym d)) (o.on_plug (beneath f cs) a b g)
-  low_node o f (low_then x y) = o.trans _ _ _ (low_node o f x) (low_node o f y)
+  join_head : {t u : Term} (ts : Terms) → Join (Step R) t u → Join (Steps R) (cons t ts) (cons u ts)
+  join_head ts = join_map (λ t. cons t ts) (λ t u. here)
 
-module _ {R : Rules} {gt : Term → Term → Type 0} (o : ReductionOrder gt) (down : (l r : Term) → R l r → gt l r) where
-  -- Below a term, steps stay below it: so terms there that have a common reduct are linked.
-  pub step_low : (p t u : Term) → gt p t → Step R t u → gt p u
-  step_low p t u g s = o.trans p t u g (step_down o down t u s)
+  join_tail : {ts us : Terms} (t : Term) → Join (Steps R) ts us → Join (Steps R) (cons t ts) (cons t us)
+  join_tail t = join_map (cons t) (λ ts us. there)
 
-  pub joins_linked : {p t u : Term} → gt p t → gt p u → Join (Step R) t u → Linked (gt p) (Step R) t u
-  joins_linked {p} = join_linked (step_low p)
+  mutual
+    two : {t u v : Term} → Step R t u → Step R t v → Join (Step R) u v
+    two (root ρ σ e d) s = join_swap (peak ρ σ e d s)
+    two (inside {f = f} p) (root ρ σ e d) = peak ρ σ e d (inside p)
+    two (inside {f = f} p) (inside q) = join_node f (twos p q)
 
-  steps_low : {ts us : Terms} → Steps R ts us → LowIn gt ts us
-  steps_low (here {ts = ts} s) = low_head ts (step_down o down _ _ s)
-  steps_low (there {t = t} s) = low_tail t (steps_low s)
+    twos : {t u v : Terms} → Steps R t u → Steps R t v → Join (Steps R) u v
+    twos (here {ts = ts} p) (here q) = join_head ts (two p q)
+    twos (here {u = u} p) (there {us = us} q) = record { at = cons u us; left = one (there q); right = one (here p) }
+    twos (there {us = us} p) (here {u = u} q) = record { at = cons u us; left = one (here q); right = one (there p) }
+    twos (there {t = t} p) (there q) = join_tail t (twos p q)
 
-  -- Two steps in different arguments.
-  apart_linked : {t u v w : Terms} → Steps R t u → Steps R t v → Steps R u w → Steps R v w → Linked (LowIn gt t) (Steps R) u v
-  apart_linked p q a b = steps_to (steps_low p) a (steps_from (low_then (steps_low p) (steps_low a)) b (ends_at (steps_low q)))
-
-  module _ (peaks : PeaksLinked gt R) where
-    -- A step at the root by the rule `l` to `r`, and any other step.
-    peak_fall : {l r v : Term} → R l r → (σ : Subst) → gt (subst_term σ l) v → Fall R σ l v → Linked (gt (subst_term σ l)) (Step R) v (subst_term σ r)
-    unfolding subst_term
-    peak_fall {l = l} {r = r} ρ σ low (at_var c x w e s d) =
-        let σ' : Subst = put σ x w in
-        let h : (y : ℕ) → Star (Step R) (σ y) (σ' y) = λ y. put_star σ x w s y (ℕ_discrete y x) in
-        let w_is : σ' x ≡ w = put_same σ x w (ℕ_discrete x x) in
-        let a : Star (Step R) (plug (subst_context σ c) (σ' x)) (subst_term σ' (plug c (var x))) = stars_plug σ σ' h c (var x) in
-        let last : Step R (subst_term σ' (plug c (var x))) (subst_term σ' r) = root ρ σ' (ap (subst_term σ') (sym e)) refl in
-        joins_linked low (o.on_subst σ l r (down l r ρ))
-        (record {
-          at = subst_term σ' r;
-          left = append (star_eq (d ∙ ap (plug (subst_context σ c)) (sym w_is))) (append a (one last));
-          right = stars_subst σ σ' h r;
-        })
-    peak_fall {l = l} {r = r} ρ σ low (at_node c f ts e ρ' τ q d) =
-        subst (λ z. Linked (gt (subst_term σ l)) (Step R) z (subst_term σ r)) (sym d) (peaks _ _ _ _ ρ' ρ c f ts e τ σ q)
-
-    peak : {t u v l r : Term} → R l r → (σ : Subst) → t ≡ subst_term σ l → u ≡ subst_term σ r → Step R t v → Linked (gt t) (Step R) v u
-    peak {t} {u} {v} {l} {r} ρ σ e d s =
-        subst₂ (λ z w. Linked (gt z) (Step R) v w) (sym e) (sym d) (peak_fall ρ σ (subst (λ z. gt z v) e (step_down o down t v s)) (fall l t v e s))
-
-    mutual
-      two : {t u v : Term} → Step R t u → Step R t v → Linked (gt t) (Step R) u v
-      two (root ρ σ e d) s = linked_turn (peak ρ σ e d s)
-      two (inside {f = f} p) (root ρ σ e d) = peak ρ σ e d (inside p)
-      two (inside {f = f} p) (inside q) = linked_map (node f) (λ us. low_node o f) (λ t u. inside) (twos p q)
-
-      twos : {t u v : Terms} → Steps R t u → Steps R t v → Linked (LowIn gt t) (Steps R) u v
-      twos (here {ts = ts} p) (here q) = linked_map (λ t. cons t ts) (λ u. low_head ts) (λ t u. here) (two p q)
-      twos (here {u = u} p) (there {us = us} q) = apart_linked (here p) (there q) (there q) (here p)
-      twos (there {us = us} p) (here {u = u} q) = apart_linked (there p) (here q) (here q) (there p)
-      twos (there {t = t} p) (there q) = linked_map (cons t) (λ us. low_tail t) (λ t u. there) (twos p q)
-
-    -- Every local peak is linked below, where those at a proper overlap are.
-    pub peaks_local : LocallyLinked gt (Step R)
-    peaks_local a b c s q = two s q
+  -- Local confluence, where each peak at a proper overlap is joinable.
+  pub peaks_local : LocallyConfluent (Step R)
+  peaks_local a b c s q = two s q

@@ -36,6 +36,9 @@ Below S b a = S a b
 abbrev pub Ends : {A : Type 0} (S : A → A → Type 0) → Type 0
 Ends {A} S = (a : A) → Acc (Below S) a
 
+abbrev pub LocallyConfluent : {A : Type 0} (S : A → A → Type 0) → Type 0
+LocallyConfluent {A} S = (a b c : A) → S a b → S a c → Join S b c
+
 abbrev pub Confluent : {A : Type 0} (S : A → A → Type 0) → Type 0
 Confluent {A} S = (a b c : A) → Star S a b → Star S a c → Join S b c
 

@@ -1,5 +1,5 @@
 -- Document 01, "Overlaps", and the order in which they are scanned: section 6 and [9.4] of docs/DEFINITION.md. Assumes nothing.
-use Rattle.std.specs.Prelude.{Bool, true, false, ◌&&◌, ◌||◌, List, [], ◌∷◌, ◌++◌, map, ℕ, ◌+◌, ◌-◌, min, max, eqb, ltb}
+use Rattle.std.specs.Prelude.{List, [], ◌∷◌, ◌++◌, map, ℕ, ◌+◌, ◌-◌}
 use Rattle.std.proofs.Math.Option.{Option, none, some}
 use Rattle.limits.specs.Limits.{most_variables}
 use Rattle.terms.specs.Base.{count_from}
@@ -71,21 +71,3 @@ unfoldable pub all_places : List Rule → List Rule → List Place
 all_places earlier [] = []
 all_places earlier (rule ∷ later) =
     places_with earlier rule ++ places_self rule ++ all_places (earlier ++ (rule ∷ [])) later
-
--- Document 02, Nine: a place's key in that order: the later number, the earlier, the inner rule's, the position. [8.10]
-abbrev pub Key : Type 0
-Key = List ℕ
-
-abbrev pub key_of : ℕ → ℕ → ℕ → Key
-key_of inner outer p = max inner outer ∷ min inner outer ∷ inner ∷ p ∷ []
-
-unfoldable pub place_key : Place → Key
-place_key at = key_of at.inner.number at.outer.number at.position
-
--- number by number, the first key comes no later than the second; none is up to the empty one but itself
-unfoldable pub up_to : Key → Key → Bool
-up_to [] ns = true
-up_to (m ∷ ms) [] = false
-up_to (m ∷ ms) (n ∷ ns) =
-    let later : Bool = up_to ms ns in
-    ltb m n || (eqb m n && later)

@@ -23,7 +23,7 @@ use Rattle.collapse.proofs.Rows.{held_rows, length_held, length_rows}
 use Rattle.state.specs.declared.State.{State}
 use Rattle.state.specs.Run.{Represents}
 use Rattle.state.proofs.Written.{rules_written, log_written}
-use Rattle.checkpoint.specs.Checkpoint.{Checkpoint, symbol_bytes, equation_field_of, waiting_field, marks_bytes, checkpoint_fields, checkpoint_bytes}
+use Rattle.checkpoint.specs.Checkpoint.{Checkpoint, symbol_bytes, equation_field_of, waiting_field, checkpoint_fields, checkpoint_bytes}
 use Rattle.checkpoint.proofs.Items.{table_bytes}
 use Rattle.saving.specs.Saves.{waiting_slot, state_bytes, PutsEquations, Saves}
 
@@ -71,17 +71,15 @@ module _ (tab : List ℕ) (st : State) (c : Checkpoint) (R : Represents tab st c
       let log : List Field = map entry_field c.state.log in
       let f20 : Field = tagged 0x20 (number_bytes 2 (suc c.state.made)) in
       let f22 : Field = tagged 0x22 (number_bytes 1 c.state.put_back) in
-      let f23 : Field = tagged 0x23 (marks_bytes c.state.marks) in
-      let last : List Field = f22 ∷ f23 ∷ [] in
-      rw (e₂, next_is, rules_written tab st c.state R, waiting_written, log_written tab st c.state R, R.back, R.marks)
+      rw (e₂, next_is, rules_written tab st c.state R, waiting_written, log_written tab st c.state R, R.back)
       (ap₂ (λ (x y : List ℕ). field_bytes (tagged 0x01 x) ++ y) e₁
-      (sym (flat_map_append field_bytes es (f20 ∷ (rules ++ (waiting ++ (log ++ last))))
+      (sym (flat_map_append field_bytes es (f20 ∷ (rules ++ (waiting ++ (log ++ (f22 ∷ [])))))
       ∙ ap (λ l. flat_map field_bytes es ++ (field_bytes f20 ++ l))
-      (flat_map_append field_bytes rules (waiting ++ (log ++ last))
+      (flat_map_append field_bytes rules (waiting ++ (log ++ (f22 ∷ [])))
       ∙ ap (λ l. flat_map field_bytes rules ++ l)
-      (flat_map_append field_bytes waiting (log ++ last)
+      (flat_map_append field_bytes waiting (log ++ (f22 ∷ []))
       ∙ ap (λ l. flat_map field_bytes waiting ++ l)
-      (flat_map_append field_bytes log last ∙ ap (λ l. flat_map field_bytes log ++ (field_bytes f22 ++ l)) (append-nil (field_bytes f23))))))))
+      (flat_map_append field_bytes log (f22 ∷ []) ∙ ap (λ l. flat_map field_bytes log ++ l) (append-nil (field_bytes f22))))))))
 
 -- `save`
 pub saved : {st : State} {tab l out l₁ l₂ after : List ℕ} {from count a b r : ℕ} (q : PutsEquations l from count l₁ a l₂ b) → r ≤ longest_saved →

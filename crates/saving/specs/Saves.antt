@@ -3,7 +3,7 @@
 -- Read first: checkpoint/specs/Checkpoint (checkpoint_bytes), reading/specs/Answers (field_at), state/specs/Run (Represents), items/specs/Written.
 use Rattle.std.specs.Prelude.{◌≡◌, ℕ, ◌+◌, ◌-◌, ◌*◌, ◌≤◌, length, drop}
 use mathlib.Core.List.{List, [], ◌∷◌, ◌++◌, map, flat_map}
-use Rattle.limits.specs.Limits.{most_pairs, most_entries, field_head, forms_width, waiting_width, entry_width, key_width, longest_saved}
+use Rattle.limits.specs.Limits.{most_pairs, most_entries, field_head, forms_width, waiting_width, entry_width, longest_saved}
 use Rattle.terms.specs.Base.{number_bytes, Field, field_bytes}
 use Rattle.terms.specs.Term.{Pair}
 use Rattle.fields.specs.Puts.{tagged, PutsSome}
@@ -13,9 +13,7 @@ use Rattle.reading.specs.Answers.{field_at, symbols_of, Table}
 use Rattle.completion.specs.Calls.{pair_bytes, Writes}
 use Rattle.items.specs.Written.{each, pair_field, slot_field, logged_field}
 use Rattle.items.specs.Readers.{part}
-use Rattle.checkpoint.specs.Checkpoint.{Checkpoint, equation_field_of, marks_bytes, checkpoint_bytes}
-use Rattle.keys.specs.declared.Key.{Key}
-use Rattle.keys.specs.Keys.{key_list}
+use Rattle.checkpoint.specs.Checkpoint.{Checkpoint, equation_field_of, checkpoint_bytes}
 use Rattle.state.specs.declared.State.{State}
 use Rattle.state.specs.Run.{Represents}
 
@@ -41,21 +39,16 @@ pub record PutsEquations (l : List ℕ) (from count : ℕ) (before : List ℕ) (
 unfoldable pub waiting_slot : List ℕ → ℕ → Field
 waiting_slot slots k = pair_field 0x21 (mark_of (slot slots k)) slots k
 
--- field 23
-abbrev pub marks_of : Key → Field
-marks_of passed = tagged 0x23 (marks_bytes (key_list passed))
-
--- `put_state`: what it writes, at most 13,868 bytes
+-- `put_state`: what it writes, at most 13,858 bytes
 unfoldable pub state_bytes : State → List ℕ
 state_bytes st =
     field_bytes (tagged 0x20 (number_bytes 2 (st.made + 1)))
     ++ (flat_map field_bytes (each (slot_field st.pairs.bytes) 0 st.live)
     ++ (flat_map field_bytes (each (waiting_slot st.pairs.bytes) st.live (st.pairs.count - st.live))
-    ++ (flat_map field_bytes (each (logged_field st.log.bytes) 0 st.log.count)
-    ++ (field_bytes (tagged 0x22 (number_bytes 1 st.back)) ++ field_bytes (marks_of st.passed)))))
+    ++ (flat_map field_bytes (each (logged_field st.log.bytes) 0 st.log.count) ++ field_bytes (tagged 0x22 (number_bytes 1 st.back)))))
 
 abbrev pub state_width : ℕ
-state_width = (field_head + 2) + waiting_width * most_pairs + entry_width * most_entries + (field_head + 1) + (field_head + key_width)
+state_width = (field_head + 2) + waiting_width * most_pairs + entry_width * most_entries + (field_head + 1)
 
 -- `save`: at most so many bytes, whatever they are; those of the record, where theory and state stand in what is lent
 pub record Saves (st : State) (tab l : List ℕ) (from count : ℕ) (before after : List ℕ) (r : ℕ) : Type 0 where

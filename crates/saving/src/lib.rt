@@ -1,16 +1,14 @@
 // A saved record's bytes: the fields of the symbols and the equations as they stand in lent bytes, then those of a state.
 ghost use mathlib.Core.List.{flat_map};
 ghost use Rattle.std.specs.Prelude.{◌+◌, ◌*◌, ◌≤◌, length};
-ghost use Rattle.limits.specs.Limits.{most_equations, most_symbols, field_head, forms_width, waiting_width, key_width, longest_saved};
+ghost use Rattle.limits.specs.Limits.{most_equations, most_symbols, field_head, forms_width, waiting_width, longest_saved};
 ghost use Rattle.terms.specs.Base.{field_bytes};
 ghost use Rattle.fields.specs.Puts.{PutsSome};
 ghost use Rattle.slots.specs.Slots.{Layout};
 ghost use Rattle.items.specs.Written.{each};
-ghost use Rattle.keys.specs.Keys.{Proper};
 ghost use Rattle.state.specs.Run.{Fine};
-ghost use Rattle.saving.specs.Saves.{waiting_slot, marks_of, state_bytes, state_width, PutsEquation, PutsEquations, Saves};
+ghost use Rattle.saving.specs.Saves.{waiting_slot, state_bytes, state_width, PutsEquation, PutsEquations, Saves};
 
-use keys::Key;
 use limits::FIELD_HEAD;
 use state::State;
 
@@ -73,18 +71,6 @@ fn put_waiting(out: &mut [u8], at: usize, pairs: &[u8], live: usize, count: usiz
     a
 }
 
-// Field 23: the key up to which places were passed, or nothing.
-fn put_marks(out: &mut [u8], at: usize, passed: Key) -> usize
-    requires { (at + (field_head + key_width) ≤ length out.old) × Proper passed }
-    ensures { PutsSome (field_head + key_width) out.old at 1 (field_bytes (marks_of passed)) out.new result }
-{
-    if passed.later == 0 {
-        return fields::put_head(out, at, checkpoint::MARKS, 0);
-    }
-    let key = keys::bytes_of(passed);
-    fields::put_field(out, at, checkpoint::MARKS, &key)
-}
-
 // The fields of a state, from a place on: the place behind them.
 fn put_state(state: State, out: &mut [u8], at: usize) -> usize
     requires state_width_in_bounds { at + state_width ≤ length out.old }
@@ -100,8 +86,7 @@ fn put_state(state: State, out: &mut [u8], at: usize) -> usize
     let entries = state.log.count;
     let d = items::put_log(out, c, &state.log.bytes, entries);
     let back = state.back;
-    let e = fields::put_number_field(out, d, checkpoint::BACK, 1, back as u32);
-    put_marks(out, e, state.passed)
+    fields::put_number_field(out, d, checkpoint::BACK, 1, back as u32)
 }
 
 // The saved record of a state. Its theory stands in lent bytes: the table of its symbols, and so many fields of equations from a place on. Its bytes

@@ -10,17 +10,15 @@ use lib.Seq.{drop-cons}
 use Rattle.rewriting.specs.Overlap.{Rule, all_places}
 use Rattle.rewriting.specs.Rewrite.{complete, stop, Paying, end_with}
 use Rattle.terms.specs.Term.{Pair}
-use Rattle.completion.specs.Turn.{scanned_input, Candidate, candidates, scan_inputs, scan, unmarked}
+use Rattle.completion.specs.Turn.{scanned_input, Candidate, candidates, scan_inputs, scan}
 use Rattle.completion.specs.Calls.{origin_bytes}
 use Rattle.completion.proofs.Limits.{length_candidates}
-use Rattle.keys.specs.declared.Key.{Key}
-use Rattle.keys.specs.Keys.{key_list}
 use Rattle.slots.specs.Slots.{PutMark, Layout, numbered_bytes}
 use Rattle.joining.specs.declared.Walk.{Walk}
 use Rattle.forms.specs.declared.Taken.{Taken}
 use Rattle.forms.specs.Forms.{compared, Walked, found, short, large, on, PairWalk}
 use Rattle.forms.proofs.Pairs.{pair_wider}
-use Rattle.scanning.specs.Walk.{visits, visit_inputs, Walks, RulesIn, of_unmarked, World, world_inputs, InSlots, no_candidate, of_input, of_inputs}
+use Rattle.scanning.specs.Walk.{visits, visit_inputs, Walks, RulesIn, of_rules, World, world_inputs, InSlots, no_candidate, of_input, of_inputs}
 use Rattle.scanning.specs.Walk.{rules_part, of_all, Finds, ScanIs}
 use Rattle.scanning.proofs.Going.{Unrolls, Over, lent_mark}
 use Rattle.scanning.proofs.Placing.{stored_here}
@@ -41,11 +39,10 @@ end_complete : (u : ℕ) → end_with {A = Candidate} complete u ≡ stop comple
 unfolding end_with
 end_complete u = refl
 
-whole : (passed : Key) (x : World) (u : ℕ) →
-    scan x.rules (world_inputs x) (unmarked (key_list passed) (all_places [] x.rules)) u ≡ of_all passed x (end_with complete) u
-unfolding of_all of_unmarked of_inputs
-whole passed x u =
-    let ps = unmarked (key_list passed) (all_places [] x.rules) in
+whole : (x : World) (u : ℕ) → scan x.rules (world_inputs x) (all_places [] x.rules) u ≡ of_all x (end_with complete) u
+unfolding of_all of_rules of_inputs
+whole x u =
+    let ps = all_places [] x.rules in
     ap (λ (f : Paying Candidate). f u)
     (scan_visits x.rules (world_inputs x) ps ∙ ap (visits x.rules ps) (inputs_visits x.rules (world_inputs x)))
 
@@ -89,30 +86,28 @@ module _ {tab rules : List ℕ} {count : ℕ} {list : List ℕ} {number : ℕ} w
         p.answer x.rules h.rules_are.stored h.rules_are.counted _ _ (put.mark_is ∙ m ∙ origin_is x h k l) (pair_wider at);
   }
 
--- the whole scan
-module _ (passed : Key) {tab rules : List ℕ} {count : ℕ} {list : List ℕ} {number : ℕ} where
-  pub all_parts : Unrolls (InSlots tab rules count list number) (of_all passed) (rules_part passed) (of_inputs 0)
+  -- the whole scan
+  pub all_parts : Unrolls (InSlots tab rules count list number) of_all rules_part (of_inputs 0)
   unfolding of_all rules_part
   all_parts = record { is = λ x h next. refl }
 
-  pub rules_walk : {one one' : List ℕ} {units : ℕ} {w : Walk} → Walks (RulesIn tab rules count) (of_unmarked passed) tab one one' units w →
-      Walks (InSlots tab rules count list number) (rules_part passed) tab one one' units w
+  pub rules_walk : {one one' : List ℕ} {units : ℕ} {w : Walk} → Walks (RulesIn tab rules count) (of_rules 0) tab one one' units w →
+      Walks (InSlots tab rules count list number) rules_part tab one one' units w
   unfolding rules_part
   rules_walk p = record { kept = p.kept; left_over = p.left_over; answer = λ x h. p.answer x.rules h.rules_are }
 
   pub scanned : {one one' : List ℕ} {units : ℕ} {w : Walk} {t : Taken} → Layout one 1 →
-      Walks (InSlots tab rules count list number) (of_all passed) tab one one' units w →
-      t ≡ record { found = w.found; units = w.units; pair = one' } → ScanIs tab list number rules count passed units t
-  scanned {one' = one'} {units = units} {w = w} lay p e = subst (ScanIs tab list number rules count passed units) (sym e) (record {
+      Walks (InSlots tab rules count list number) of_all tab one one' units w →
+      t ≡ record { found = w.found; units = w.units; pair = one' } → ScanIs tab list number rules count units t
+  scanned {one' = one'} {units = units} {w = w} lay p e = subst (ScanIs tab list number rules count units) (sym e) (record {
     layout = p.kept.layout lay;
     left_over = p.left_over;
     answer = λ x h. go x (p.answer x h);
   })
     where
-      go : (x : World) → Walked tab one' (of_all passed x) units w →
-          Finds tab (record { found = w.found; units = w.units; pair = one' })
-          (scan x.rules (world_inputs x) (unmarked (key_list passed) (all_places [] x.rules)) units)
-      go x (found c z f s) = rw (whole passed x units, f (end_with complete)) (z, refl, s)
-      go x (short z f) = rw (whole passed x units, f (end_with complete)) (z, refl)
-      go x (large z f) = rw (whole passed x units, f (end_with complete)) (z, refl)
-      go x (on z f) = rw (whole passed x units, f (end_with complete), end_complete w.units) (z, refl)
+      go : (x : World) → Walked tab one' (of_all x) units w →
+          Finds tab (record { found = w.found; units = w.units; pair = one' }) (scan x.rules (world_inputs x) (all_places [] x.rules) units)
+      go x (found c z f s) = rw (whole x units, f (end_with complete)) (z, refl, s)
+      go x (short z f) = rw (whole x units, f (end_with complete)) (z, refl)
+      go x (large z f) = rw (whole x units, f (end_with complete)) (z, refl)
+      go x (on z f) = rw (whole x units, f (end_with complete), end_complete w.units) (z, refl)

@@ -1,13 +1,11 @@
 -- What is to come from a place on is that place and what is to come from the next, in each of the five cases of `next`. Assumes nothing.
--- Read first: specs/Order (to_come, Follows, FirstWith), rewriting/specs/Overlap (all_places).
+-- Read first: specs/Order (to_come, Follows), rewriting/specs/Overlap (all_places).
 use mathlib.Core.Path.{◌≡◌, refl, sym, ◌∙◌, ap, subst}
 use mathlib.Core.Bool.{Bool, true, false}
-use mathlib.Core.Logic.{inl, inr}
 use mathlib.Core.List.{List, [], ◌∷◌, ◌++◌}
 use Prim.Native.Nat.{ℕ, suc, ◌+◌, ◌-◌, ◌<◌, ◌≤◌}
 use native.Mathlib.Nat.{sub-zero}
 use native.Mathlib.Omega.{arith}
-use native.Mathlib.Decide.{dec_lt}
 use native.Mathlib.Numerals.{add-one}
 use lib.Dec.{ltb}
 use lib.ListN.{length, take, drop, drop_of_length-le}
@@ -22,10 +20,10 @@ use Rattle.completion.specs.Turn.{Candidate, scan, scan_inputs}
 use Rattle.slots.specs.Slots.{slot, left_length, Layout}
 use Rattle.scanning.specs.declared.spots.Spot.{Spot}
 use Rattle.scanning.specs.Walk.{visit, visits, rule_at, no_rule, at_place, of_rules}
-use Rattle.scanning.specs.Order.{at_positions, with_earlier, behind, behind_place, to_come, place_rank, Follows, FirstWith}
+use Rattle.scanning.specs.Order.{at_positions, with_earlier, behind, to_come, place_rank, Follows}
 use Rattle.scanning.proofs.Placing.{visit_none}
 
-pub visits_append : (rs : List Rule) (ps qs : List Place) (next : Paying Candidate) → visits rs (ps ++ qs) next ≡ visits rs ps (visits rs qs next)
+visits_append : (rs : List Rule) (ps qs : List Place) (next : Paying Candidate) → visits rs (ps ++ qs) next ≡ visits rs ps (visits rs qs next)
 unfolding visits
 visits_append rs [] qs next = refl
 visits_append rs (p ∷ ps) qs next = ap (visit rs p) (visits_append rs ps qs next)
@@ -35,13 +33,8 @@ unfolding scan visits visit
 scan_visits rs cs [] = refl
 scan_visits rs cs (p ∷ ps) = ap (visit rs p) (scan_visits rs cs ps)
 
-abbrev pub spot : ℕ → ℕ → ℕ → Spot
+abbrev spot : ℕ → ℕ → ℕ → Spot
 spot i o p = record { inner = i; outer = o; position = p }
-
--- the first place of a rule with earlier ones
-pub first_with : {a b : ℕ} {r : Spot} (Q : Spot → Type 0) → FirstWith a b r → (a < b → Q (spot a b 0)) → (b ≤ a → Q (spot b b 1)) → Q r
-first_with Q (inl h) f g = subst Q (sym h.1) (f h.0)
-first_with Q (inr h) f g = subst Q (sym h.1) (g h.0)
 
 module _ (rs : List Rule) where
   abbrev left_size : ℕ → ℕ
@@ -73,12 +66,7 @@ module _ (rs : List Rule) where
           let m : left_size o - (p + 1) ≡ 0 = omega arith in
           rw (n, m) (sym (visit_none rs place (overlap_behind _ _ p l) next))
 
-  pub positions_from : (i o p : ℕ) (next : Paying Candidate) →
-      visits rs (places (rule_at rs i) (rule_at rs o) (count_from (suc p) (left_size o - suc p))) next ≡ at_positions i o (p + 1) rs next
-  unfolding at_positions
-  positions_from i o p next = rw (add-one p) refl
-
-  pub all_positions : (i o : ℕ) (next : Paying Candidate) →
+  all_positions : (i o : ℕ) (next : Paying Candidate) →
       visits rs (places (rule_at rs i) (rule_at rs o) (positions (rule_at rs o))) next ≡ at_positions i o 0 rs next
   unfolding at_positions positions
   all_positions i o next = ap (λ n. visits rs (places (rule_at rs i) (rule_at rs o) (count_from 0 n)) next) (sym (sub-zero (left_size o)))
@@ -108,27 +96,18 @@ module _ (rs : List Rule) where
       ap (λ es. visits rs (places_with es (rule_at rs b)) (at_positions b b 1 rs (of_rules (b + 1) rs next)))
       (drop_of_length-le (take b rs) {i = b} (omega arith))
 
-  -- the rules behind rule b; rule b with some of the earlier ones and with itself, then those
-  pub rules_behind : (b : ℕ) (next : Paying Candidate) → b < length rs →
-      visits rs (all_places (take b rs ++ (rule_at rs b ∷ [])) (drop (suc b) rs)) next ≡ of_rules (b + 1) rs next
-  unfolding of_rules
-  rules_behind b next l = rw (add-one b, take-suc rs b no_rule l) refl
-
-  pub rule_parts : (b : ℕ) (es : List Rule) (next : Paying Candidate) → b < length rs →
-      visits rs ((places_with es (rule_at rs b) ++ places_self (rule_at rs b)) ++ all_places (take b rs ++ (rule_at rs b ∷ [])) (drop (suc b) rs)) next
-      ≡ visits rs (places_with es (rule_at rs b)) (at_positions b b 1 rs (of_rules (b + 1) rs next))
-  unfolding at_positions places_self
-  rule_parts b es next l =
-      let r : Rule = rule_at rs b in
-      let later : List Place = all_places (take b rs ++ (r ∷ [])) (drop (suc b) rs) in
-      visits_append rs (places_with es r ++ places_self r) later next
-      ∙ visits_append rs (places_with es r) (places_self r) (visits rs later next)
-      ∙ ap (λ n. visits rs (places_with es r) (visits rs (places_self r) n)) (rules_behind b next l)
-
   -- the rules from b on
   rules_more : (b : ℕ) (next : Paying Candidate) → b < length rs → of_rules b rs next ≡ with_earlier 0 b rs next
-  unfolding of_rules with_earlier all_places
-  rules_more b next l = ap (λ rest. visits rs (all_places (take b rs) rest) next) (drop-cons rs b no_rule l) ∙ rule_parts b (take b rs) next l
+  unfolding of_rules with_earlier at_positions all_places places_self
+  rules_more b next l =
+      let r : Rule = rule_at rs b in
+      let t : take b rs ++ (r ∷ []) ≡ take (b + 1) rs = rw (add-one b) (sym (take-suc rs b no_rule l)) in
+      let d : drop b rs ≡ r ∷ drop (b + 1) rs = rw (add-one b) (drop-cons rs b no_rule l) in
+      let later : List Rule → List Place = λ earlier. all_places earlier (drop (b + 1) rs) in
+      ap (λ rest. visits rs (all_places (take b rs) rest) next) d
+      ∙ visits_append rs (places_with (take b rs) r ++ places_self r) (later (take b rs ++ (r ∷ []))) next
+      ∙ visits_append rs (places_with (take b rs) r) (places_self r) (visits rs (later (take b rs ++ (r ∷ []))) next)
+      ∙ ap (λ earlier. visits rs (places_with (take b rs) r) (visits rs (places_self r) (visits rs (later earlier) next))) t
 
   rules_over : (b : ℕ) (next : Paying Candidate) → length rs ≤ b → of_rules b rs next ≡ next
   unfolding of_rules visits all_places
@@ -143,15 +122,15 @@ module _ (rs : List Rule) where
   unfolding to_come if◌then◌else◌
   come_out at next l = rw (le-ltb at.outer (length rs) l)
 
-  pub behind_earlier : (i o : ℕ) (next : Paying Candidate) → i < o → behind i o rs next ≡ at_positions o i 0 rs (with_earlier (i + 1) o rs next)
+  behind_earlier : (i o : ℕ) (next : Paying Candidate) → i < o → behind i o rs next ≡ at_positions o i 0 rs (with_earlier (i + 1) o rs next)
   unfolding behind if◌then◌else◌
   behind_earlier i o next l = rw (lt-ltb i o l)
 
-  pub behind_later : (i o : ℕ) (next : Paying Candidate) → o < i → behind i o rs next ≡ with_earlier (o + 1) i rs next
+  behind_later : (i o : ℕ) (next : Paying Candidate) → o < i → behind i o rs next ≡ with_earlier (o + 1) i rs next
   unfolding behind if◌then◌else◌
   behind_later i o next l = rw (le-ltb i o (omega arith), lt-ltb o i l)
 
-  pub behind_itself : (b : ℕ) (next : Paying Candidate) → behind b b rs next ≡ of_rules (b + 1) rs next
+  behind_itself : (b : ℕ) (next : Paying Candidate) → behind b b rs next ≡ of_rules (b + 1) rs next
   unfolding behind if◌then◌else◌
   behind_itself b next = rw (le-ltb b b (omega arith))
 
@@ -165,46 +144,50 @@ module _ (rs : List Rule) where
   itself : (b : ℕ) (next : Paying Candidate) → b < length rs → with_earlier b b rs next ≡ to_come (spot b b 1) rs next
   itself b next m = with_over b next m ∙ sym (come_in b b 1 next m ∙ ap (at_positions b b 1 rs) (behind_itself b next))
 
-  pub with_first : (a b : ℕ) (r : Spot) (next : Paying Candidate) → a ≤ b → b < length rs → FirstWith a b r → with_earlier a b rs next ≡ to_come r rs next
-  with_first a b r next l m w =
-      first_with (λ z. with_earlier a b rs next ≡ to_come z rs next) w (λ h. fresh a b next h m)
-      (λ h. let e : a ≡ b = omega arith in ap (λ z. with_earlier z b rs next) e ∙ itself b next m)
-
-  pub rules_first : (b : ℕ) (r : Spot) (next : Paying Candidate) → FirstWith 0 b r → of_rules b rs next ≡ to_come r rs next
-  rules_first b r next w = go (dec_lt b (length rs))
+  later : (b : ℕ) (next : Paying Candidate) → of_rules (b + 1) rs next ≡ to_come (spot 0 (b + 1) 0) rs next
+  later b next = go (ltb (b + 1) (length rs)) refl
     where
-      go : Dec (b < length rs) → of_rules b rs next ≡ to_come r rs next
-      go (yes m) = rules_more b next m ∙ with_first 0 b r next (omega arith) m w
-      go (no m) = rules_over b next (omega arith) ∙ sym (come_out r next (let e = first_with (λ z. z.outer ≡ b) w (λ _. refl) (λ _. refl) in omega arith))
+      go : (t : Bool) → ltb (b + 1) (length rs) ≡ t → of_rules (b + 1) rs next ≡ to_come (spot 0 (b + 1) 0) rs next
+      go true e = let l : b + 1 < length rs = ltb-true _ _ e in rules_more (b + 1) next l ∙ fresh 0 (b + 1) next (omega arith) l
+      go false e = let l : length rs ≤ b + 1 = ltb-false _ _ e in rules_over (b + 1) next l ∙ sym (come_out (spot 0 (b + 1) 0) next l)
+
+  pub from_first : (next : Paying Candidate) → of_rules 0 rs next ≡ to_come (spot 0 0 1) rs next
+  from_first next = go (ltb 0 (length rs)) refl
+    where
+      go : (t : Bool) → ltb 0 (length rs) ≡ t → of_rules 0 rs next ≡ to_come (spot 0 0 1) rs next
+      go true e = let l : 0 < length rs = ltb-true _ _ e in rules_more 0 next l ∙ itself 0 next l
+      go false e = let l : length rs ≤ 0 = ltb-false _ _ e in rules_over 0 next l ∙ sym (come_out (spot 0 0 1) next l)
 
   -- the next place, by what follows the positions
   pub on : (i o p : ℕ) (next : Paying Candidate) → o < length rs →
-      to_come (spot i o p) rs next ≡ at_place (spot i o p) rs (behind_place (spot i o p) rs next)
-  unfolding behind_place
+      to_come (spot i o p) rs next ≡ at_place (spot i o p) rs (at_positions i o (p + 1) rs (behind i o rs next))
   on i o p next m = come_in i o p next m ∙ positions_more i o p (behind i o rs next)
+
+  past : (i o p : ℕ) (r : Spot) (next : Paying Candidate) → o < length rs → left_size o ≤ p + 1 → behind i o rs next ≡ to_come r rs next →
+      to_come (spot i o p) rs next ≡ at_place (spot i o p) rs (to_come r rs next)
+  past i o p r next m l e = on i o p next m ∙ ap (at_place (spot i o p) rs) (positions_over i o (p + 1) (behind i o rs next) l ∙ e)
 
 -- the returns of `next`
 module _ (rules : List ℕ) (i o p : ℕ) (r : Spot) (n : ℕ) (low : (i < 33) × (o < 33) × (p < 256) × Layout rules (o + 1))
     (z : n ≡ left_length (slot rules o)) where
   pub next_position : p + 1 < n → r ≡ spot i o (p + 1) → Follows rules (spot i o p) r
-  unfolding place_rank behind_place
+  unfolding place_rank
   next_position l e = subst (Follows rules (spot i o p)) (sym e) (record {
     low = let few = (low.3.short o (omega arith)).left in omega arith;
     within = λ count a b c. omega arith;
     rises = omega arith;
-    leads = λ rs s a b next. sym (come_in rs i o (p + 1) next b);
+    leads = λ rs s a b next. on rs i o p next b ∙ ap (at_place (spot i o p) rs) (sym (come_in rs i o (p + 1) next b));
   })
 
   module _ (l : n ≤ p + 1) where
     follow : (q : Spot) → r ≡ q → q.position < 256 → ((count : ℕ) → i < count → o < count → q.outer < count → q.inner < count) →
         place_rank (spot i o p) < place_rank q →
         ((rs : List Rule) (next : Paying Candidate) → i < length rs → o < length rs → behind i o rs next ≡ to_come q rs next) → Follows rules (spot i o p) r
-    unfolding behind_place
     follow q e f w up g = subst (Follows rules (spot i o p)) (sym e) (record {
       low = f;
       within = w;
       rises = up;
-      leads = λ rs s a b next. positions_over rs i o (p + 1) (behind i o rs next) (omega (arith, s o b)) ∙ g rs next a b;
+      leads = λ rs s a b next. past rs i o p q next b (omega (arith, s o b)) (g rs next a b);
     })
 
     pub next_back : i < o → r ≡ spot o i 0 → Follows rules (spot i o p) r
@@ -227,5 +210,4 @@ module _ (rules : List ℕ) (i o p : ℕ) (r : Spot) (n : ℕ) (low : (i < 33) �
     unfolding place_rank
     next_later f g e =
         follow (spot 0 (o + 1) 0) e (omega arith) (λ count a b c. omega arith) (omega arith)
-        (λ rs next a b. ap (λ k. behind k o rs next) (omega arith) ∙ behind_itself rs o next
-        ∙ rules_first rs (o + 1) (spot 0 (o + 1) 0) next (inl (omega arith, refl)))
+        (λ rs next a b. ap (λ k. behind k o rs next) (omega arith) ∙ behind_itself rs o next ∙ later rs o next)

@@ -1,15 +1,14 @@
 -- The order of the places: what is to come from a place on, and what `next` answers. Assumes nothing.
-use Rattle.std.specs.Prelude.{◌≡◌, ◌⊎◌, List, ℕ, ◌+◌, ◌-◌, ◌*◌, ◌<◌, ◌≤◌, ltb, length, drop, take}
+use Rattle.std.specs.Prelude.{◌≡◌, List, ℕ, ◌+◌, ◌-◌, ◌*◌, ◌<◌, ltb, length, drop, take}
 use Rattle.terms.specs.Base.{count_from, if◌then◌else◌}
 use Rattle.terms.specs.Term.{size}
 use Rattle.rewriting.specs.Overlap.{Rule, places, places_with}
 use Rattle.rewriting.specs.Rewrite.{Paying}
-use Rattle.keys.specs.declared.Key.{Key}
 use Rattle.slots.specs.Slots.{slot, left_length}
 use Rattle.completion.specs.Turn.{Candidate}
 use Rattle.forms.specs.Forms.{ScanPart}
 use Rattle.scanning.specs.declared.spots.Spot.{Spot}
-use Rattle.scanning.specs.Walk.{visits, rule_at, RulesIn, of_rules, of_unmarked}
+use Rattle.scanning.specs.Walk.{visits, rule_at, at_place, of_rules}
 
 -- the positions from one on
 unfoldable pub at_positions : ℕ → ℕ → ℕ → List Rule → ScanPart
@@ -29,10 +28,6 @@ unfoldable pub to_come : Spot → List Rule → ScanPart
 to_come at rs next =
     if ltb at.outer (length rs) then at_positions at.inner at.outer at.position rs (behind at.inner at.outer rs next) else next
 
--- what is behind a place
-unfoldable pub behind_place : Spot → List Rule → ScanPart
-behind_place at rs next = at_positions at.inner at.outer (at.position + 1) rs (behind at.inner at.outer rs next)
-
 -- a number that rises along the places: by the later rule, then the earlier, then which of them is inner, then the position
 unfoldable pub place_rank : Spot → ℕ
 place_rank at = at.position + 256 * ((at.inner - at.outer) + 40 * (at.inner - (at.inner - at.outer)) + 2000 * (at.inner + (at.outer - at.inner)))
@@ -43,14 +38,5 @@ pub record Follows (rules : List ℕ) (at r : Spot) : Type 0 where
   pub within : (count : ℕ) → at.inner < count → at.outer < count → r.outer < count → r.inner < count
   pub rises : place_rank at < place_rank r
   pub leads : (rs : List Rule) → ((k : ℕ) → k < length rs → left_length (slot rules k) ≡ size (rule_at rs k).sides.left) → at.inner < length rs →
-      at.outer < length rs → (next : Paying Candidate) → behind_place at rs next ≡ to_come r rs next
-
--- `with_earlier`: rule b with the earlier ones from a on, or with itself
-abbrev pub FirstWith : ℕ → ℕ → Spot → Type 0
-FirstWith a b r = ((a < b) × (r ≡ record { inner = a; outer = b; position = 0 })) ⊎ ((b ≤ a) × (r ≡ record { inner = b; outer = b; position = 1 }))
-
--- `behind`: the first place that is not marked
-pub record Begins (rules : List ℕ) (count : ℕ) (key : Key) (r : Spot) : Type 0 where
-  pub low : r.position < 256
-  pub within : r.outer < count → r.inner < count
-  pub leads : (tab : List ℕ) (rs : List Rule) → RulesIn tab rules count rs → (next : Paying Candidate) → of_unmarked key rs next ≡ to_come r rs next
+      at.outer < length rs →
+      (next : Paying Candidate) → to_come at rs next ≡ at_place at rs (to_come r rs next)

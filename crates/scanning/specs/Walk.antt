@@ -1,14 +1,10 @@
 -- What a walk over places or over input equations comes to, and what the functions of the scan answer. Assumes nothing.
 use Rattle.std.specs.Prelude.{◌≡◌, List, [], ◌∷◌, map, ℕ, ◌<◌, ◌≤◌, length, get_or, drop, take}
-use Rattle.limits.specs.Limits.{most_entries}
 use Rattle.terms.specs.Base.{number_bytes}
 use Rattle.terms.specs.Term.{var, Pair}
 use Rattle.rewriting.specs.Overlap.{Rule, sides_of, overlap, Place, all_places}
 use Rattle.rewriting.specs.Rewrite.{End, complete, neither_above, spent, too_large, rules_full, log_full, Paid, done, stop, ◌>>=◌}
-use Rattle.completion.specs.Turn.{scanned_input, Candidate, candidates, scan_overlap, if_different_overlap, scan, unmarked, last_key}
-use Rattle.completion.specs.Numbered.{Numbered}
-use Rattle.keys.specs.declared.Key.{Key}
-use Rattle.keys.specs.Keys.{key_list, Proper}
+use Rattle.completion.specs.Turn.{scanned_input, Candidate, candidates, scan_overlap, if_different_overlap, scan}
 use Rattle.slots.specs.Slots.{slot, number_of, Layout, Stored}
 use Rattle.joining.specs.declared.Walk.{Walk}
 use Rattle.forms.specs.declared.Taken.{Taken}
@@ -51,12 +47,11 @@ no_rule = record { number = 0; sides = record { left = var 0; right = var 0 } }
 abbrev pub rule_at : List Rule → ℕ → Rule
 rule_at rs k = get_or rs k no_rule
 
--- the rules stand in the slots by their numbers, which are in the marks
+-- the rules stand in the slots, with their numbers in the marks
 pub record RulesIn (tab rules : List ℕ) (count : ℕ) (rs : List Rule) : Type 0 where
   pub stored : Stored tab rules 0 (sides_of rs)
   pub counted : count ≡ length rs
   pub numbered : (k : ℕ) → k < count → number_of (slot rules k) ≡ number_bytes 2 (rule_at rs k).number
-  pub by_number : Numbered most_entries rs
 
 -- and a symbol stands at the place
 pub record OverlapsAt (tab rules : List ℕ) (count : ℕ) (at : Spot) (rs : List Rule) : Type 0 where
@@ -69,10 +64,6 @@ at_place at rs = visit rs (record { inner = rule_at rs at.inner; outer = rule_at
 
 unfoldable pub of_rules : ℕ → List Rule → ScanPart
 of_rules b rs = visits rs (all_places (take b rs) (drop b rs))
-
--- the places that are not marked up to a key: "the scan passes over those"
-unfoldable pub of_unmarked : Key → List Rule → ScanPart
-of_unmarked passed rs = visits rs (unmarked (key_list passed) (all_places [] rs))
 
 -- the rules and the input equations stand in slots
 pub record World : Type 0 where
@@ -97,11 +88,11 @@ of_input k x = compared x.rules (get_or (world_inputs x) k no_candidate).origin 
 unfoldable pub of_inputs : ℕ → World → ScanPart
 of_inputs k x = visit_inputs x.rules (drop k (world_inputs x))
 
-unfoldable pub rules_part : Key → World → ScanPart
-rules_part passed x = of_unmarked passed x.rules
+unfoldable pub rules_part : World → ScanPart
+rules_part x = of_rules 0 x.rules
 
-unfoldable pub of_all : Key → World → ScanPart
-of_all passed x next = of_unmarked passed x.rules (of_inputs 0 x next)
+unfoldable pub of_all : World → ScanPart
+of_all x next = of_rules 0 x.rules (of_inputs 0 x next)
 
 -- what a scan finds where it comes to an end: "If there is none, the end is 0, complete."
 abbrev pub StopsWith : End → Found → Type 0
@@ -117,14 +108,7 @@ abbrev pub Finds : List ℕ → Taken → Paid Candidate → Type 0
 Finds tab t (done c left) = (t.found ≡ Different) × (t.units ≡ left) × Shows tab t.pair c
 Finds tab t (stop e left) = StopsWith e t.found × (t.units ≡ left)
 
-pub record ScanIs (tab list : List ℕ) (number : ℕ) (rules : List ℕ) (count : ℕ) (passed : Key) (units : ℕ) (t : Taken) : Type 0 where
+pub record ScanIs (tab list : List ℕ) (number : ℕ) (rules : List ℕ) (count units : ℕ) (t : Taken) : Type 0 where
   pub layout : Layout t.pair 1
   pub left_over : t.units ≤ units
-  pub answer : (x : World) → InSlots tab rules count list number x →
-      Finds tab t (scan x.rules (world_inputs x) (unmarked (key_list passed) (all_places [] x.rules)) units)
-
--- `last_key`: where an input was taken, all places are marked
-pub record LastKey (rules : List ℕ) (count : ℕ) (passed r : Key) : Type 0 where
-  pub proper : Proper r
-  pub is : (tab : List ℕ) (rs : List Rule) → RulesIn tab rules count rs →
-      key_list r ≡ last_key (key_list passed) (unmarked (key_list passed) (all_places [] rs))
+  pub answer : (x : World) → InSlots tab rules count list number x → Finds tab t (scan x.rules (world_inputs x) (all_places [] x.rules) units)

@@ -1,11 +1,8 @@
 // The places where overlaps are looked for, in document 01's order.
-ghost use Rattle.std.specs.Prelude.{◌≡◌, ◌+◌, ◌<◌, ◌≤◌};
+ghost use Rattle.std.specs.Prelude.{◌≡◌, ◌+◌, ◌<◌};
 ghost use Rattle.limits.specs.Limits.{most_pairs, byte_values};
 ghost use Rattle.slots.specs.Slots.{Layout};
-ghost use Rattle.keys.specs.Keys.{Proper};
-ghost use Rattle.scanning.specs.Order.{Follows, FirstWith, Begins};
-
-use keys::Key;
+ghost use Rattle.scanning.specs.Order.{Follows};
 
 // Rule `inner` in rule `outer` at a position of its left side, or behind its end, where there is no overlap.
 #[derive(Drop)]
@@ -50,36 +47,4 @@ pub fn next(rules: &[u8], at: Spot) -> Spot
         return spot_at(inner, inner, BELOW_ROOT);
     }
     spot_at(0, outer + 1, 0)
-}
-
-// The first place of rule b with the earlier rules from a on, or with itself.
-fn with_earlier(a: usize, b: usize) -> Spot
-    ensures { FirstWith a b result }
-{
-    if a < b {
-        return spot_at(a, b, 0);
-    }
-    spot_at(b, b, BELOW_ROOT)
-}
-
-// The first place behind a key, of rules that stand by their numbers: none of those up to the key is looked at.
-pub fn behind(rules: &[u8], count: usize, key: Key) -> Spot
-    requires { Layout rules.now count × (count ≤ most_pairs) × Proper key }
-    ensures { Begins rules.now count key result }
-{
-    let b = keys::first_from(rules, count, key.later);
-    if b == count {
-        return with_earlier(0, b);
-    }
-    if keys::rule_number(rules, b) > key.later {
-        return with_earlier(0, b);
-    }
-    let a = keys::first_from(rules, b, key.earlier);
-    if keys::rule_number(rules, a) > key.earlier {
-        return with_earlier(a, b);
-    }
-    if key.inner == key.earlier {
-        return next(rules, spot_at(a, b, key.position));
-    }
-    next(rules, spot_at(b, a, key.position))
 }

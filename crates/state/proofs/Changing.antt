@@ -1,7 +1,7 @@
 -- What `initial`, `take`, `orient` and `collapse` make of the state that is stood for: the slots change as the lists do. Assumes nothing.
 -- Read first: specs/Run (Represents, FineBut), specs/Steps, Rows, slots/proofs/Changes.
 use mathlib.Core.Path.{◌≡◌, refl, sym, ap, ◌∙◌, subst}
-use mathlib.Core.Logic.{◌⊎◌, inl, inr}
+use mathlib.Core.Logic.{inl, inr}
 use mathlib.Core.List.{List, [], ◌∷◌, ◌++◌, map, flat_map}
 use Prim.Native.Nat.{ℕ, suc, ◌+◌, ◌-◌, ◌*◌, ◌<◌, ◌≤◌}
 use native.Mathlib.Omega.{arith}
@@ -11,16 +11,11 @@ use Rattle.terms.specs.Term.{Pair}
 use Rattle.terms.proofs.Shape.{zero≢one}
 use Rattle.rewriting.specs.Overlap.{Rule as LiveRule}
 use Rattle.problem.specs.Problem.{Theory}
-use Rattle.keys.specs.declared.Key.{Key}
-use Rattle.keys.specs.Keys.{no_place, Proper}
-use Rattle.keys.proofs.Numbering.{none_proper, key_none}
 use Rattle.slots.specs.Slots.{slot_width, slot, Layout, PairAt, MarkedAt, Holds, Removed, Inserted}
 use Rattle.slots.specs.declared.Pairs.{Pairs}
 use Rattle.slots.proofs.Listing.{pair_moved}
 use Rattle.slots.proofs.Changes.{removed_layout, inserted_layout, removed_holds, inserted_holds}
 use Rattle.completion.specs.Turn.{removed_rule, Candidate, State as RunState, initial}
-use Rattle.completion.specs.Numbered.{Numbered}
-use Rattle.completion.proofs.ByNumber.{numbered_none, numbered_last, numbered_kept}
 use Rattle.completion.specs.Calls.{origin_bytes}
 use Rattle.inputs.specs.Inputs.{marked, Held}
 use Rattle.orient.specs.Orients.{OrientedIs, RuleOf}
@@ -37,11 +32,10 @@ use Rattle.items.specs.Written.{row}
 use Rattle.collapse.proofs.Rows.{held_rows, held_more, length_held, length_rows, length_marked, row_at}
 
 -- `initial`
-pub initial_done : (inputs : Pairs) (budget : ℕ) (zeros : List ℕ) → {k : Key} → Layout inputs.bytes inputs.count →
-    inputs.count ≤ most_equations → k ≡ no_place →
-    Initial inputs budget (record { pairs = inputs; live = 0; made = 0; log = record { bytes = zeros; count = 0 }; back = 0; passed = k; units = budget })
+pub initial_done : (inputs : Pairs) (budget : ℕ) (zeros : List ℕ) → Layout inputs.bytes inputs.count → inputs.count ≤ most_equations →
+    Initial inputs budget (record { pairs = inputs; live = 0; made = 0; log = record { bytes = zeros; count = 0 }; back = 0; units = budget })
 unfolding initial flat_map
-initial_done inputs budget zeros y few none = record {
+initial_done inputs budget zeros y few = record {
   fine = record {
     layout = y;
     within = omega arith;
@@ -50,20 +44,10 @@ initial_done inputs budget zeros y few none = record {
     log_few = omega arith;
     made_few = omega arith;
     back_few = omega arith;
-    proper = subst Proper (sym none) none_proper;
   };
   units = refl;
   empty = refl;
-  represents =
-      λ tab T h. record {
-        pairs = h;
-        live = refl;
-        made = refl;
-        log = record { bytes = refl; counted = refl };
-        back = refl;
-        marks = key_none _ (ap (λ (x : Key). x.later) none);
-        by_number = numbered_none 0;
-      };
+  represents = λ tab T h. record { pairs = h; live = refl; made = refl; log = record { bytes = refl; counted = refl }; back = refl };
 }
 
 -- the rows of a state that is stood for
@@ -77,94 +61,84 @@ module _ (tab : List ℕ) (st : State) (s : RunState) (r : Represents tab st s) 
   pub rules_rows : length (map row s.rules) ≡ st.live
   rules_rows = length_rows s.rules ∙ sym r.live
 
--- `take`: other pairs, with as many rules, and another key
-module _ (st : State) (passed : Key) (fine : Fine st) (proper : Proper passed) where
-  abbrev with_left : Pairs → State
-  with_left left = record {
-    pairs = left;
-    live = st.live;
-    made = st.made;
-    log = st.log;
-    back = st.back;
-    passed = passed;
-    units = st.units;
-  }
+-- `take`
+module _ (st : State) (fine : Fine st) where
+  module _ (some : st.live < st.pairs.count) (b : List ℕ) (d : Removed st.pairs.bytes st.live st.pairs.count b) where
+    abbrev without_first : State
+    without_first = record {
+      pairs = record { bytes = b; count = st.pairs.count - 1 };
+      live = st.live;
+      made = st.made;
+      log = st.log;
+      back = st.back;
+      units = st.units;
+    }
 
-  -- what is left is the rules, and what waits behind the oldest
-  abbrev Left : Pairs → Type 0
-  Left left = (tab : List ℕ) (s : RunState) → Represents tab st s → Held tab left (held s.rules (behind_first s.waiting))
+    taken : (tab : List ℕ) (s : RunState) → Represents tab st s → (ws : List Candidate) → s.waiting ≡ ws →
+        Represents tab without_first (record { rules = s.rules; made = s.made; waiting = behind_first ws; log = s.log; put_back = s.put_back })
+    unfolding behind_first
+    taken tab s r [] e = absurd (omega (arith, all_rows tab st s r, ap length e))
+    taken tab s r (c ∷ cs) e =
+        let n : st.pairs.count ≡ st.live + suc (length cs) = all_rows tab st s r ∙ omega (arith, ap length e) in
+        let l = r.live in
+        record {
+          pairs = record {
+            holds =
+                subst (λ z. Holds tab b 0 z) (sym (held_rows s.rules cs))
+                (removed_holds tab (map row s.rules) (marked c) (map marked cs)
+                (subst (λ z. Holds tab st.pairs.bytes 0 (map row s.rules ++ map marked z)) e (rows tab st s r))
+                (rules_rows tab st s r)
+                (length-append (map row s.rules) (marked c ∷ map marked cs) ∙ omega (arith, n, rules_rows tab st s r, length_marked cs))
+                d);
+            counted = omega (arith, n, length_held s.rules cs);
+          };
+          live = l;
+          made = r.made;
+          log = r.log;
+          back = r.back;
+        }
 
-  takes : (left : Pairs) → Layout left.bytes left.count → st.live ≤ left.count → left.count ≤ st.pairs.count →
-      (left.count < st.pairs.count ⊎ (left.count ≡ st.live)) → Left left → Takes st passed (with_left left)
-  takes left layout within fewer room rest =
-      let t = fine.together in record {
-        fine = record {
-          layout = layout;
-          within = within;
-          together = omega arith;
-          live_few = fine.live_few;
-          log_few = fine.log_few;
-          made_few = fine.made_few;
-          back_few = fine.back_few;
-          proper = proper;
-        };
-        same = record { log = refl; back = refl; units = refl };
-        live = refl;
-        room = room;
-        represents = λ tab s marks k r. record {
-          pairs = rest tab s r;
+    pub take_done : Takes st without_first
+    take_done =
+        let t = fine.together in record {
+          fine = record {
+            layout = removed_layout d fine.layout (let e : suc (st.pairs.count - 1) ≡ st.pairs.count = omega arith in e) some;
+            within = omega arith;
+            together = omega arith;
+            live_few = fine.live_few;
+            log_few = fine.log_few;
+            made_few = fine.made_few;
+            back_few = fine.back_few;
+          };
+          same = record { log = refl; back = refl; units = refl };
+          live = refl;
+          room = inl (omega arith);
+          represents = λ tab s r. taken tab s r s.waiting refl;
+        }
+
+  module _ (none : st.pairs.count ≤ st.live) where
+    not_taken : (tab : List ℕ) (s : RunState) → Represents tab st s → (ws : List Candidate) → s.waiting ≡ ws →
+        Represents tab st (record { rules = s.rules; made = s.made; waiting = behind_first ws; log = s.log; put_back = s.put_back })
+    unfolding behind_first
+    not_taken tab s r [] e =
+        record {
+          pairs = subst (λ z. Held tab st.pairs (held s.rules z)) e r.pairs;
           live = r.live;
           made = r.made;
           log = r.log;
           back = r.back;
-          marks = k;
-          by_number = r.by_number;
-        };
-      }
+        }
+    not_taken tab s r (c ∷ cs) e = absurd (omega (arith, all_rows tab st s r, ap length e))
 
-  -- one waits
-  module _ (some : st.live < st.pairs.count) (b : List ℕ) (d : Removed st.pairs.bytes st.live st.pairs.count b) where
-    abbrev without_first : Pairs
-    without_first = record { bytes = b; count = st.pairs.count - 1 }
-
-    first_gone : Left without_first
-    unfolding behind_first
-    first_gone tab s r = go s.waiting refl
-      where
-        go : (ws : List Candidate) → s.waiting ≡ ws → Held tab without_first (held s.rules (behind_first ws))
-        go [] e = absurd (omega (arith, all_rows tab st s r, ap length e))
-        go (c ∷ cs) e =
-            let n : st.pairs.count ≡ st.live + suc (length cs) = all_rows tab st s r ∙ omega (arith, ap length e) in
-            let l = r.live in
-            record {
-              holds =
-                  subst (λ z. Holds tab b 0 z) (sym (held_rows s.rules cs))
-                  (removed_holds tab (map row s.rules) (marked c) (map marked cs)
-                  (subst (λ z. Holds tab st.pairs.bytes 0 (map row s.rules ++ map marked z)) e (rows tab st s r))
-                  (rules_rows tab st s r)
-                  (length-append (map row s.rules) (marked c ∷ map marked cs) ∙ omega (arith, n, rules_rows tab st s r, length_marked cs))
-                  d);
-              counted = omega (arith, n, length_held s.rules cs);
-            }
-
-    pub take_done : Takes st passed (with_left without_first)
-    take_done =
-        takes without_first
-        (removed_layout d fine.layout (let e : suc (st.pairs.count - 1) ≡ st.pairs.count = omega arith in e) some)
-        (omega arith) (omega arith) (inl (omega arith)) first_gone
-
-  -- none waits
-  module _ (none : st.pairs.count ≤ st.live) where
-    none_gone : Left st.pairs
-    unfolding behind_first
-    none_gone tab s r = go s.waiting refl
-      where
-        go : (ws : List Candidate) → s.waiting ≡ ws → Held tab st.pairs (held s.rules (behind_first ws))
-        go [] e = subst (λ z. Held tab st.pairs (held s.rules z)) e r.pairs
-        go (c ∷ cs) e = absurd (omega (arith, all_rows tab st s r, ap length e))
-
-    pub take_none : Takes st passed (with_left st.pairs)
-    take_none = let w = fine.within in takes st.pairs fine.layout w (omega arith) (inr (omega arith)) none_gone
+    pub take_none : Takes st st
+    take_none =
+        let w = fine.within in record {
+          fine = fine;
+          same = record { log = refl; back = refl; units = refl };
+          live = refl;
+          room = inr (omega arith);
+          represents = λ tab s r. not_taken tab s r s.waiting refl;
+        }
 
 -- `orient`
 module _ (tab pair : List ℕ) (st : State) (o : NewPair) where
@@ -197,7 +171,6 @@ module _ (tab pair : List ℕ) (st : State) (o : NewPair) where
       made = st.made + 1;
       log = st.log;
       back = st.back;
-      passed = st.passed;
       units = st.units;
     }
 
@@ -230,8 +203,6 @@ module _ (tab pair : List ℕ) (st : State) (o : NewPair) where
             made = more_made;
             log = r.log;
             back = r.back;
-            marks = r.marks;
-            by_number = numbered_last new (omega arith) r.by_number;
           }
 
     made_rule : (T : Theory) (s : RunState) → Represents tab st s → (p : Pair) (w : Way) → w ≡ Rule → OrientedIs tab o.rule T p w →
@@ -254,7 +225,6 @@ module _ (tab pair : List ℕ) (st : State) (o : NewPair) where
             log_few = fine.log_few;
             made_few = omega arith;
             back_few = fine.back_few;
-            proper = fine.proper;
           };
           live = λ g. refl;
           made = λ g. refl;
@@ -273,7 +243,6 @@ module _ (tab : List ℕ) (st : State) (fine : FineBut 1 1 st) (new b : List ℕ
     made = st.made;
     log = st.log;
     back = st.back;
-    passed = st.passed;
     units = st.units;
   }
 
@@ -291,15 +260,7 @@ module _ (tab : List ℕ) (st : State) (fine : FineBut 1 1 st) (new b : List ℕ
       (length_rows older ∙ omega (arith, ap length e)) in
       let f = g.sifted x older s.waiting (pair_moved copied m.pair)
       (record { holds = h; live_are = l ∙ ap length e; counted = r.pairs.counted ∙ ap (λ z. length (held z s.waiting)) e }) in
-      record {
-        pairs = record { holds = f.holds; counted = f.counted };
-        live = f.live_are;
-        made = r.made;
-        log = r.log;
-        back = r.back;
-        marks = r.marks;
-        by_number = numbered_kept x older (x ∷ []) (subst (Numbered s.made) e r.by_number);
-      }
+      record { pairs = record { holds = f.holds; counted = f.counted }; live = f.live_are; made = r.made; log = r.log; back = r.back }
 
   pub collapse_done : Collapses tab st after_collapse
   collapse_done =
@@ -314,7 +275,6 @@ module _ (tab : List ℕ) (st : State) (fine : FineBut 1 1 st) (new b : List ℕ
           log_few = fine.log_few;
           made_few = fine.made_few;
           back_few = fine.back_few;
-          proper = fine.proper;
         };
         some_live = g.some;
         made = refl;

@@ -69,7 +69,6 @@ module _ (st : State) (pair : List ℕ) (n : ℕ) (room : st.log.count < most_en
     made = st.made;
     log = with_one st.log pair n room long bytes count e;
     back = 0;
-    passed = st.passed;
     units = st.units;
   }
 
@@ -85,7 +84,6 @@ module _ (st : State) (pair : List ℕ) (n : ℕ) (room : st.log.count < most_en
         log_few = omega arith;
         made_few = omega arith;
         back_few = omega arith;
-        proper = F.proper;
       }
 
   pub log_done : Logs st (mark_of (slot pair 0)) n with_log
@@ -100,7 +98,5 @@ module _ (st : State) (pair : List ℕ) (n : ℕ) (room : st.log.count < most_en
           made = r.made;
           log = logged_more st.log pair n room long bytes count e s.log o r.log q;
           back = refl;
-          marks = r.marks;
-          by_number = r.by_number;
         };
       }

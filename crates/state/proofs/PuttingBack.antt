@@ -11,7 +11,7 @@ use Rattle.slots.specs.Slots.{slot_width, slot, mark_of, PairAt, MarkedAt, Holds
 use Rattle.slots.proofs.Changes.{inserted_layout, inserted_holds}
 use Rattle.completion.specs.Turn.{made_put_back, Candidate, State as RunState, Taken, waits_again}
 use Rattle.completion.specs.Calls.{origin_bytes}
-use Rattle.inputs.specs.Inputs.{marked, Held}
+use Rattle.inputs.specs.Inputs.{marked}
 use Rattle.orient.specs.Orients.{Few, Renames}
 use Rattle.state.specs.declared.State.{State}
 use Rattle.items.specs.Written.{logged_width}
@@ -32,24 +32,13 @@ module _ (st : State) (pair one b : List ℕ) (fine : Fine st) (few : st.pairs.c
     behind : map marked (held s.rules (s.waiting ++ (c ∷ []))) ≡ map marked before ++ (marked c ∷ [])
     behind = ap (map marked) (sym (append_assoc (map _ s.rules) s.waiting (c ∷ []))) ∙ map-append marked before (c ∷ [])
 
-    one_behind : Held tab (record { bytes = b; count = st.pairs.count + 1 }) (held s.rules (s.waiting ++ (c ∷ [])))
+    one_behind : Holds tab b 0 (map marked (held s.rules (s.waiting ++ (c ∷ []))))
     one_behind =
-        let n : length (map marked before) ≡ st.pairs.count = length_marked before ∙ sym r.pairs.counted in
+        let k : length (map marked before) ≡ st.pairs.count = length_marked before ∙ sym r.pairs.counted in
         let e : map marked before ++ [] ≡ map marked before = append-nil (map marked before) in
-        record {
-          holds =
-              subst (λ z. Holds tab b 0 z) (sym behind)
-              (inserted_holds tab (map marked before) (marked c) [] (subst (λ z. Holds tab st.pairs.bytes 0 z) (sym e) r.pairs.holds) n
-              (ap length e ∙ n) m i);
-          counted =
-              omega (
-                arith,
-                r.pairs.counted,
-                length_held s.rules s.waiting,
-                length_held s.rules (s.waiting ++ (c ∷ [])),
-                length-append s.waiting (c ∷ []),
-              );
-        }
+        subst (λ z. Holds tab b 0 z) (sym behind)
+        (inserted_holds tab (map marked before) (marked c) [] (subst (λ z. Holds tab st.pairs.bytes 0 z) (sym e) r.pairs.holds) k
+        (ap length e ∙ k) m i)
 
   module _ (room : st.log.count < most_entries) (long : logged_width * most_entries ≤ length st.log.bytes) (bytes : List ℕ) (count : ℕ)
       (e : Enters st.log.count made_put_back pair st.log.bytes bytes count) where
@@ -60,25 +49,30 @@ module _ (st : State) (pair one b : List ℕ) (fine : Fine st) (few : st.pairs.c
       made = st.made;
       log = with_one st.log pair made_put_back room long bytes count e;
       back = st.back + 1;
-      passed = st.passed;
       units = st.units;
     }
 
-    again : (tab : List ℕ) (s : RunState) (t : Taken) → Represents tab st s → s.waiting ≡ t.waiting → s.marks ≡ t.marks →
-        PairAt most_apart tab pair 0 t.pair.sides → Few t.pair.sides → mark_of (slot pair 0) ≡ origin_bytes t.pair.origin →
-        Represents tab with_pair (waits_again s t)
+    again : (tab : List ℕ) (s : RunState) (t : Taken) → Represents tab st s → s.waiting ≡ t.waiting → PairAt most_apart tab pair 0 t.pair.sides →
+        Few t.pair.sides → mark_of (slot pair 0) ≡ origin_bytes t.pair.origin → Represents tab with_pair (waits_again s t)
     unfolding waits_again
-    again tab s t r w same p few' q =
+    again tab s t r w p few' q =
         let c : Candidate = record { origin = t.pair.origin; sides = renamed t.pair.sides } in
         let m : MarkedAt tab one 0 (marked c) = record { mark = n.marked ∙ q; pair = n.sides tab t.pair.sides p few' } in
+        let k : length (s.waiting ++ (c ∷ [])) ≡ length s.waiting + 1 = length-append s.waiting (c ∷ []) in
+        let h : Holds tab b 0 (map marked (held s.rules (t.waiting ++ (c ∷ [])))) =
+        subst (λ l. Holds tab b 0 (map marked (held s.rules (l ++ (c ∷ []))))) w (one_behind tab s r c m) in
         record {
-          pairs = subst (λ l. Held tab with_pair.pairs (held s.rules (l ++ (c ∷ [])))) w (one_behind tab s r c m);
+          pairs = record {
+            holds = h;
+            counted = ap (λ z. z + 1) (r.pairs.counted ∙ length_held s.rules s.waiting)
+                ∙ omega (arith, k)
+                ∙ sym (length_held s.rules (s.waiting ++ (c ∷ [])))
+                ∙ ap (λ l. length (held s.rules (l ++ (c ∷ [])))) w;
+          };
           live = r.live;
           made = r.made;
           log = logged_more st.log pair made_put_back room long bytes count e s.log t.pair.origin r.log q;
           back = let z = r.back in omega arith;
-          marks = r.marks ∙ same;
-          by_number = r.by_number;
         }
 
     pub put_back_done : PutsBack pair st with_pair
@@ -96,7 +90,6 @@ module _ (st : State) (pair one b : List ℕ) (fine : Fine st) (few : st.pairs.c
             log_few = omega arith;
             made_few = omega arith;
             back_few = omega arith;
-            proper = fine.proper;
           };
           entries = more;
           units = refl;

@@ -16,7 +16,6 @@ with_slots st b = record {
   made = st.made;
   log = st.log;
   back = st.back;
-  passed = st.passed;
   units = st.units;
 }
 
@@ -32,7 +31,6 @@ still_fine F layout live made =
       log_few = F.log_few;
       made_few = made;
       back_few = F.back_few;
-      proper = F.proper;
     }
 
 pub units_fine : {over behind : ℕ} {st : State} (u : ℕ) → FineBut over behind st → FineBut over behind (with_units st u)

@@ -3,10 +3,8 @@ use Rattle.std.specs.Prelude.{◌≡◌, ℕ, ◌+◌, ◌*◌, ◌≤◌, lengt
 use mathlib.Core.List.{List, flat_map}
 use Rattle.limits.specs.Limits.{most_rules, most_pairs, most_entries}
 use Rattle.rewriting.specs.Ends.{ending}
-use Rattle.keys.specs.Keys.{key_list, Proper}
 use Rattle.slots.specs.Slots.{Layout}
 use Rattle.completion.specs.Turn.{Entry, State as RunState, Finished}
-use Rattle.completion.specs.Numbered.{Numbered}
 use Rattle.items.specs.Written.{logged_width, logged}
 use Rattle.inputs.specs.Inputs.{Held}
 use Rattle.collapse.specs.Rows.{held}
@@ -31,21 +29,17 @@ pub record FineBut (over behind : ℕ) (st : State) : Type 0 where
   pub log_few : st.log.count ≤ most_entries
   pub made_few : st.made ≤ st.log.count + behind
   pub back_few : st.back ≤ st.log.count + most_pairs
-  pub proper : Proper st.passed
 
 abbrev pub Fine : State → Type 0
 Fine st = FineBut 0 0 st
 
--- The state stands for the definition's state s, over the table tab. Its rules stand by their numbers, as those of every state of a run do and of every
--- saved record; nothing else is asked of s.
+-- The state stands for the definition's state s, over the table tab.
 pub record Represents (tab : List ℕ) (st : State) (s : RunState) : Type 0 where
   pub pairs : Held tab st.pairs (held s.rules s.waiting)
   pub live : st.live ≡ length s.rules
   pub made : st.made ≡ s.made
   pub log : Logged st.log s.log
   pub back : st.back ≡ s.put_back
-  pub marks : key_list st.passed ≡ s.marks
-  pub by_number : Numbered s.made s.rules
 
 -- What a run leaves, f: the state stands for its last state, and its end and the units paid are these.
 pub record Leaves (tab : List ℕ) (f : Finished) (st : State) (end : Ending) (paid : ℕ) : Type 0 where
@@ -55,7 +49,7 @@ pub record Leaves (tab : List ℕ) (f : Finished) (st : State) (end : Ending) (p
 
 -- the state with other units
 abbrev pub with_units : State → ℕ → State
-with_units st u = record { pairs = st.pairs; live = st.live; made = st.made; log = st.log; back = st.back; passed = st.passed; units = u }
+with_units st u = record { pairs = st.pairs; live = st.live; made = st.made; log = st.log; back = st.back; units = u }
 
 -- `goes_on`
 abbrev pub goes_on_as : State → ℕ → Turned

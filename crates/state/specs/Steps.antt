@@ -6,10 +6,8 @@ use Rattle.terms.specs.Base.{number_bytes}
 use Rattle.terms.specs.Term.{Pair, pair_variables}
 use Rattle.fields.specs.Puts.{patched}
 use Rattle.order.specs.Walk.{rank}
-use Rattle.rewriting.specs.Overlap.{Rule as LiveRule, Key as PlaceKey}
+use Rattle.rewriting.specs.Overlap.{Rule as LiveRule}
 use Rattle.problem.specs.Problem.{rank_of, Theory}
-use Rattle.keys.specs.declared.Key.{Key}
-use Rattle.keys.specs.Keys.{key_list}
 use Rattle.slots.specs.Slots.{slot, mark_of, PairAt}
 use Rattle.slots.specs.declared.Pairs.{Pairs}
 use Rattle.completion.specs.Turn.{Origin, Candidate, State as RunState, Taken, initial, orient, waits_again, kept, removed}
@@ -36,22 +34,20 @@ pub record SameLog (st r : State) : Type 0 where
   pub back : r.back ≡ st.back
   pub units : r.units ≡ st.units
 
--- `take`: the waiting list without its oldest equation, if one waits; and other marks
+-- `take`: the waiting list without its oldest equation, if one waits
 unfoldable pub behind_first : List Candidate → List Candidate
 behind_first [] = []
 behind_first (c ∷ cs) = cs
 
-abbrev pub without_oldest : RunState → PlaceKey → RunState
-without_oldest s marks =
-    record { rules = s.rules; made = s.made; waiting = behind_first s.waiting; log = s.log; put_back = s.put_back; marks = marks }
+abbrev pub without_oldest : RunState → RunState
+without_oldest s = record { rules = s.rules; made = s.made; waiting = behind_first s.waiting; log = s.log; put_back = s.put_back }
 
-pub record Takes (st : State) (passed : Key) (r : State) : Type 0 where
+pub record Takes (st r : State) : Type 0 where
   pub fine : Fine r
   pub same : SameLog st r
   pub live : r.live ≡ st.live
   pub room : r.pairs.count < st.pairs.count ⊎ (r.pairs.count ≡ r.live)
-  pub represents : (tab : List ℕ) (s : RunState) (marks : PlaceKey) → key_list passed ≡ marks → Represents tab st s →
-      Represents tab r (without_oldest s marks)
+  pub represents : (tab : List ℕ) (s : RunState) → Represents tab st s → Represents tab r (without_oldest s)
 
 -- `orient`: the new rule behind the older ones, or why there is none
 abbrev pub with_rule : RunState → Pair → RunState
@@ -61,7 +57,6 @@ with_rule s p = record {
   waiting = s.waiting;
   log = s.log;
   put_back = s.put_back;
-  marks = s.marks;
 }
 
 pub record NewRule (tab : List ℕ) (T : Theory) (s : RunState) (e : Pair) (r : State) : Type 0 where
@@ -88,9 +83,8 @@ pub record PutsBack (pair : List ℕ) (st r : State) : Type 0 where
   pub fine : Fine r
   pub entries : r.log.count ≡ st.log.count + 1
   pub units : r.units ≡ st.units
-  pub represents : (tab : List ℕ) (s : RunState) (t : Taken) → Represents tab st s → s.waiting ≡ t.waiting → s.marks ≡ t.marks →
-      PairAt most_apart tab pair 0 t.pair.sides → Few t.pair.sides → mark_of (slot pair 0) ≡ origin_bytes t.pair.origin →
-      Represents tab r (waits_again s t)
+  pub represents : (tab : List ℕ) (s : RunState) (t : Taken) → Represents tab st s → s.waiting ≡ t.waiting → PairAt most_apart tab pair 0 t.pair.sides →
+      Few t.pair.sides → mark_of (slot pair 0) ≡ origin_bytes t.pair.origin → Represents tab r (waits_again s t)
 
 -- `collapse`: the older rules that the newest one rewrites wait behind the others
 abbrev pub collapsed : RunState → List LiveRule → LiveRule → RunState
@@ -100,7 +94,6 @@ collapsed s older new = record {
   waiting = s.waiting ++ removed new older;
   log = s.log;
   put_back = s.put_back;
-  marks = s.marks;
 }
 
 pub record Collapses (tab : List ℕ) (st r : State) : Type 0 where
@@ -124,7 +117,6 @@ with_entry s o n = record {
   waiting = s.waiting;
   log = s.log ++ (record { origin = o; made = n } ∷ []);
   put_back = 0;
-  marks = s.marks;
 }
 
 pub record Logs (st : State) (origin : List ℕ) (made : ℕ) (r : State) : Type 0 where

@@ -2,13 +2,11 @@
 ghost use Rattle.std.specs.Prelude.{◌≡◌, ◌+◌, ◌-◌, ◌*◌, ◌<◌, ◌≤◌, length};
 ghost use Rattle.limits.specs.Limits.{most_equations, most_rules, most_entries};
 ghost use Rattle.orient.specs.Orients.{LowPair};
-ghost use Rattle.keys.specs.Keys.{Proper};
 ghost use Rattle.slots.specs.Slots.{slot_width, slot, mark_of, Layout, Removed, Inserted};
 ghost use Rattle.items.specs.Written.{logged_width};
 ghost use Rattle.state.specs.Run.{with_units, ended_as, goes_on_as, Fine, FineBut};
 ghost use Rattle.state.specs.Steps.{Initial, Takes, Orients, PutsBack, Collapses, Enters, Logs};
 
-use keys::Key;
 use orient::Way;
 use rewriting::{End, Verdict};
 use slots::{Pairs, ROOM};
@@ -29,7 +27,7 @@ pub struct Log {
 }
 
 // The first `live` pairs are the live rules, of which `made` were made so far; the pairs behind them wait. Both stand oldest first. Of those that
-// wait the last `back` were put back since a rule was last made or an equation settled. The scan has passed the places up to the key `passed`.
+// wait the last `back` were put back since a rule was last made or an equation settled.
 #[derive(Drop)]
 pub struct State {
     pub pairs: Pairs,
@@ -37,7 +35,6 @@ pub struct State {
     pub made: usize,
     pub log: Log,
     pub back: usize,
-    pub passed: Key,
     pub units: u32,
 }
 
@@ -70,7 +67,6 @@ impl State {
                 count: 0,
             },
             back: 0,
-            passed: keys::none(),
             units: budget,
         }
     }
@@ -84,12 +80,11 @@ impl State {
         self
     }
 
-    // The waiting list without its oldest equation, if one waits; and the places passed up to a key.
-    pub fn take(mut self, passed: Key) -> State
-        requires { Fine self × Proper passed }
-        ensures { Takes self passed result }
+    // The waiting list without its oldest equation, if one waits.
+    pub fn take(mut self) -> State
+        requires { Fine self }
+        ensures { Takes self result }
     {
-        self.passed = passed;
         let n = self.pairs.count;
         let k = self.live;
         if k < n {

@@ -1,25 +1,22 @@
 -- The rules and what waits, in the slots of a state: what stands there for each, and what stands there once right sides are others. Assumes nothing.
--- Read first: specs/Turns (PairsOf), collapse/specs/Rows (held, as_removed), slots/proofs/Listing, compose/specs/Rights (RightsOnly).
+-- Read first: state/specs/Run (held, as_removed), slots/proofs/Listing, compose/specs/Rights (RightsOnly).
 use mathlib.Core.Path.{◌≡◌, sym, ap, ◌∙◌, subst}
 use mathlib.Core.List.{List, [], ◌∷◌, map, map-append}
 use Prim.Native.Nat.{ℕ, suc, ◌+◌, ◌<◌}
 use native.Mathlib.Omega.{arith}
 use lib.ListN.{length, length-map}
-use Rattle.limits.specs.Limits.{most_variables}
 use Rattle.terms.proofs.Shape.{zero≢one}
 use Rattle.terms.specs.Base.{number_bytes}
 use Rattle.rewriting.specs.Overlap.{Rule, sides_of}
-use Rattle.completion.specs.Turn.{removed_rule, Candidate, State as RunState}
+use Rattle.completion.specs.Turn.{removed_rule, Candidate}
 use Rattle.completion.specs.Calls.{origin_bytes}
 use Rattle.slots.specs.Slots.{slot, mark_of, number_of, PairAt, MarkedAt, AllFrom, Stored, Holds}
 use Rattle.slots.proofs.Listing.{all_split, all_join, all_map, all_at, holds_moved}
 use Rattle.inputs.specs.Inputs.{marked}
-use Rattle.scanning.specs.Walk.{no_rule, rule_at, RulesIn}
+use Rattle.scanning.specs.Walk.{no_rule, rule_at}
 use Rattle.compose.specs.Rights.{RightsOnly}
 use Rattle.collapse.specs.Rows.{as_removed, held}
 use Rattle.items.proofs.Writing.{rule_number}
-use Rattle.turn.specs.declared.Waiting.{Waiting}
-use Rattle.turn.specs.Turns.{PairsOf}
 
 all_unmap : {A B : Type 0} (S : ℕ → B → Type 0) (f : A → B) (k : ℕ) (xs : List A) → AllFrom S k (map f xs) → AllFrom (λ i x. S i (f x)) k xs
 unfolding AllFrom
@@ -45,10 +42,9 @@ module _ (tab slots : List ℕ) (rs : List Rule) (cs : List Candidate) (h : Hold
   -- the rules stand in the first slots
   pub rules_stored : Stored tab slots 0 (sides_of rs)
   unfolding as_removed
-  rules_stored = all_map (RuleIn tab slots) (PairAt most_variables tab slots) (λ (r : Rule). r.sides) (λ i r m. m.pair) 0 rs rules_in
+  rules_stored = all_map (RuleIn tab slots) (PairAt 16 tab slots) (λ (r : Rule). r.sides) (λ i r m. m.pair) 0 rs rules_in
 
-  -- and their numbers in the marks
-  rules_numbered : (k : ℕ) → k < length rs → number_of (slot slots k) ≡ number_bytes 2 (rule_at rs k).number
+  pub rules_numbered : (k : ℕ) → k < length rs → number_of (slot slots k) ≡ number_bytes 2 (rule_at rs k).number
   unfolding as_removed origin_bytes
   rules_numbered k l =
       let e : 0 + k ≡ k = omega arith in
@@ -58,17 +54,6 @@ module _ (tab slots : List ℕ) (rs : List Rule) (cs : List Candidate) (h : Hold
   -- and behind them what waits
   pub waiting_held : Holds tab slots (length rs) (map marked cs)
   waiting_held = parts.1
-
--- the rules of a state stand in its slots as the scan wants them
-pub rules_in_slots : {tab pairs : List ℕ} {w : Waiting} {s : RunState} → PairsOf tab pairs w s → RulesIn tab pairs w.live s.rules
-rules_in_slots {tab} {pairs} {s = s} A =
-    let n = A.live_is in
-    record {
-      stored = rules_stored tab pairs s.rules s.waiting A.holds;
-      counted = n;
-      numbered = λ k l. rules_numbered tab pairs s.rules s.waiting A.holds k (omega arith);
-      by_number = A.by_number;
-    }
 
 -- Other right sides: the marks are the same, as the numbers are.
 module _ (tab slots slots' : List ℕ) (m : (i : ℕ) → mark_of (slot slots' i) ≡ mark_of (slot slots i)) where

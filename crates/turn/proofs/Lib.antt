@@ -4,4 +4,3 @@ mod Taking
 mod Making
 mod Parts
 mod Whole
-mod Passing

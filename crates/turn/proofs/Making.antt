@@ -16,7 +16,7 @@ use Rattle.rewriting.specs.declared.End.{End as Ending}
 use Rattle.rewriting.specs.declared.End.TheVariants.{TooLarge, RulesFull}
 use Rattle.rewriting.specs.declared.Verdict.TheVariants.{GoesOn, Ends}
 use Rattle.rewriting.proofs.Verdicts.{goes≢ends, same_end}
-use Rattle.completion.specs.Turn.{Candidate, State as RunState, Taken as TakenPair, orient, waits_again, kept, normalise_rights, make_rule}
+use Rattle.completion.specs.Turn.{State as RunState, Taken as TakenPair, orient, waits_again, kept, normalise_rights, make_rule}
 use Rattle.completion.specs.Calls.{origin_bytes}
 use Rattle.completion.proofs.Turning.{new_rule, next_state, make_many_variables, make_waits_again, make_many_rules, make_rights_stop, make_done}
 use Rattle.orient.specs.Orients.{Few}
@@ -29,10 +29,6 @@ use Rattle.state.specs.Steps.{with_rule, NewRule, collapsed, Collapses, with_ent
 use Rattle.turn.proofs.Holding.{rules_stored}
 use Rattle.state.proofs.Steady.{with_slots}
 use Rattle.turn.proofs.Steady.{with_rules, units_represent, slots_represent}
-
--- a pair that was taken of a state, of which s is left
-abbrev pub taken_of : RunState → Candidate → TakenPair
-taken_of s c = record { pair = c; waiting = s.waiting; marks = s.marks }
 
 -- what is made of a pair, without the state at a stop
 abbrev pub MadeIs : List ℕ → Turned → Paid RunState → Type 0
@@ -55,7 +51,7 @@ module _ (tab : List ℕ) (T : Theory) (s : RunState) (k : TakenPair) (units : �
         subst (MadeIs tab (goes_on_as back units)) (sym (make_waits_again T s k units few h)) (refl, refl, units_represent units R)
 
     -- the new rule behind the older ones that are kept, and its entry
-    module _ (taken : taken_of s k.pair ≡ k) {placed next : State} (N : NewRule tab T s k.pair.sides placed) (C : Collapses tab placed next)
+    module _ (waits : s.waiting ≡ k.waiting) {placed next : State} (N : NewRule tab T s k.pair.sides placed) (C : Collapses tab placed next)
         {origin : List ℕ} (from : origin ≡ origin_bytes k.pair.origin) {entered : State} (L : Logs next origin next.made entered) where
       abbrev new : Rule
       new = new_rule s N.sides
@@ -113,5 +109,6 @@ module _ (tab : List ℕ) (T : Theory) (s : RunState) (k : TakenPair) (units : �
             go (done rs left) q a =
                 let h : Represents tab last.state (with_rules with_its_entry rs) =
                 units_represent c.units (slots_represent rs stands A.only a.2 a.3) in
-                subst (MadeIs tab last) (sym (make_done T s k units few N.sides N.oriented (omega (arith, live_is)) rs left q))
-                (refl, a.1, subst (λ x. Represents tab last.state (next_state s x N.sides rs)) taken h)
+                let z : Represents tab last.state (next_state s k N.sides rs) =
+                subst (λ x. Represents tab last.state (next_state s (record { pair = k.pair; waiting = x }) N.sides rs)) waits h in
+                subst (MadeIs tab last) (sym (make_done T s k units few N.sides N.oriented (omega (arith, live_is)) rs left q)) (refl, a.1, z)

@@ -19,9 +19,6 @@ use Rattle.order.specs.Walk.{rank}
 use Rattle.problem.specs.Problem.{rank_of, Theory}
 use Rattle.completion.specs.Turn.{Origin, State as RunState, Taken as TakenPair, orient, waits_again, if_oriented, make_rule}
 use Rattle.completion.specs.Calls.{origin_bytes}
-use Rattle.rewriting.specs.Overlap.{Key as PlaceKey}
-use Rattle.keys.specs.declared.Key.{Key}
-use Rattle.keys.specs.Keys.{key_list}
 use Rattle.slots.specs.Slots.{slot, mark_of, Layout, PairAt}
 use Rattle.slots.proofs.Layouts.{layout_less}
 use Rattle.orient.specs.Orients.{LowPair}
@@ -34,56 +31,50 @@ use Rattle.state.specs.declared.State.{State}
 use Rattle.state.specs.declared.Log.{Log}
 use Rattle.state.specs.declared.Oriented.{Oriented}
 use Rattle.state.specs.declared.Turned.{Turned}
-use Rattle.state.specs.Run.{FineBut, Fine, Represents, with_units, goes_on_as, ended_as}
+use Rattle.state.specs.Run.{FineBut, Fine, Represents, goes_on_as, ended_as}
 use Rattle.state.specs.Steps.{behind_first, without_oldest, with_entry, OrientsIs, Takes, Orients, PutsBack, Collapses, Logs}
 use Rattle.turn.specs.Turns.{TurnSafe, TurnedIs}
 use Rattle.state.proofs.Steady.{with_slots, units_fine, fine_but_one}
 use Rattle.turn.proofs.Steady.{units_represent, slots_fine, stop_safe, go_safe}
-use Rattle.turn.proofs.Making.{taken_of, MadeIs, make_large, make_neither, make_full, make_rights_end, make_goes}
+use Rattle.turn.proofs.Making.{MadeIs, make_large, make_neither, make_full, make_rights_end, make_goes}
 
 -- steps 2 and 3, from a state that has begun its turn
-pub record Settles (st : State) (passed : Key) (t : Taken) (o : Turned) : Type 0 where
+pub record Settles (st : State) (t : Taken) (o : Turned) : Type 0 where
   pub safe : t.units ≤ st.units → TurnSafe st o
   pub goes : o.verdict ≡ GoesOn
   pub units : o.state.units ≡ t.units
-  pub represents : (tab : List ℕ) (s : RunState) (from : Origin) (marks : PlaceKey) → key_list passed ≡ marks → Represents tab st s →
-      mark_of (slot t.pair 0) ≡ origin_bytes from → Represents tab o.state (with_entry (without_oldest s marks) from 0)
+  pub represents : (tab : List ℕ) (s : RunState) (from : Origin) → Represents tab st s → mark_of (slot t.pair 0) ≡ origin_bytes from →
+      Represents tab o.state (with_entry (without_oldest s) from 0)
 
 pub same_count : {l m : Log} → l ≡ m → l.count ≡ m.count
 same_count e = ap (λ (x : Log). x.count) e
 
 -- step 3: what `settle` requires
-pub settle_needs : {st tk : State} {passed : Key} {pair : List ℕ} → Takes st passed tk → st.log.count < most_entries → Layout pair 1 →
+pub settle_needs : {st tk : State} {pair : List ℕ} → Takes st tk → st.log.count < most_entries → Layout pair 1 →
     (tk.log.count < most_entries) × Layout pair 1
 settle_needs K few y = (omega (arith, same_count K.same.log), y)
 
-pub settles : {st tk lg : State} {passed : Key} {t : Taken} {o : Turned} → Takes st passed tk → Logs tk (mark_of (slot t.pair 0)) 0 lg →
-    o ≡ goes_on_as lg t.units → Settles st passed t o
-settles {st} {tk} {lg} {passed} {t} K L e =
-    subst (Settles st passed t) (sym e)
+pub settles : {st tk lg : State} {t : Taken} {o : Turned} → Takes st tk → Logs tk (mark_of (slot t.pair 0)) 0 lg → o ≡ goes_on_as lg t.units →
+    Settles st t o
+settles {st} {tk} {lg} {t} K L e =
+    subst (Settles st t) (sym e)
     (record {
       safe = λ l.
           go_safe refl (units_fine t.units (L.fine 0 (fine_but_one K.fine))) (L.entries ∙ ap (λ n. n + 1) (same_count K.same.log)) l;
       goes = refl;
       units = refl;
-      represents = λ tab s o marks k R m. units_represent t.units (L.represents tab (without_oldest s marks) o (K.represents tab s marks k R) m);
+      represents = λ tab s o R m. units_represent t.units (L.represents tab (without_oldest s) o (K.represents tab s R) m);
     })
 
--- what was taken of s: the pair stands in the slot, with its origin, and the key is that of the marks then
-pub record TakenIs (tab pair : List ℕ) (passed : Key) (s : RunState) (k : TakenPair) : Type 0 where
-  pub waiting : k.waiting ≡ behind_first s.waiting
-  pub marks : key_list passed ≡ k.marks
-  pub shown : PairAt most_apart tab pair 0 k.pair.sides
-  pub from : mark_of (slot pair 0) ≡ origin_bytes k.pair.origin
-
 -- steps 4 to 7 of the pair that was taken
-pub record Makes (tab pair : List ℕ) (first : State) (passed : Key) (units : ℕ) (o : Turned) : Type 0 where
+pub record Makes (tab pair : List ℕ) (first : State) (units : ℕ) (o : Turned) : Type 0 where
   pub safe : units ≤ first.units → TurnSafe first o
-  pub answer : (T : Theory) → rank_of T.symbols ≡ rank tab → (s : RunState) (k : TakenPair) → Represents tab first s → TakenIs tab pair passed s k →
+  pub answer : (T : Theory) → rank_of T.symbols ≡ rank tab → (s : RunState) (k : TakenPair) → Represents tab first s →
+      k.waiting ≡ behind_first s.waiting → PairAt most_apart tab pair 0 k.pair.sides → mark_of (slot pair 0) ≡ origin_bytes k.pair.origin →
       TurnedIs tab s o (make_rule T s k units)
 
 -- what their calls require
-pub orient_room : {st tk : State} {passed : Key} → Fine st → Takes st passed tk → tk.pairs.count ≤ most_rules
+pub orient_room : {st tk : State} → Fine st → Takes st tk → tk.pairs.count ≤ most_rules
 orient_room {st} {tk} F K = go K.room
   where
     go : tk.pairs.count < st.pairs.count ⊎ (tk.pairs.count ≡ tk.live) → tk.pairs.count ≤ most_rules
@@ -99,13 +90,13 @@ pub all_done : {tab pairs pairs' : List ℕ} {live units : ℕ} {c : Composed} �
     (live ≤ most_rules) × All tab pairs pairs' live units c
 all_done few w = ⊎_elim (λ f. absurd (goes≢ends w (ap (λ (x : Composed). x.verdict) f.1))) (λ f. f) few
 
--- `make_rule` has what waits, and the marks, from the pair that was taken only
-make_without : (T : Theory) (s : RunState) (k : TakenPair) (u : ℕ) → make_rule T (without_oldest s k.marks) k u ≡ make_rule T s k u
+-- `make_rule` looks at what waits in the pair that was taken only
+make_without : (T : Theory) (s : RunState) (k : TakenPair) (u : ℕ) → make_rule T (without_oldest s) k u ≡ make_rule T s k u
 unfolding make_rule ◌>>=◌
 make_without T s k u =
     ap (λ m. and_then (end_if (ltb most_variables (length (pair_variables k.pair.sides))) too_large u) (λ _. m)) (go (orient T k.pair.sides))
   where
-    go : (o : Option Pair) → if_oriented (without_oldest s k.marks) k o ≡ if_oriented s k o
+    go : (o : Option Pair) → if_oriented (without_oldest s) k o ≡ if_oriented s k o
     go none = unfold if_oriented waits_again in refl
     go (some sides) = unfold if_oriented in refl
 
@@ -121,55 +112,59 @@ module _ (tab : List ℕ) (s : RunState) where
   go_turned o v (stop f left) a = absurd (goes≢ends v a.0)
 
 -- what is answered, way by way
-module _ {tab pair : List ℕ} {first rest : State} {passed : Key} {o : Oriented} (F : Fine first) (K : Takes first passed rest)
-    (O : Orients tab pair rest o) where
-  -- the way is known, and steps 4 to 7 of the state without the pair come to r
-  module _ (units : ℕ) {w : Way} (v : o.way ≡ w) where
-    abbrev Comes : Turned → Type 0
-    Comes r =
-        (T : Theory) (s : RunState) (k : TakenPair) → Represents tab rest s → taken_of s k.pair ≡ k → PairAt most_apart tab pair 0 k.pair.sides →
+module _ {tab pair : List ℕ} {first rest : State} {o : Oriented} (F : Fine first) (K : Takes first rest) (O : Orients tab pair rest o) where
+  -- what `orient` says of the pair that was taken
+  told : (T : Theory) → rank_of T.symbols ≡ rank tab → (s : RunState) (k : TakenPair) → Represents tab first s →
+      PairAt most_apart tab pair 0 k.pair.sides → OrientsIs tab T (without_oldest s) k.pair.sides o.state o.way
+  told T ranks s k R shown = O.answer T ranks (without_oldest s) k.pair.sides (K.represents tab s R) shown
+
+  -- the way is known, and steps 4 to 7 of the state without the pair come to something
+  module _ (units : ℕ) (r : Turned) {w : Way} (v : o.way ≡ w) where
+    abbrev Comes : Type 0
+    Comes = (T : Theory) (s : RunState) (k : TakenPair) → Represents tab rest s → s.waiting ≡ k.waiting → PairAt most_apart tab pair 0 k.pair.sides →
         mark_of (slot pair 0) ≡ origin_bytes k.pair.origin → OrientsIs tab T s k.pair.sides o.state w → MadeIs tab r (make_rule T s k units)
 
-    comes : (r : Turned) → Comes r → (T : Theory) → rank_of T.symbols ≡ rank tab → (s : RunState) (k : TakenPair) → Represents tab first s →
-        TakenIs tab pair passed s k → MadeIs tab r (make_rule T s k units)
-    comes r h T ranks s k R I =
-        let without = without_oldest s k.marks in
-        let R' : Represents tab rest without = K.represents tab s k.marks I.marks R in
+    comes : Comes → (T : Theory) → rank_of T.symbols ≡ rank tab → (s : RunState) (k : TakenPair) → Represents tab first s →
+        k.waiting ≡ behind_first s.waiting → PairAt most_apart tab pair 0 k.pair.sides → mark_of (slot pair 0) ≡ origin_bytes k.pair.origin →
+        MadeIs tab r (make_rule T s k units)
+    comes h T ranks s k R waits shown mark =
         subst (MadeIs tab r) (make_without T s k units)
-        (h T without k R' (ap (λ l. record { pair = k.pair; waiting = l; marks = k.marks }) (sym I.waiting)) I.shown I.from
-        (subst (OrientsIs tab T without k.pair.sides o.state) v (O.answer T ranks without k.pair.sides R' I.shown)))
+        (h T (without_oldest s) k (K.represents tab s R) (sym waits) shown mark
+        (subst (OrientsIs tab T (without_oldest s) k.pair.sides o.state) v (told T ranks s k R shown)))
 
-    makes_stop : {end : Ending} {n : ℕ} {r : Turned} → r ≡ ended_as first end n → n ≤ units → Comes (ended_as first end n) →
-        Makes tab pair first passed units r
+    makes_stop : {end : Ending} {n : ℕ} → r ≡ ended_as first end n → n ≤ units → Comes → Makes tab pair first units r
     makes_stop {end} {n} e l h =
-        subst (Makes tab pair first passed units) (sym e)
-        (record {
-          safe = λ m. stop_safe F (omega arith);
-          answer = λ T ranks s k R I. stop_turned tab s first end n R (make_rule T s k units) (comes _ h T ranks s k R I);
-        })
+        record {
+          safe = λ m. subst (TurnSafe first) (sym e) (stop_safe F (omega arith));
+          answer = λ T ranks s k R waits shown mark.
+              subst (λ x. TurnedIs tab s x (make_rule T s k units)) (sym e)
+              (stop_turned tab s first end n R (make_rule T s k units)
+              (subst (λ x. MadeIs tab x (make_rule T s k units)) e (comes h T ranks s k R waits shown mark)));
+        }
 
-    makes_on : (next : State) {n : ℕ} {r : Turned} → r ≡ goes_on_as next n → Fine (with_units next n) → next.log.count ≡ rest.log.count + 1 →
-        n ≤ units → Comes (goes_on_as next n) → Makes tab pair first passed units r
-    makes_on next {n} e fine grows l h =
-        subst (Makes tab pair first passed units) (sym e)
-        (record {
-          safe = λ m. go_safe refl fine (grows ∙ ap (λ n. n + 1) (same_count K.same.log)) (omega arith);
-          answer = λ T ranks s k R I. go_turned tab s (goes_on_as next n) refl (make_rule T s k units) (comes _ h T ranks s k R I);
-        })
+    makes_on : r.verdict ≡ GoesOn → Fine r.state → r.state.log.count ≡ rest.log.count + 1 → r.state.units ≤ units → Comes →
+        Makes tab pair first units r
+    makes_on g fine grows l h =
+        record {
+          safe = λ m. go_safe g fine (grows ∙ ap (λ n. n + 1) (same_count K.same.log)) (omega arith);
+          answer = λ T ranks s k R waits shown mark. go_turned tab s r g (make_rule T s k units) (comes h T ranks s k R waits shown mark);
+        }
 
-  pub makes_large : {units : ℕ} {r : Turned} → o.way ≡ TooLarge → r ≡ ended_as first EndsLarge units → Makes tab pair first passed units r
-  makes_large {units} v e = makes_stop units v e (omega arith) (λ T s k R taken shown mark many. make_large tab T s k units first many)
+  pub makes_large : {units : ℕ} {r : Turned} → o.way ≡ TooLarge → r ≡ ended_as first EndsLarge units → Makes tab pair first units r
+  makes_large {units} {r} v e =
+      makes_stop units r v e (omega arith) (λ T s k R waits shown mark many.
+      subst (λ x. MadeIs tab x (make_rule T s k units)) (sym e) (make_large tab T s k units first many))
 
   pub put_back_needs : o.way ≡ Neither → first.log.count < most_entries → Layout pair 1 →
       (Fine rest × (rest.pairs.count ≤ most_rules) × (rest.log.count < most_entries)) × (Layout pair 1 × LowPair pair)
   put_back_needs v room y = ((K.fine, orient_room F K, omega (arith, same_count K.same.log)), (y, O.low v))
 
   pub makes_neither : {units : ℕ} {r : Turned} {back : State} → o.way ≡ Neither → PutsBack pair rest back → r ≡ goes_on_as back units →
-      Makes tab pair first passed units r
-  makes_neither {units} {back = back} v B e =
-      makes_on units v back e (units_fine units B.fine) B.entries (omega arith) (λ T s k R taken shown mark h.
-      make_neither tab T s k units h.0 h.1
-      (B.represents tab s k R (ap (λ (x : TakenPair). x.waiting) taken) (ap (λ (x : TakenPair). x.marks) taken) shown h.0 mark))
+      Makes tab pair first units r
+  makes_neither {units} {r} {back} v B e =
+      subst (Makes tab pair first units) (sym e)
+      (makes_on units (goes_on_as back units) v refl (units_fine units B.fine) B.entries (omega arith) (λ T s k R waits shown mark h.
+      make_neither tab T s k units h.0 h.1 (B.represents tab s k R waits shown h.0 mark)))
 
   pub collapse_room : o.way ≡ Rule → FineBut 1 1 o.state × (0 < o.state.live)
   collapse_room v = (O.fine v, omega (arith, O.live v))
@@ -184,23 +179,25 @@ module _ {tab pair : List ℕ} {first rest : State} {passed : Key} {o : Oriented
     module _ (v : o.way ≡ Rule) {entered : State} (L : Logs next (mark_of (slot pair 0)) next.made entered) {units : ℕ} {r : Turned} {b : List ℕ}
         {c : Composed} (few : ComposesFew tab entered.live entered.pairs.bytes b units c) where
       -- a 33rd live rule, or a right side stopped
-      pub makes_ends : {end : Ending} → c.verdict ≡ Ends end → r ≡ ended_as first end c.units → Makes tab pair first passed units r
+      pub makes_ends : {end : Ending} → c.verdict ≡ Ends end → r ≡ ended_as first end c.units → Makes tab pair first units r
       makes_ends {end} w e = go few
         where
-          go : ComposesFew tab entered.live entered.pairs.bytes b units c → Makes tab pair first passed units r
+          go : ComposesFew tab entered.live entered.pairs.bytes b units c → Makes tab pair first units r
           go (inl f) =
               let u : c.units ≡ units = ap (λ (x : Composed). x.units) f.1 in
               let x : end ≡ RulesFull = same_end w (ap (λ (x : Composed). x.verdict) f.1) in
               let q : r ≡ ended_as first RulesFull units = e ∙ ap₂ (λ a b. ended_as first a b) x u in
-              makes_stop units v q (omega arith) (λ T s k R taken shown mark h.
-              make_full tab T s k units h.0 taken h.1 C mark L first f.0)
+              makes_stop units r v q (omega arith) (λ T s k R waits shown mark h.
+              subst (λ x. MadeIs tab x (make_rule T s k units)) (sym q) (make_full tab T s k units h.0 waits h.1 C mark L first f.0))
           go (inr f) =
-              makes_stop units v e f.1.left_over (λ T s k R taken shown mark h.
-              make_rights_end tab T s k units h.0 taken h.1 C mark L f.0 f.1 first w)
+              makes_stop units r v e f.1.left_over (λ T s k R waits shown mark h.
+              subst (λ x. MadeIs tab x (make_rule T s k units)) (sym e)
+              (make_rights_end tab T s k units h.0 waits h.1 C mark L f.0 f.1 first w))
 
-      pub makes_goes : c.verdict ≡ GoesOn → r ≡ goes_on_as (with_slots entered b) c.units → Makes tab pair first passed units r
+      pub makes_goes : c.verdict ≡ GoesOn → r ≡ goes_on_as (with_slots entered b) c.units → Makes tab pair first units r
       makes_goes w e =
           let A = all_done few w in
-          makes_on units v (with_slots entered b) e (slots_fine c.units (L.fine 1 C.fine) A.1.only A.0)
-          (omega (arith, L.entries, log_same)) A.1.left_over
-          (λ T s k R taken shown mark h. make_goes tab T s k units h.0 taken h.1 C mark L A.0 A.1 w)
+          subst (Makes tab pair first units) (sym e)
+          (makes_on units (goes_on_as (with_slots entered b) c.units) v refl (slots_fine c.units (L.fine 1 C.fine) A.1.only A.0)
+          (omega (arith, L.entries, log_same)) A.1.left_over (λ T s k R waits shown mark h.
+          make_goes tab T s k units h.0 waits h.1 C mark L A.0 A.1 w))

@@ -11,7 +11,6 @@ use Rattle.rewriting.specs.declared.End.{End as Ending}
 use Rattle.rewriting.specs.declared.Verdict.TheVariants.{GoesOn}
 use Rattle.rewriting.proofs.Verdicts.{goes≢ends}
 use Rattle.completion.specs.Turn.{State as RunState}
-use Rattle.completion.proofs.ByNumber.{numbered_same}
 use Rattle.slots.specs.Slots.{Stored}
 use Rattle.compose.specs.Rights.{RightsOnly}
 use Rattle.state.specs.declared.State.{State}
@@ -23,15 +22,14 @@ use Rattle.state.proofs.Steady.{with_slots, still_fine, units_fine}
 use Rattle.turn.proofs.Holding.{same_many, rights_held}
 
 pub units_represent : {tab : List ℕ} {st : State} {s : RunState} (u : ℕ) → Represents tab st s → Represents tab (with_units st u) s
-units_represent u R =
-    record { pairs = R.pairs; live = R.live; made = R.made; log = R.log; back = R.back; marks = R.marks; by_number = R.by_number }
+units_represent u R = record { pairs = R.pairs; live = R.live; made = R.made; log = R.log; back = R.back }
 
 pub slots_fine : {over behind n : ℕ} {st : State} {b : List ℕ} (u : ℕ) → FineBut over behind st → RightsOnly 0 n st.pairs.bytes b →
     st.live ≤ most_rules → FineBut 0 behind (with_units (with_slots st b) u)
 slots_fine {st = st} u F o few = still_fine F (o.layout st.pairs.count F.layout) (omega arith) F.made_few
 
 abbrev pub with_rules : RunState → List Rule → RunState
-with_rules s rs = record { rules = rs; made = s.made; waiting = s.waiting; log = s.log; put_back = s.put_back; marks = s.marks }
+with_rules s rs = record { rules = rs; made = s.made; waiting = s.waiting; log = s.log; put_back = s.put_back }
 
 pub slots_represent : {tab b : List ℕ} {st : State} {s : RunState} (rs : List Rule) → Represents tab st s → RightsOnly 0 st.live st.pairs.bytes b →
     Stored tab b 0 (sides_of rs) → map (λ r. r.number) rs ≡ map (λ r. r.number) s.rules → Represents tab (with_slots st b) (with_rules s rs)
@@ -47,8 +45,6 @@ slots_represent {tab} {b} {st} {s} rs R o h e =
       made = R.made;
       log = R.log;
       back = R.back;
-      marks = R.marks;
-      by_number = numbered_same rs e R.by_number;
     }
 
 -- a stop, and a turn that goes on

@@ -2,8 +2,8 @@
 -- Read first: specs/Turns (LookIs, Turns), forms/specs/Forms (due_after), completion/proofs/Turning (turn_stops, ..), proofs/Steady.
 use mathlib.Core.Path.{◌≡◌, refl, sym, ap, ap₂, ◌∙◌, subst}
 use mathlib.Core.Bool.{Bool, true, false}
-use mathlib.Core.List.{List}
-use Prim.Native.Nat.{ℕ, suc, ◌+◌, ◌-◌, ◌<◌, ◌≤◌}
+use mathlib.Core.List.{List, [], ◌∷◌, ◌++◌}
+use Prim.Native.Nat.{ℕ, zero, suc, ◌+◌, ◌-◌, ◌<◌, ◌≤◌}
 use native.Mathlib.Omega.{arith}
 use lib.Dec.{ltb}
 use lib.ListN.{length}
@@ -19,9 +19,6 @@ use Rattle.rewriting.specs.declared.Verdict.TheVariants.{Ends}
 use Rattle.completion.specs.Turn.{State as RunState, Taken as TakenPair, settled, turn}
 use Rattle.completion.specs.Calls.{origin_bytes}
 use Rattle.completion.proofs.Turning.{taking, turn_unpaid, turn_stops, turn_log_full, turn_settles, turn_makes}
-use Rattle.completion.proofs.ByNumber.{numbered_wider}
-use Rattle.keys.specs.declared.Key.{Key}
-use Rattle.keys.specs.Keys.{key_list, Proper}
 use Rattle.slots.specs.Slots.{slot, mark_of, Layout, PairAt}
 use Rattle.slots.proofs.Layouts.{layout_less}
 use Rattle.forms.specs.declared.Taken.{Taken}
@@ -33,7 +30,7 @@ use Rattle.turn.specs.declared.Waiting.{Waiting}
 use Rattle.forms.specs.Forms.{due_after}
 use Rattle.forms.specs.declared.Due.{Due}
 use Rattle.forms.specs.declared.Due.TheVariants.{Stop, Settle, Make}
-use Rattle.turn.specs.Turns.{Given, waiting_behind, PairsOf, MarksThen, PassedThen, FormsIn, LookStops, LookIs, Looks, TurnSafe, TurnedIs, Turns}
+use Rattle.turn.specs.Turns.{Given, waiting_behind, PairsOf, FormsIn, LookStops, LookIs, Looks, TurnSafe, TurnedIs, Turns}
 use Rattle.turn.proofs.Parts.{Settles, Makes}
 use Rattle.collapse.proofs.Rows.{length_held}
 use Rattle.forms.proofs.Entries.{Room, none_left, some_left, room}
@@ -55,11 +52,11 @@ data Step (tab : List ℕ) (T : Theory) (s : RunState) (u : ℕ) (t : Taken) (n 
   stops : (e : End) → taking T s u ≡ stop e t.units → d ≡ Stop (ending e) → Step tab T s u t n d
   full : (k : TakenPair) → taking T s u ≡ done k t.units → most_entries ≤ n → d ≡ Stop LogFull → Step tab T s u t n d
   settles : (k : TakenPair) → taking T s u ≡ done k t.units → n < most_entries → k.waiting ≡ behind_first s.waiting →
-      mark_of (slot t.pair 0) ≡ origin_bytes k.pair.origin → same k.pair.sides.left k.pair.sides.right ≡ true → MarksThen s k → d ≡ Settle →
+      mark_of (slot t.pair 0) ≡ origin_bytes k.pair.origin → same k.pair.sides.left k.pair.sides.right ≡ true → d ≡ Settle →
       Step tab T s u t n d
   makes : (k : TakenPair) → taking T s u ≡ done k t.units → n < most_entries → k.waiting ≡ behind_first s.waiting →
       mark_of (slot t.pair 0) ≡ origin_bytes k.pair.origin → same k.pair.sides.left k.pair.sides.right ≡ false →
-      PairAt most_apart tab t.pair 0 k.pair.sides → MarksThen s k → d ≡ Make → Step tab T s u t n d
+      PairAt most_apart tab t.pair 0 k.pair.sides → d ≡ Make → Step tab T s u t n d
 
 module _ (tab : List ℕ) (T : Theory) (s : RunState) (u : ℕ) (t : Taken) (waits : Bool) (n : ℕ) where
   abbrev Steps : Type 0
@@ -76,12 +73,12 @@ module _ (tab : List ℕ) (T : Theory) (s : RunState) (u : ℕ) (t : Taken) (wai
 
       equal : same k.pair.sides.left k.pair.sides.right ≡ true → (d : Due) → Room n Settle d → due_after t.found waits n ≡ d → Steps
       equal e d (none_left h w) z = full k r h (z ∙ w)
-      equal e d (some_left h w) z = settles k r h a.1 a.2 e a.4 (z ∙ w)
+      equal e d (some_left h w) z = settles k r h a.1 a.2 e (z ∙ w)
 
       differ : same k.pair.sides.left k.pair.sides.right ≡ false → PairAt most_apart tab t.pair 0 k.pair.sides → (d : Due) → Room n Make d →
           due_after t.found waits n ≡ d → Steps
       differ e y d (none_left h w) z = full k r h (z ∙ w)
-      differ e y d (some_left h w) z = makes k r h a.1 a.2 e y a.4 (z ∙ w)
+      differ e y d (some_left h w) z = makes k r h a.1 a.2 e y (z ∙ w)
 
       go : (b : Bool) → same k.pair.sides.left k.pair.sides.right ≡ b → FormsIn tab t waits k.pair b → Steps
       go true e f = equal e _ (room n Settle) (ap₂ (λ x w. due_after x w n) f.0 f.1)
@@ -89,19 +86,15 @@ module _ (tab : List ℕ) (T : Theory) (s : RunState) (u : ℕ) (t : Taken) (wai
 
 -- what waits in a state
 abbrev waiting_of : State → Waiting
-waiting_of st = waiting_behind st.live st.pairs.count st.back st.passed
+waiting_of st = waiting_behind st.live st.pairs.count st.back
 
-pairs_of : {tab : List ℕ} {st : State} {s : RunState} → Fine st → Represents tab st s → PairsOf tab st.pairs.bytes (waiting_of st) s
-pairs_of {st = st} {s = s} F R =
-    let a = F.made_few in
-    let b = F.log_few in
+pairs_of : {tab : List ℕ} {st : State} {s : RunState} → Represents tab st s → PairsOf tab st.pairs.bytes (waiting_of st) s
+pairs_of {st = st} {s = s} R =
     record {
       holds = R.pairs.holds;
       live_is = R.live;
       waiting_is = omega (arith, R.pairs.counted, length_held s.rules s.waiting, R.live);
       back_is = R.back;
-      marks_are = R.marks;
-      by_number = numbered_wider (omega (arith, R.made)) R.by_number;
     }
 
 -- `turn`: no unit is left
@@ -117,9 +110,18 @@ turn_spent {tab} {inputs} {count} {st} F z e =
 
 -- the state that `settled` leaves
 settled_as : (tab : List ℕ) (r : State) (s : RunState) (k : TakenPair) → k.waiting ≡ behind_first s.waiting →
-    Represents tab r (with_entry (without_oldest s k.marks) k.pair.origin 0) → Represents tab r (settled s k)
+    Represents tab r (with_entry (without_oldest s) k.pair.origin 0) → Represents tab r (settled s k)
 unfolding settled
-settled_as tab r s k w R = subst (λ l. Represents tab r (settled s (record { pair = k.pair; waiting = l; marks = k.marks }))) (sym w) R
+settled_as tab r s k w R =
+    subst
+    (λ l. Represents tab r (record {
+      rules = s.rules;
+      made = s.made;
+      waiting = l;
+      log = s.log ++ (record { origin = k.pair.origin; made = 0 } ∷ []);
+      put_back = 0;
+    }))
+    (sym w) R
 
 ends_full : Ends LogFull ≡ Ends (ending log_full)
 unfolding ending
@@ -129,113 +131,103 @@ ends_full = refl
 abbrev pub Began : State → State → Type 0
 Began st begun = begun ≡ with_units st (st.units - 1)
 
+abbrev some_behind : State → Bool
+some_behind st = ltb 0 (waiting_of st).count
+
 pub began_fine : {st begun : State} → Fine st → Began st begun → Fine begun
 began_fine {st} F e = subst Fine (sym e) (units_fine (st.units - 1) F)
 
--- what `look` requires of the slots
-abbrev pub LookRoom : List ℕ → Waiting → Type 0
-LookRoom pairs w = Layout pairs w.live × (w.live ≤ most_pairs) × (0 < w.count → Layout pairs (w.live + 1)) × Proper w.passed
-
-pub look_room : {st begun : State} {w : Waiting} → Fine st → Began st begun → w ≡ waiting_of begun → LookRoom begun.pairs.bytes w
-look_room {begun = begun} F e q =
+pub look_room : {st begun : State} {w : Waiting} → Fine st → Began st begun → w ≡ waiting_of begun →
+    Layout begun.pairs.bytes w.live × (w.live ≤ most_pairs) × (0 < w.count → Layout begun.pairs.bytes (w.live + 1))
+look_room {st} {begun} F e q =
     let B = began_fine F e in
     let w = B.within in
     let m = B.together in
-    subst (LookRoom begun.pairs.bytes) (sym q) (
+    subst (λ (x : Waiting). Layout begun.pairs.bytes x.live × (x.live ≤ most_pairs) ×
+    (0 < x.count → Layout begun.pairs.bytes (x.live + 1))) (sym q) (
       layout_less w B.layout,
       omega arith,
       λ h. layout_less (omega arith) B.layout,
-      B.proper,
     )
 
--- a turn that has a unit, up to what is due
-pub record Begun (tab inputs : List ℕ) (count : ℕ) (st begun : State) (w : Waiting) (t : Taken) (d : Due) : Type 0 where
-  pub first : Fine st
-  pub some : st.units ≡ 0 → ⊥
-  pub began : Began st begun
-  pub waits : w ≡ waiting_of begun
-  pub looked : Looks tab begun.pairs.bytes w inputs count begun.units t
-  pub due : d ≡ due_after t.found (ltb 0 w.count) begun.log.count
+some_units : (n : ℕ) → (n ≡ 0 → ⊥) → n ≡ suc (n - 1)
+some_units zero h = absurd (h refl)
+some_units (suc n) h = omega arith
 
-module _ {tab inputs : List ℕ} {count : ℕ} {st begun : State} {w : Waiting} {t : Taken} {d : Due} (B : Begun tab inputs count st begun w t d) where
-  fine : Fine begun
-  fine = began_fine B.first B.began
+module _ {tab inputs : List ℕ} {count : ℕ} {st begun : State} {w : Waiting} {t : Taken} {d : Due} (F : Fine st) (some : st.units ≡ 0 → ⊥)
+    (began : Began st begun) (waits_are : w ≡ waiting_of begun) (looked : Looks tab begun.pairs.bytes w inputs count begun.units t)
+    (due : d ≡ due_after t.found (ltb 0 w.count) begun.log.count) where
+  abbrev u : ℕ
+  u = st.units - 1
 
-  L : Looks tab begun.pairs.bytes (waiting_of begun) inputs count begun.units t
-  L = subst (λ x. Looks tab begun.pairs.bytes x inputs count begun.units t) B.waits B.looked
+  abbrev waits : Bool
+  waits = some_behind st
 
-  steps : (T : Theory) → Given tab inputs count T → (s : RunState) → Represents tab begun s → Step tab T s begun.units t (length s.log) d
+  L : Looks tab st.pairs.bytes (waiting_of st) inputs count u t
+  L = subst (λ b. Looks tab b.pairs.bytes (waiting_of b) inputs count b.units t) began
+      (subst (λ x. Looks tab begun.pairs.bytes x inputs count begun.units t) waits_are looked)
+
+  is : d ≡ due_after t.found waits st.log.count
+  is =
+      due ∙ ap (λ (x : Waiting). due_after t.found (ltb 0 x.count) begun.log.count) waits_are
+      ∙ ap (λ b. due_after t.found (some_behind b) b.log.count) began
+
+  steps : (T : Theory) → Given tab inputs count T → (s : RunState) → Represents tab st s → Step tab T s u t (length s.log) d
   steps T G s R =
-      let waits = ltb 0 (waiting_of begun).count in
-      let e : d ≡ due_after t.found waits begun.log.count =
-      B.due ∙ ap (λ (x : Waiting). due_after t.found (ltb 0 x.count) begun.log.count) B.waits in
-      subst (λ n. Step tab T s begun.units t n d) R.log.counted
-      (subst (Step tab T s begun.units t begun.log.count) (sym e)
-      (step_of tab T s begun.units t waits begun.log.count _ refl (L.answer T G s (pairs_of fine R))))
+      let a : Step tab T s u t st.log.count (due_after t.found waits st.log.count) =
+      step_of tab T s u t waits st.log.count _ refl (L.answer T G s (pairs_of R)) in
+      subst (λ n. Step tab T s u t n d) R.log.counted (subst (Step tab T s u t st.log.count) (sym is) a)
 
-  -- what holds behind the turn's unit holds of the turn
-  turned : (o : Turned) → TurnSafe begun o →
-      ((T : Theory) → Given tab inputs count T → (s : RunState) → Represents tab begun s → TurnedIs tab s o (turn T s (suc begun.units))) →
+  turned : (o : Turned) → TurnSafe (with_units st u) o →
+      ((T : Theory) → Given tab inputs count T → (s : RunState) → Represents tab st s → TurnedIs tab s o (turn T s (suc u))) →
       Turns tab inputs count st o
   turned o safe answer =
-      let some = B.some in
-      let e : suc begun.units ≡ st.units = omega (arith, ap (λ (x : State). x.units) B.began) in
       record {
-        safe = begun_safe (omega arith) (subst (λ x. TurnSafe x o) B.began safe);
-        answer = λ T G s R.
-            subst (λ n. TurnedIs tab s o (turn T s n)) e
-            (answer T G s (subst (λ x. Represents tab x s) (sym B.began) (units_represent (st.units - 1) R)));
+        safe = begun_safe (omega arith) safe;
+        answer = λ T G s R. subst (λ n. TurnedIs tab s o (turn T s n)) (sym (some_units st.units some)) (answer T G s R);
       }
+
+  abbrev IsEnd : Ending → RunState → Paid RunState → Type 0
+  IsEnd end s q = TurnedIs tab s (ended_as (with_units st u) end t.units) q
 
   pub turn_ends : {end : Ending} {o : Turned} → d ≡ Stop end → o ≡ ended_as begun end t.units → Turns tab inputs count st o
   turn_ends {end} {o} p e' =
-      subst (Turns tab inputs count st) (sym e') (turned ended (stop_safe fine L.left_over) (λ T G s R. go T s R (steps T G s R)))
+      subst (Turns tab inputs count st) (sym (e' ∙ ap (λ b. ended_as b end t.units) began))
+      (turned (ended_as (with_units st u) end t.units) (stop_safe (units_fine u F) L.left_over) (λ T G s R. go T s R (steps T G s R)))
     where
-      ended : Turned
-      ended = ended_as begun end t.units
-
-      go : (T : Theory) (s : RunState) → Represents tab begun s → Step tab T s begun.units t (length s.log) d →
-          TurnedIs tab s ended (turn T s (suc begun.units))
+      go : (T : Theory) (s : RunState) → Represents tab st s → Step tab T s u t (length s.log) d → IsEnd end s (turn T s (suc u))
       go T s R (stops e q z) =
           let w : end ≡ ending e = cc in
-          subst (TurnedIs tab s ended) (sym (turn_stops T s begun.units e t.units q)) (ap Ends w, refl, units_represent t.units R)
+          subst (IsEnd end s) (sym (turn_stops T s u e t.units q)) (ap Ends w, refl, units_represent t.units R)
       go T s R (full k q h z) =
           let w : end ≡ LogFull = cc in
-          subst (TurnedIs tab s ended) (sym (turn_log_full T s begun.units k t.units q h))
-          (ap Ends w ∙ ends_full, refl, units_represent t.units R)
-      go T s R (settles k q h w m e c z) = absurd (zero≢one (cc))
-      go T s R (makes k q h w m e y c z) = absurd (zero≢one (cc))
+          subst (IsEnd end s) (sym (turn_log_full T s u k t.units q h)) (ap Ends w ∙ ends_full, refl, units_represent t.units R)
+      go T s R (settles k q h w m e z) = absurd (zero≢one (cc))
+      go T s R (makes k q h w m e y z) = absurd (zero≢one (cc))
 
-  module _ {passed : Key} (P : PassedThen begun.pairs.bytes w t.pair passed) where
-    -- the key then is the one of the marks then
-    key_then : (s : RunState) (k : TakenPair) → Represents tab begun s → mark_of (slot t.pair 0) ≡ origin_bytes k.pair.origin → MarksThen s k →
-        key_list passed ≡ k.marks
-    key_then s k R m c =
-        (subst (λ x. PassedThen begun.pairs.bytes x t.pair passed) B.waits P).answer tab s k (pairs_of fine R) m c
+  pub turn_settled : {o : Turned} → d ≡ Settle → Settles begun t o → Turns tab inputs count st o
+  turn_settled {o} p S' =
+      let S : Settles (with_units st u) t o = subst (λ b. Settles b t o) began S' in
+      turned o (S.safe L.left_over) (λ T G s R. go S T s R (steps T G s R))
+    where
+      go : Settles (with_units st u) t o → (T : Theory) (s : RunState) → Represents tab st s → Step tab T s u t (length s.log) d →
+          TurnedIs tab s o (turn T s (suc u))
+      go S T s R (stops e q z) = absurd (zero≢one (cc))
+      go S T s R (full k q h z) = absurd (zero≢one (cc))
+      go S T s R (settles k q h w m e z) =
+          subst (TurnedIs tab s o) (sym (turn_settles T s u k t.units q h e))
+          (S.goes, S.units, settled_as tab o.state s k w (S.represents tab s k.pair.origin (units_represent u R) m))
+      go S T s R (makes k q h w m e y z) = absurd (zero≢one (cc))
 
-    pub turn_settled : {o : Turned} → d ≡ Settle → Settles begun passed t o → Turns tab inputs count st o
-    turn_settled {o} p S = turned o (S.safe L.left_over) (λ T G s R. go T s R (steps T G s R))
-      where
-        go : (T : Theory) (s : RunState) → Represents tab begun s → Step tab T s begun.units t (length s.log) d →
-            TurnedIs tab s o (turn T s (suc begun.units))
-        go T s R (stops e q z) = absurd (zero≢one (cc))
-        go T s R (full k q h z) = absurd (zero≢one (cc))
-        go T s R (settles k q h w m e c z) =
-            subst (TurnedIs tab s o) (sym (turn_settles T s begun.units k t.units q h e)) (
-              S.goes,
-              S.units,
-              settled_as tab o.state s k w (S.represents tab s k.pair.origin k.marks (key_then s k R m c) R m),
-            )
-        go T s R (makes k q h w m e y c z) = absurd (zero≢one (cc))
-
-    pub turn_made : {o : Turned} → d ≡ Make → Makes tab t.pair begun passed t.units o → Turns tab inputs count st o
-    turn_made {o} p M = turned o (M.safe L.left_over) (λ T G s R. go T G s R (steps T G s R))
-      where
-        go : (T : Theory) → Given tab inputs count T → (s : RunState) → Represents tab begun s → Step tab T s begun.units t (length s.log) d →
-            TurnedIs tab s o (turn T s (suc begun.units))
-        go T G s R (stops e q z) = absurd (zero≢one (cc))
-        go T G s R (full k q h z) = absurd (zero≢one (cc))
-        go T G s R (settles k q h w m e c z) = absurd (zero≢one (cc))
-        go T G s R (makes k q h w m e y c z) =
-            subst (TurnedIs tab s o) (sym (turn_makes T s begun.units k t.units q h e))
-            (M.answer T G.ranks s k R (record { waiting = w; marks = key_then s k R m c; shown = y; from = m }))
+  pub turn_made : {o : Turned} → d ≡ Make → Makes tab t.pair begun t.units o → Turns tab inputs count st o
+  turn_made {o} p M' =
+      let M : Makes tab t.pair (with_units st u) t.units o = subst (λ b. Makes tab t.pair b t.units o) began M' in
+      turned o (M.safe L.left_over) (λ T G s R. go M T G s R (steps T G s R))
+    where
+      go : Makes tab t.pair (with_units st u) t.units o → (T : Theory) → Given tab inputs count T → (s : RunState) → Represents tab st s →
+          Step tab T s u t (length s.log) d → TurnedIs tab s o (turn T s (suc u))
+      go M T G s R (stops e q z) = absurd (zero≢one (cc))
+      go M T G s R (full k q h z) = absurd (zero≢one (cc))
+      go M T G s R (settles k q h w m e z) = absurd (zero≢one (cc))
+      go M T G s R (makes k q h w m e y z) =
+          subst (TurnedIs tab s o) (sym (turn_makes T s u k t.units q h e)) (M.answer T G.ranks s k (units_represent u R) w y m)

@@ -1,19 +1,15 @@
 -- What a turn answers, by cases on what the definition comes to: the next state, or an end and the state as at the turn's beginning. Assumes nothing.
-use Rattle.std.specs.Prelude.{◌≡◌, Bool, true, false, ◌⊎◌, List, [], map, ℕ, ◌+◌, ◌-◌, ◌<◌, ◌≤◌, ltb, length}
-use Rattle.limits.specs.Limits.{byte_values, most_apart, most_entries}
+use Rattle.std.specs.Prelude.{◌≡◌, Bool, true, false, List, map, ℕ, ◌+◌, ◌-◌, ◌≤◌, ltb, length}
+use Rattle.limits.specs.Limits.{most_apart}
 use Rattle.terms.specs.Term.{same}
 use Rattle.order.specs.Walk.{rank}
-use Rattle.rewriting.specs.Overlap.{all_places}
 use Rattle.rewriting.specs.Rewrite.{End, complete, neither_above, spent, too_large, rules_full, log_full, Paid, done, stop, ◌>>=◌}
 use Rattle.rewriting.specs.Ends.{ending}
 use Rattle.rewriting.specs.declared.End.TheVariants.{NeitherAbove, Spent, TooLarge}
 use Rattle.rewriting.specs.declared.Verdict.TheVariants.{GoesOn, Ends}
 use Rattle.problem.specs.Problem.{rank_of, Theory}
-use Rattle.keys.specs.declared.Key.{Key}
-use Rattle.keys.specs.Keys.{key_list, Proper}
 use Rattle.slots.specs.Slots.{slot, mark_of, Layout, PairAt, Stored, Holds}
-use Rattle.completion.specs.Turn.{Origin, scanned_input, overlapping, Candidate, State as RunState, Taken as TakenPair, unmarked, marks_behind, take_pair, end_if_all_put_back, turn}
-use Rattle.completion.specs.Numbered.{Numbered}
+use Rattle.completion.specs.Turn.{Candidate, State as RunState, Taken as TakenPair, take_pair, end_if_all_put_back, turn}
 use Rattle.completion.specs.Calls.{origin_bytes}
 use Rattle.inputs.specs.Inputs.{marked, inputs_of}
 use Rattle.joining.specs.declared.Found.TheVariants.{Equal, Different, Ends as FoundEnds}
@@ -32,8 +28,8 @@ pub record Given (tab inputs : List ℕ) (count : ℕ) (T : Theory) : Type 0 whe
   pub counted : count ≡ length T.equations
 
 -- `waiting_behind`
-abbrev pub waiting_behind : ℕ → ℕ → ℕ → Key → Waiting
-waiting_behind live pairs back passed = record { live = live; count = pairs - live; back = back; passed = passed }
+abbrev pub waiting_behind : ℕ → ℕ → ℕ → Waiting
+waiting_behind live pairs back = record { live = live; count = pairs - live; back = back }
 
 -- the slots hold the rules and what waits of s, of which so many were put back
 pub record PairsOf (tab pairs : List ℕ) (w : Waiting) (s : RunState) : Type 0 where
@@ -41,26 +37,6 @@ pub record PairsOf (tab pairs : List ℕ) (w : Waiting) (s : RunState) : Type 0 
   pub live_is : w.live ≡ length s.rules
   pub waiting_is : w.count ≡ length s.waiting
   pub back_is : w.back ≡ s.put_back
-  pub marks_are : key_list w.passed ≡ s.marks
-  pub by_number : Numbered most_entries s.rules
-
--- an origin that the scan gives: of rules that live, or an input's
-pub data FromScan (o : Origin) : Type 0 where
-  from_overlap : (i j p : ℕ) → o ≡ overlapping i j p → 1 ≤ i → i ≤ most_entries → j ≤ most_entries → p < byte_values → FromScan o
-  from_input : (n : ℕ) → o ≡ scanned_input n → FromScan o
-
--- the marks behind step 1: as they were, or those behind the scan
-abbrev pub MarksThen : RunState → TakenPair → Type 0
-MarksThen s k =
-    ((0 < length s.waiting) × (k.marks ≡ s.marks))
-    ⊎ ((length s.waiting ≡ 0) × FromScan k.pair.origin
-    × (k.marks ≡ marks_behind s.marks (unmarked s.marks (all_places [] s.rules)) k.pair.origin))
-
--- `passed_then`
-pub record PassedThen (pairs : List ℕ) (w : Waiting) (pair : List ℕ) (r : Key) : Type 0 where
-  pub proper : Proper r
-  pub answer : (tab : List ℕ) (s : RunState) (k : TakenPair) → PairsOf tab pairs w s → mark_of (slot pair 0) ≡ origin_bytes k.pair.origin →
-      MarksThen s k → key_list r ≡ k.marks
 
 -- `look`: step 1 behind its unit. The taken pair's forms are equal, which only a waiting equation's can be, or stand in the slot
 abbrev pub FormsIn : List ℕ → Taken → Bool → Candidate → Bool → Type 0
@@ -79,14 +55,14 @@ LookStops log_full t waits = ⊥
 abbrev pub LookIs : List ℕ → Taken → Bool → RunState → Paid TakenPair → Type 0
 LookIs tab t waits s (done k left) =
     (t.units ≡ left) × (k.waiting ≡ behind_first s.waiting) × (mark_of (slot t.pair 0) ≡ origin_bytes k.pair.origin)
-    × FormsIn tab t waits k.pair (same k.pair.sides.left k.pair.sides.right) × MarksThen s k
+    × FormsIn tab t waits k.pair (same k.pair.sides.left k.pair.sides.right)
 LookIs tab t waits s (stop e left) = (t.units ≡ left) × LookStops e t waits
 
 pub record Looks (tab pairs : List ℕ) (w : Waiting) (inputs : List ℕ) (count units : ℕ) (t : Taken) : Type 0 where
   pub layout : Layout t.pair 1
   pub left_over : t.units ≤ units
   pub answer : (T : Theory) → Given tab inputs count T → (s : RunState) → PairsOf tab pairs w s →
-      LookIs tab t (ltb 0 w.count) s ((end_if_all_put_back s.waiting s.put_back >>= λ _. take_pair T s.rules s.marks s.waiting) units)
+      LookIs tab t (ltb 0 w.count) s ((end_if_all_put_back s.waiting s.put_back >>= λ _. take_pair T s.rules s.waiting) units)
 
 -- what every answer of a turn from st has; a stop hands back the state as at the turn's beginning
 pub record TurnSafe (st : State) (o : Turned) : Type 0 where

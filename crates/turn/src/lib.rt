@@ -2,63 +2,44 @@
 ghost use Rattle.std.specs.Prelude.{◌≡◌, ◌+◌, ◌<◌, ◌≤◌};
 ghost use Rattle.limits.specs.Limits.{most_pairs, most_equations};
 ghost use Rattle.slots.specs.Slots.{Layout};
-ghost use Rattle.keys.specs.Keys.{Proper};
 ghost use Rattle.state.specs.Run.{Fine};
-ghost use Rattle.turn.specs.Turns.{waiting_behind, PassedThen, Looks, Turns};
+ghost use Rattle.turn.specs.Turns.{waiting_behind, Looks, Turns};
 
 use forms::{Due, Taken};
 use joining::Found;
-use keys::Key;
 use orient::Way;
 use rewriting::{End, Verdict};
-use slots::{SLOT, origins};
+use slots::SLOT;
 use state::{State, Turned};
 
-// What waits: behind so many live rules so many pairs, of which the last so many were put back; and the key up to which places were passed.
+// What waits: behind so many live rules so many pairs, of which the last so many were put back.
 #[derive(Drop)]
 pub struct Waiting {
     pub live: usize,
     pub count: usize,
     pub back: usize,
-    pub passed: Key,
 }
 
-fn waiting_behind(live: usize, pairs: usize, back: usize, passed: Key) -> Waiting
+fn waiting_behind(live: usize, pairs: usize, back: usize) -> Waiting
     requires { live ≤ pairs }
-    ensures { result ≡ waiting_behind live pairs back passed }
+    ensures { result ≡ waiting_behind live pairs back }
 {
     Waiting {
         live: live,
         count: pairs - live,
         back: back,
-        passed: passed,
     }
-}
-
-// The key behind step 1: as it was, where an equation waited; of the overlap that was taken; where an input was, of the last place.
-fn passed_then(pairs: &[u8], w: Waiting, pair: &[u8]) -> Key
-    requires { Layout pairs.now w.live × (w.live ≤ most_pairs) × Proper w.passed × Layout pair.now 1 }
-    ensures { PassedThen pairs.now w pair.now result }
-{
-    if w.count > 0 {
-        return w.passed;
-    }
-    let mark = slots::mark(pair, 0);
-    if mark[0] == origins::OVERLAPPING {
-        return keys::of_origin(&mark);
-    }
-    scanning::last_key(pairs, w.live, w.passed)
 }
 
 // Step 1 behind its unit: the forms of the oldest equation that waits, unless all of these have been put back; where none waits, of the first pair
 // that the scan finds.
 fn look(pairs: &[u8], w: Waiting, inputs: &[u8], count: usize, table: &[u8], units: u32) -> Taken
-    requires layout { Layout pairs.now w.live × (w.live ≤ most_pairs) × (0 < w.count → Layout pairs.now (w.live + 1)) × Proper w.passed }
+    requires layout { Layout pairs.now w.live × (w.live ≤ most_pairs) × (0 < w.count → Layout pairs.now (w.live + 1)) }
     requires layout_2 { Layout inputs.now count × (count ≤ most_equations) }
     ensures { Looks table.now pairs.now w inputs.now count units result }
 {
     if w.count == 0 {
-        return scanning::scan(inputs, count, pairs, w.live, table, w.passed, units);
+        return scanning::scan(inputs, count, pairs, w.live, table, units);
     }
     if w.back >= w.count {
         let all = joining::walked(Found::Ends(End::NeitherAbove), units);
@@ -78,18 +59,17 @@ pub fn turn(st: State, inputs: &[u8], count: usize, table: &[u8]) -> Turned
         return st.ended(End::Spent, 0);
     }
     let st = st.begin();
-    let w = waiting_behind(st.live, st.pairs.count, st.back, st.passed);
+    let w = waiting_behind(st.live, st.pairs.count, st.back);
     let t = look(&st.pairs.bytes, w, inputs, count, table, st.units);
     let pair = t.pair;
     let due = forms::due_after(t, w.count > 0, st.log.count);
     if let Due::Stop(end) = due {
         return st.ended(end, t.units);
     }
-    let passed = passed_then(&st.pairs.bytes, w, &pair);
     if let Due::Settle = due {
-        return st.take(passed).settle(&pair).goes_on(t.units);
+        return st.take().settle(&pair).goes_on(t.units);
     }
-    let rest = st.take(passed);
+    let rest = st.take();
     let o = rest.orient(&pair, table);
     let way = o.way;
     if let Way::TooLarge = way {

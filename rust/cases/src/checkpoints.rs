@@ -4,7 +4,7 @@
 //! Nothing is checked here: the reader of saved records refuses what is wrong.
 
 use crate::notation::Theory;
-use kb_engine::checkpoint::{TAG_MARKED, TAG_NEXT, TAG_PUT_BACK, TAG_WAITING};
+use kb_engine::checkpoint::{TAG_NEXT, TAG_PUT_BACK, TAG_WAITING};
 use kb_engine::fields::{push_field, TAG_ENTRY, TAG_RULE};
 use kb_engine::problem::{TAG_EQUATION, TAG_SYMBOLS};
 
@@ -22,8 +22,6 @@ pub struct Checkpoint {
     pub waiting: Vec<Vec<u8>>,
     pub entries: Vec<Vec<u8>>,
     pub put_back: u8,
-    /// The place marked last, empty for none.
-    pub marked: Vec<u8>,
 }
 
 impl Checkpoint {
@@ -65,22 +63,9 @@ impl Checkpoint {
             (TAG_WAITING, equation) => self.waiting.push(equation.to_vec()),
             (TAG_ENTRY, entry) => self.entries.push(entry.to_vec()),
             (TAG_PUT_BACK, [count]) => self.put_back = *count,
-            (TAG_MARKED, place) => self.marked = place.to_vec(),
             _ => return None,
         }
         Some(())
-    }
-
-    /// Whether both rules of the place marked last live, none if there is no
-    /// place.
-    pub fn marked_lives(&self) -> Option<bool> {
-        let (later, behind) = self.marked.split_first_chunk::<2>()?;
-        let (earlier, _) = behind.split_first_chunk::<2>()?;
-        let lives = |number: &[u8; 2]| {
-            let number = u16::from_be_bytes(*number);
-            self.rules.iter().any(|rule| rule.0 == number)
-        };
-        Some(lives(later) && lives(earlier))
     }
 
     /// The record's bytes.
@@ -102,7 +87,6 @@ impl Checkpoint {
             push_field(&mut out, TAG_ENTRY, entry);
         }
         push_field(&mut out, TAG_PUT_BACK, &[self.put_back]);
-        push_field(&mut out, TAG_MARKED, &self.marked);
         out
     }
 }
@@ -110,10 +94,4 @@ impl Checkpoint {
 /// A waiting equation of this origin.
 pub fn waiting(origin: [u8; 6], sides: &[u8]) -> Vec<u8> {
     [&origin[..], sides].concat()
-}
-
-/// A place by its later, its earlier and its inner rule and the position.
-pub fn marked(numbers: [u16; 3], position: u8) -> Vec<u8> {
-    let numbers = numbers.map(u16::to_be_bytes);
-    [numbers.as_flattened(), &[position]].concat()
 }

@@ -141,10 +141,10 @@ fn end_22_by_17_variables() {
 #[test]
 fn end_23_by_the_33rd_rule() {
     let fields = run(&theories::endless_rules(), BUDGET);
-    assert_eq!((fields.end, fields.units), (23, 575));
+    assert_eq!((fields.end, fields.units), (23, 6497));
     assert_eq!((fields.rules.len(), fields.log.len()), (32, 32));
-    assert_eq!(run(&theories::endless_rules(), 575).end, 23);
-    assert_eq!(run(&theories::endless_rules(), 574).end, 21);
+    assert_eq!(run(&theories::endless_rules(), 6497).end, 23);
+    assert_eq!(run(&theories::endless_rules(), 6496).end, 21);
 }
 
 #[test]

@@ -91,7 +91,7 @@ fn equations_wait_in_many_problems() {
     assert!(4 * waited > COUNT, "{waited}");
     assert!(60 * completed > COUNT, "{completed}");
     assert!(10 * again > COUNT, "{again}");
-    assert!(300 * removed > COUNT, "{removed}");
+    assert!(240 * removed > COUNT, "{removed}");
 }
 
 #[test]

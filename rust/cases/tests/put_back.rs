@@ -6,12 +6,11 @@ use common::{bytes, completed, hex, run, Fields};
 use kb_cases::full_log;
 use kb_cases::generate;
 use kb_cases::notation::Theory;
-use kb_cases::put_back;
 use kb_cases::put_back::limits::{one_removed, two_removed};
 use kb_cases::put_back::rounds::ladder;
 use kb_cases::put_back::simplified::groups_with_unit;
+use kb_cases::put_back::{self, Run};
 use kb_cases::theories::{self, GROUP};
-use kb_cases::turns::Run;
 use kb_engine::problem::Problem;
 use std::collections::BTreeSet;
 
@@ -31,7 +30,7 @@ fn origins(fields: &Fields) -> Vec<String> {
 #[test]
 fn axioms_of_groups_complete_behind_an_equation_that_waits() {
     let fields = run(&groups_with_unit(), BUDGET);
-    assert_eq!((fields.end, fields.units, fields.log.len()), (0, 244, 33));
+    assert_eq!((fields.end, fields.units, fields.log.len()), (0, 981, 33));
     assert_eq!(origins(&fields), ["010001000000"]);
     let found: BTreeSet<_> = fields.rules.into_iter().map(|(_, sides)| sides).collect();
     let rules = theories::group_rules().all_sides();
@@ -47,11 +46,11 @@ fn axioms_of_groups_complete_behind_an_equation_that_waits() {
 fn axioms_of_groups_end_20() {
     let fields = run(&theories::group_axioms(), BUDGET);
     let counts = (fields.rules.len(), fields.log.len());
-    assert_eq!((fields.end, fields.units, counts), (20, 140, (21, 27)));
+    assert_eq!((fields.end, fields.units, counts), (20, 1102, (21, 27)));
     assert_eq!(origins(&fields), ["04000a000b04"]);
     assert!(is_put_back(&fields.log[26]));
-    let less = run(&theories::group_axioms(), 139);
-    assert_eq!((less.end, less.units, less.pair), (21, 139, None));
+    let less = run(&theories::group_axioms(), 1101);
+    assert_eq!((less.end, less.units, less.pair), (21, 1101, None));
     assert_eq!((less.rules, less.log), (fields.rules, fields.log));
 }
 

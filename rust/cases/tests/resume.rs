@@ -10,7 +10,7 @@ use kb_cases::notation::Theory;
 use kb_cases::resumptions::{self, Resumption};
 use kb_cases::slices::{runs, with_budget, Slices};
 use kb_cases::theories::{self, GROUP, PAPERS};
-use kb_cases::{fixed, generate, turns};
+use kb_cases::{fixed, generate, put_back};
 use kb_engine::fields::push_field;
 use kb_engine::problem::{Problem, TAG_EQUATION};
 use kb_engine::{complete, complete_saving, decide, resume, resume_saving};
@@ -174,16 +174,8 @@ fn a_saved_record_is_as_written_out() {
     let commutes = Theory::new(GROUP).equation("x*y = y*x");
     let record = started(&commutes.problem(1)).1;
     let text = "010006000001020201 03000602808102818020000200012100\
-                0c0100010000000280810281801300080100010000 00ffff 22000101\
-                230000";
+                0c0100010000000280810281801300080100010000 00ffff 22000101";
     assert_eq!(record, common::bytes(text));
-    // Rule 2 inside rule 3 at 1 is taken with the sixth unit.
-    let last_bytes = |budget| {
-        let record = started(&theory.problem(budget)).1;
-        hex(&record[record.len() - 10..])
-    };
-    assert!(last_bytes(5).ends_with("22000100230000"));
-    assert_eq!(last_bytes(6), "23000700030002000201");
 }
 
 /// The equations stand as in the problem, those that wait renamed.
@@ -204,7 +196,7 @@ fn equations_are_kept_as_given() {
 #[test]
 fn a_stop_leaves_the_turn_unbegun() {
     let mut inside = 0;
-    for run in turns::runs() {
+    for run in put_back::runs() {
         let mut last: Option<Checkpoint> = None;
         for budget in 0..run.units {
             let checkpoint = state(&run.theory.problem(budget));
@@ -222,7 +214,7 @@ fn a_stop_leaves_the_turn_unbegun() {
 /// The runs that are known turn by turn, cut and resumed with every budget.
 #[test]
 fn known_runs_go_on_with_the_unfinished_turn() {
-    for run in turns::runs() {
+    for run in put_back::runs() {
         for cut in 0..run.units {
             let record = started(&run.theory.problem(cut)).1;
             for budget in (0..12).chain([run.units, BUDGET]) {
@@ -317,7 +309,7 @@ fn results_of_resumed_runs_can_be_asked() {
 #[test]
 fn what_is_saved_is_accepted() {
     let mut accepted: BTreeMap<&str, [usize; 2]> = BTreeMap::new();
-    for index in 0..7000 {
+    for index in 0..6000 {
         let record = resumption(3, index, &saved_record_of).record;
         let left = saving(|result, saved| resume_saving(&record, 0, result, saved));
         let counts = accepted.entry(family(index)).or_default();
@@ -338,7 +330,6 @@ fn what_is_saved_is_accepted() {
     };
     accepts("saved run", 1000, 0);
     accepts("made state", 1000, 200);
-    accepts("changed state", 300, 700);
-    accepts("other marks", 800, 100);
+    accepts("changed state", 300, 600);
     accepts("long record", 20, 80);
 }

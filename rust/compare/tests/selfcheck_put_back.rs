@@ -7,8 +7,7 @@ mod common;
 mod definitions;
 
 use common::Other;
-use definitions::literal_rounds::{Rounds, Taken, Waiting, ROUNDS};
-use definitions::literal_run::{run_with, Words, WORDS};
+use definitions::literal_run::{run_with, Rounds, Taken, Waiting, ROUNDS};
 use kb_cases::generate;
 use kb_cases::kept::Kept;
 use kb_cases::put_back;
@@ -65,8 +64,7 @@ fn kept(rounds: Rounds, problem: &[u8]) -> Option<Kept> {
     right(problem).filter(|kept| kept.units <= MOST_UNITS)?;
     let problem = Problem::read(problem).ok()?;
     let (symbols, equations) = definitions::parts(&problem);
-    let words = Words { rounds, ..WORDS };
-    let fields = run_with(words, symbols, problem.budget, &equations)?;
+    let fields = run_with(rounds, symbols, problem.budget, &equations)?;
     Some(Kept {
         end: fields.end,
         units: fields.units,

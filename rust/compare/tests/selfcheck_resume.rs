@@ -5,7 +5,7 @@
 mod common;
 
 use common::{assert_found, renamed, right};
-use kb_cases::checkpoints::{marked, Checkpoint};
+use kb_cases::checkpoints::Checkpoint;
 use kb_compare::call::{decode, encode, Buffers, Call};
 use kb_engine::MAX_BUDGET;
 
@@ -163,75 +163,6 @@ fn turn(sides: &mut Vec<u8>) {
     }
 }
 
-/// A record without the last field, as one from before it was due.
-fn no_place_due(call: &Call, buffers: &mut Buffers) -> Option<u64> {
-    let (record, budget) = resumed(call)?;
-    let answer = right(call, buffers);
-    if decode(answer) != (0, 16, record.len() as u64) {
-        return Some(answer);
-    }
-    let record = [record, &[0x23, 0, 0]].concat();
-    Some(right(&with(call, &record, budget), buffers))
-}
-
-fn any_length_of_a_place(call: &Call, buffers: &mut Buffers) -> Option<u64> {
-    lenient(call, buffers, |c| {
-        if c.marked.len() != 7 {
-            c.marked.clear();
-        }
-    })
-}
-
-/// Changes the numbers and the position of a place.
-fn change_place(c: &mut Checkpoint, change: impl FnOnce(&mut [u16; 3], &mut u8)) {
-    if let &[a, b, d, e, f, g, mut position] = &c.marked[..] {
-        let mut numbers = [[a, b], [d, e], [f, g]].map(u16::from_be_bytes);
-        change(&mut numbers, &mut position);
-        c.marked = marked(numbers, position);
-    }
-}
-
-fn any_position(call: &Call, buffers: &mut Buffers) -> Option<u64> {
-    lenient(call, buffers, |c| {
-        change_place(c, |_, position| *position = (*position).min(119));
-    })
-}
-
-/// The root of a rule with itself is a place.
-fn own_root(call: &Call, buffers: &mut Buffers) -> Option<u64> {
-    lenient(call, buffers, |c| {
-        change_place(c, |numbers, position| {
-            *position += u8::from(numbers[0] == numbers[1] && *position == 0);
-        });
-    })
-}
-
-/// Numbers of a place that were not given out.
-fn any_number(call: &Call, buffers: &mut Buffers) -> Option<u64> {
-    lenient(call, buffers, |c| {
-        let most = c.next.saturating_sub(1).max(1);
-        change_place(c, |numbers, _| *numbers = numbers.map(|n| n.clamp(1, most)));
-    })
-}
-
-fn later_first_or_not(call: &Call, buffers: &mut Buffers) -> Option<u64> {
-    lenient(call, buffers, |c| {
-        change_place(c, |[later, earlier, _], _| {
-            (*later, *earlier) = ((*later).max(*earlier), (*later).min(*earlier));
-        });
-    })
-}
-
-fn any_inner(call: &Call, buffers: &mut Buffers) -> Option<u64> {
-    lenient(call, buffers, |c| {
-        change_place(c, |[later, earlier, inner], _| {
-            if inner != earlier {
-                *inner = *later;
-            }
-        });
-    })
-}
-
 #[test]
 fn runs_find_faults() {
     assert_found(
@@ -263,13 +194,6 @@ fn records_find_faults() {
             ("any origin", any_origin, [10, 9]),
             ("any variables", any_variables, [2, 2]),
             ("any rule", any_rule, [1, 1]),
-            ("no place due", no_place_due, [5, 2]),
-            ("any length", any_length_of_a_place, [5, 5]),
-            ("any position", any_position, [4, 3]),
-            ("own root", own_root, [1, 1]),
-            ("any number", any_number, [5, 5]),
-            ("later first or not", later_first_or_not, [2, 2]),
-            ("any inner", any_inner, [4, 3]),
         ],
     );
 }

@@ -10,9 +10,6 @@ use kb_compare::call::{decode, encode, Buffers, Call};
 use kb_compare::{Engine, RustEngine};
 use kb_engine::{MIN_RESULT, MIN_SAVED};
 
-/// Bytes of a field's head.
-const HEAD: usize = 3;
-
 /// Whether a call saves.
 fn saves(call: &Call) -> bool {
     matches!(call, Call::CompleteSaving(..) | Call::ResumeSaving(..))
@@ -47,23 +44,6 @@ fn newest_first(call: &Call, buffers: &mut Buffers) -> Option<u64> {
 
 fn no_count(call: &Call, buffers: &mut Buffers) -> Option<u64> {
     saving(call, buffers, |c| c.put_back = 0)
-}
-
-fn no_place(call: &Call, buffers: &mut Buffers) -> Option<u64> {
-    saving(call, buffers, |c| c.marked.clear())
-}
-
-/// The field of the place is not written.
-fn no_last_field(call: &Call, buffers: &mut Buffers) -> Option<u64> {
-    let answer = right(call, buffers);
-    let (kind, length, count) = decode(answer);
-    if !saves(call) || kind == 0 || length == 0 {
-        return Some(answer);
-    }
-    let record = &buffers[1][..length as usize];
-    let place = Checkpoint::of_record(record)?.marked;
-    let shorter = length as usize - HEAD - place.len();
-    Some(encode(1, shorter, count as usize))
 }
 
 /// The next number is the one after the last live rule.
@@ -166,8 +146,6 @@ fn runs_find_faults() {
             ("oldest lost", without_the_oldest, [200, 13]),
             ("newest first", newest_first, [150, 13]),
             ("no count", no_count, [80, 4]),
-            ("no place", no_place, [40, 4]),
-            ("no last field", no_last_field, [200, 13]),
             ("live numbers", live_numbers, [0, 0]),
             ("shorter log", shorter_log, [200, 13]),
             ("no origins", no_origins, [40, 3]),
@@ -188,8 +166,6 @@ fn records_find_faults() {
             ("oldest lost", without_the_oldest, [30, 8]),
             ("newest first", newest_first, [20, 1]),
             ("no count", no_count, [10, 3]),
-            ("no place", no_place, [30, 20]),
-            ("no last field", no_last_field, [60, 20]),
             ("live numbers", live_numbers, [2, 1]),
             ("shorter log", shorter_log, [30, 3]),
             ("no origins", no_origins, [20, 2]),

@@ -2,14 +2,12 @@
 //! from.
 //!
 //! Its fields are the problem's symbols and equations, the next rule number,
-//! the live rules, the waiting equations with their origins, the log, how many
-//! equations were put back since the last change, and the place marked last:
-//! all places up to it are marked. Every limit of a field is tested when the
-//! field is read.
+//! the live rules, the waiting equations with their origins, the log, and how
+//! many equations were put back since the last change. Every limit of a field
+//! is tested when the field is read.
 
 use crate::fields::{entry_bytes, origin_bytes, push_field, rule_bytes};
 use crate::fields::{TAG_ENTRY, TAG_RULE};
-use crate::marks::{Key, Marks};
 use crate::order::above;
 use crate::problem::{read_equation, read_symbols, EquationField, Problem, Refusal, Signature};
 use crate::problem::{TAG_EQUATION, TAG_SYMBOLS};
@@ -18,8 +16,7 @@ use crate::record;
 use crate::rules::{Rule, RuleSet};
 use crate::run::{Entry, Made, State};
 use crate::waiting::{Equation, Origin, Waiting};
-use crate::{MAX_EQUATIONS, MAX_LOG, MAX_NODES, MAX_RULES, MAX_RULE_NUMBER};
-use crate::{MAX_SAVED, MAX_TOGETHER};
+use crate::{MAX_EQUATIONS, MAX_LOG, MAX_RULES, MAX_RULE_NUMBER, MAX_SAVED, MAX_TOGETHER};
 use std::ops::Range;
 use std::rc::Rc;
 
@@ -29,8 +26,6 @@ pub const TAG_NEXT: u8 = 0x20;
 pub const TAG_WAITING: u8 = 0x21;
 /// The tag of the number of equations put back.
 pub const TAG_PUT_BACK: u8 = 0x22;
-/// The tag of the place marked last.
-pub const TAG_MARKED: u8 = 0x23;
 
 /// The number of "against the form and limits of a saved record".
 pub const MALFORMED: u8 = 16;
@@ -55,8 +50,6 @@ pub fn write(problem: &Problem, state: &State) -> Vec<u8> {
     }
     let put_back = state.waiting.put_back_since() as u8;
     push_field(&mut out, TAG_PUT_BACK, &[put_back]);
-    let marked = state.marks.last().map(key_bytes);
-    push_field(&mut out, TAG_MARKED, &marked.unwrap_or_default());
     out
 }
 
@@ -66,12 +59,6 @@ fn waiting_bytes(equation: &Equation) -> Vec<u8> {
     equation.left.write(&mut contents);
     equation.right.write(&mut contents);
     contents
-}
-
-/// The later rule's number, the earlier's, the inner one's, the position.
-fn key_bytes(key: Key) -> Vec<u8> {
-    let numbers = [key.later, key.earlier, key.inner].map(u16::to_be_bytes);
-    [numbers.as_flattened(), &[key.position]].concat()
 }
 
 /// Reads a saved record, or refuses it with 2 or 16: the problem, its budget
@@ -117,13 +104,8 @@ fn state(reader: &mut Reader, signature: &Signature) -> Option<State> {
             _ => None,
         }
     })?;
-    let marked = reader.field(TAG_MARKED, |reader, contents| {
-        marked(&reader.bytes[contents], next)
-    })?;
-    let rules = RuleSet::new(rules);
     Some(State {
-        marks: Marks::up_to(marked, &rules),
-        rules,
+        rules: RuleSet::new(rules),
         waiting: Waiting::resumed(waiting, put_back),
         log,
         next,
@@ -194,25 +176,4 @@ fn origin([kind, a, b, c, d, position]: [u8; 6]) -> Option<Origin> {
         }),
         _ => None,
     }
-}
-
-/// The place marked last, or none. Its rules have been made, but need not live.
-fn marked(contents: &[u8], next: u16) -> Option<Option<Key>> {
-    if contents.is_empty() {
-        return Some(None);
-    }
-    let &[a, b, c, d, e, f, position] = contents else {
-        return None;
-    };
-    let [later, earlier, inner] = [[a, b], [c, d], [e, f]].map(u16::from_be_bytes);
-    let numbers = 1 <= earlier && earlier <= later && later < next;
-    let first = u8::from(earlier == later);
-    let positions = first..MAX_NODES as u8;
-    let good = numbers && [earlier, later].contains(&inner) && positions.contains(&position);
-    good.then_some(Some(Key {
-        later,
-        earlier,
-        inner,
-        position,
-    }))
 }

@@ -10,7 +10,6 @@ pub mod checkpoint;
 pub mod decide;
 pub mod fields;
 pub mod lower;
-pub mod marks;
 pub mod matching;
 pub mod normalise;
 pub mod order;

@@ -82,12 +82,36 @@ fn replaced_instance(term: &Term, position: usize, by: &Term, unifier: &mut Unif
     Term::application(symbol, arguments.collect::<Rc<[Term]>>())
 }
 
-/// Inner and outer rules by index, in the scan's order: ascending by the later
-/// rule, then the earlier; first the earlier rule as inner; a rule with itself
-/// once.
-pub fn pairs(rules: usize) -> impl Iterator<Item = (usize, usize)> {
-    (0..rules).flat_map(|later| {
-        let both = move |earlier| [(earlier, later), (later, earlier)];
-        (0..later).flat_map(both).chain([(later, later)])
+/// One step of the scan: two rules by index and a position in the outer one.
+#[derive(Clone, Copy, Debug, PartialEq, Eq)]
+pub struct Place {
+    pub inner: usize,
+    pub outer: usize,
+    pub position: usize,
+}
+
+/// All places in the scan's order; `sizes` are those of the left sides.
+/// Ascending by the later rule, then the earlier; first the earlier rule as
+/// inner; positions ascending; a rule with itself not at the root.
+pub fn scan_order(sizes: &[usize]) -> impl Iterator<Item = Place> + '_ {
+    (0..sizes.len()).flat_map(move |later| {
+        (0..=later).flat_map(move |earlier| {
+            let own = earlier == later;
+            let first = positions(earlier, later, own as usize..sizes[later]);
+            let second_end = if own { 0 } else { sizes[earlier] };
+            first.chain(positions(later, earlier, 0..second_end))
+        })
+    })
+}
+
+fn positions(
+    inner: usize,
+    outer: usize,
+    range: std::ops::Range<usize>,
+) -> impl Iterator<Item = Place> {
+    range.map(move |position| Place {
+        inner,
+        outer,
+        position,
     })
 }

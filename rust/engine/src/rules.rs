@@ -67,11 +67,6 @@ impl RuleSet {
         self.rules.iter()
     }
 
-    /// The index of the rule of this number, which must live.
-    pub fn index_of(&self, number: u16) -> usize {
-        self.rules.partition_point(|rule| rule.number < number)
-    }
-
     /// Puts a new right side in the rule at the index.
     pub fn set_right(&mut self, index: usize, right: Term) {
         let rule = &mut self.rules[index];

@@ -2,16 +2,14 @@
 //!
 //! A turn takes an equation (waiting, or from the scan), orients its normal
 //! forms into a rule, collapses older left sides and composes older right
-//! sides; or it puts the forms back to wait, if neither is above. The scan
-//! passes over the places that are marked. A turn changes the state, the marks
-//! included, only when nothing can stop it any more, so that a run can go on
+//! sides; or it puts the forms back to wait, if neither is above. It changes
+//! the state only when nothing can stop it any more, so that a run can go on
 //! with the unfinished turn; units stay paid either way.
 
-use crate::marks::{Marks, Places};
 use crate::matching::matches_somewhere;
 use crate::normalise::{normalise, Stop, Units};
 use crate::order::{compare, Order};
-use crate::overlap::{pairs, superpose, Superposition};
+use crate::overlap::{scan_order, superpose, Place, Superposition};
 use crate::problem::{Problem, Signature};
 use crate::rules::{Rule, RuleSet};
 use crate::term::{rename_pair, Term};
@@ -98,8 +96,6 @@ impl End {
 #[derive(Debug)]
 pub struct State {
     pub rules: RuleSet,
-    /// The places of the scan that are settled or taken.
-    pub marks: Marks,
     pub waiting: Waiting,
     pub log: Vec<Entry>,
     /// Number of the next rule.
@@ -119,32 +115,22 @@ impl State {
     fn new(inputs: &[(Term, Term)]) -> State {
         State {
             rules: RuleSet::default(),
-            marks: Marks::default(),
             waiting: Waiting::new(inputs),
             log: Vec::new(),
             next: 1,
         }
     }
 
-    /// Keeps what a turn has made of the pair of this origin, and the places
-    /// that its scan has passed. If one waits, the pair is that of the oldest,
-    /// which leaves.
-    fn keep(&mut self, origin: Origin, passed: &[Places], change: Change) {
+    /// Keeps what a turn has made of the pair of this origin. If one waits,
+    /// the pair is that of the oldest, which leaves.
+    fn keep(&mut self, origin: Origin, change: Change) {
         self.waiting.leave();
-        for places in passed {
-            self.marks.add(*places, &self.rules);
-        }
         let made = match change {
             Change::Settled => {
                 self.waiting.changed();
                 Made::Settled
             }
             Change::Rule(rules, removed) => {
-                // The last one first, so that the indices of the others stay.
-                for rule in removed.iter().rev() {
-                    self.marks.remove_rule(self.rules.index_of(rule.number));
-                }
-                self.marks.add_rule();
                 self.rules = *rules;
                 self.waiting.join(&removed);
                 self.waiting.changed();
@@ -185,7 +171,6 @@ fn turns(problem: &Problem, inputs: &[(Term, Term)], state: State) -> Outcome {
         inputs,
         state,
         units: Units::new(problem.budget),
-        passed: Vec::new(),
         unifier: Unifier::default(),
     };
     let end = loop {
@@ -200,32 +185,17 @@ fn turns(problem: &Problem, inputs: &[(Term, Term)], state: State) -> Outcome {
     }
 }
 
-/// The normal forms of two terms, left first.
-fn normal_forms(
-    left: &Term,
-    right: &Term,
-    rules: &RuleSet,
-    units: &mut Units,
-) -> Result<(Term, Term), Stop> {
-    let left = normalise(left, rules, units)?;
-    let right = normalise(right, rules, units)?;
-    Ok((left, right))
-}
-
 struct Run<'p> {
     signature: &'p Signature,
     inputs: &'p [(Term, Term)],
     state: State,
     units: Units,
-    /// The places that the scan of this turn has passed or taken, in its order.
-    passed: Vec<Places>,
     unifier: Unifier,
 }
 
 impl Run<'_> {
     /// One turn; if it stops, the state is as at its beginning.
     fn turn(&mut self) -> Result<(), End> {
-        self.passed.clear();
         self.units.pay()?;
         if let Some(oldest) = self.state.waiting.stuck() {
             let (left, right) = (oldest.left.clone(), oldest.right.clone());
@@ -237,7 +207,7 @@ impl Run<'_> {
         }
         let origin = taken.origin;
         let change = self.change(taken)?;
-        self.state.keep(origin, &self.passed, change);
+        self.state.keep(origin, change);
         Ok(())
     }
 
@@ -254,10 +224,8 @@ impl Run<'_> {
 
     /// The pair of normal forms the turn is about.
     fn take(&mut self) -> Result<Equation, End> {
-        let State { rules, waiting, .. } = &self.state;
-        if let Some(oldest) = waiting.oldest() {
-            let (left, right) = (&oldest.left, &oldest.right);
-            let (left, right) = normal_forms(left, right, rules, &mut self.units)?;
+        if let Some(oldest) = self.state.waiting.oldest().cloned() {
+            let (left, right) = self.normal_forms(&oldest.left, &oldest.right)?;
             let origin = oldest.origin;
             return Ok(Equation {
                 left,
@@ -271,60 +239,49 @@ impl Run<'_> {
         self.scan_inputs()?.ok_or(End::Complete)
     }
 
-    /// The first overlap that is not marked and has two different normal
-    /// forms.
+    fn normal_forms(&mut self, left: &Term, right: &Term) -> Result<(Term, Term), Stop> {
+        let left = normalise(left, &self.state.rules, &mut self.units)?;
+        let right = normalise(right, &self.state.rules, &mut self.units)?;
+        Ok((left, right))
+    }
+
+    /// The first overlap with two different normal forms.
     fn scan_overlaps(&mut self) -> Result<Option<Equation>, Stop> {
-        for (inner, outer) in pairs(self.state.rules.len()) {
-            let State { rules, marks, .. } = &self.state;
-            let unmarked = marks.unmarked(inner, outer, rules);
-            if unmarked.is_empty() {
-                continue;
+        let rules = self.state.rules.iter();
+        let sizes: Vec<usize> = rules.map(|rule| rule.left.size()).collect();
+        for place in scan_order(&sizes) {
+            let inner = self.state.rules.get(place.inner);
+            let outer = self.state.rules.get(place.outer);
+            let found = superpose(inner, outer, place.position, &mut self.unifier);
+            let (left, right) = match found {
+                Superposition::None => continue,
+                Superposition::TooLarge => return Err(Stop::Size),
+                Superposition::Pair(left, right) => self.normal_forms(&left, &right)?,
+            };
+            if left != right {
+                let origin = self.overlap_origin(place);
+                return Ok(Some(Equation {
+                    left,
+                    right,
+                    origin,
+                }));
             }
-            if let Some((position, taken)) = self.scan_places(unmarked)? {
-                self.passed.push(unmarked.up_to(position));
-                return Ok(Some(taken));
-            }
-            self.passed.push(unmarked);
         }
         Ok(None)
     }
 
-    /// The first overlap at these places with two different normal forms, and
-    /// its position.
-    fn scan_places(&mut self, places: Places) -> Result<Option<(usize, Equation)>, Stop> {
-        let rules = &self.state.rules;
-        let (inner, outer) = (rules.get(places.inner), rules.get(places.outer));
-        for position in places.positions() {
-            let found = superpose(inner, outer, position, &mut self.unifier);
-            let (left, right) = match found {
-                Superposition::None => continue,
-                Superposition::TooLarge => return Err(Stop::Size),
-                Superposition::Pair(left, right) => {
-                    normal_forms(&left, &right, rules, &mut self.units)?
-                }
-            };
-            if left != right {
-                let origin = Origin::Overlap {
-                    inner: inner.number,
-                    outer: outer.number,
-                    position: position as u8,
-                };
-                let taken = Equation {
-                    left,
-                    right,
-                    origin,
-                };
-                return Ok(Some((position, taken)));
-            }
+    fn overlap_origin(&self, place: Place) -> Origin {
+        Origin::Overlap {
+            inner: self.state.rules.get(place.inner).number,
+            outer: self.state.rules.get(place.outer).number,
+            position: place.position as u8,
         }
-        Ok(None)
     }
 
     /// The first input equation with two different normal forms.
     fn scan_inputs(&mut self) -> Result<Option<Equation>, Stop> {
-        let rules = &self.state.rules;
         for (equation, (left, right)) in (1..).zip(self.inputs) {
-            let (left, right) = normal_forms(left, right, rules, &mut self.units)?;
+            let (left, right) = self.normal_forms(left, right)?;
             if left != right {
                 let origin = Origin::ScannedInput { equation };
                 return Ok(Some(Equation {

@@ -25,13 +25,13 @@ returns-3 c =
 returns-4 : tie.Need-returns-4
 returns-4 c =
     let at_wide : tie.After-wide = search depth 0 in
-    let at_number : tie.After-number = search depth 0 in
+    let at-number : tie.After-number = search depth 0 in
     let in-else3 : tie.Else3 = search depth 0 in
     let in-else2 : tie.Else2 = search depth 0 in
     let in-else1 : tie.Else1 = search depth 0 in
     let entry : tie.Start = search depth 0 in
     kind_other entry.args.saved.now entry.args.at _ refl in-else1.if1.left in-else2.if2.left in-else3.if3.left
-    _ at_number.number.ensures.0 _ at_wide.wide.ensures.0
+    _ at-number.number.ensures.0 _ at_wide.wide.ensures.0
 
 pub is-origin-spec : {M : Type 1} → statement M
 is-origin-spec =

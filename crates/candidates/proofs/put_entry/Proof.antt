@@ -26,11 +26,11 @@ returns : tie.Need-returns
 returns c =
     let at-put : tie.After-put-number = search depth 0 in
     let at-paste : tie.After-paste = search depth 0 in
-    let at_number = number-of-paste at-paste in
-    let at-origin = origin-of-number at_number in
+    let at-number = number-of-paste at-paste in
+    let at-origin = origin-of-number at-number in
     let entry = entry-of-origin at-origin in
     entry_put entry.args.saved.now entry.args.at _ _ _ _ _ _ _ at-origin.origin_at.ensures (six at-origin)
-    (omega (arith, entry.pre.1)) at-paste.paste.ensures at-put.put-number.ensures at_number.number.ensures.0
+    (omega (arith, entry.pre.1)) at-paste.paste.ensures at-put.put-number.ensures at-number.number.ensures.0
 
 pub put-entry-spec : {M : Type 1} → statement M
 put-entry-spec =

@@ -48,17 +48,17 @@ returns-3 : tie.Need-returns-3
 unfolding decided_told outermost_code counted_code number_of
 returns-3 c =
     let at-units : tie.After-units3 = search depth 0 in
-    let at_number : tie.After-number = search depth 0 in
+    let at-number : tie.After-number = search depth 0 in
     packed (search depth 0) _ _ at-units.units3.given.1
-    (c.code3.ensures ∙ ap (λ (n : ℕ). code 3 n at-units.units3.given.0.0) at_number.number.ensures)
+    (c.code3.ensures ∙ ap (λ (n : ℕ). code 3 n at-units.units3.given.0.0) at-number.number.ensures)
 
 returns-4 : tie.Need-returns-4
 unfolding decided_told outermost_code counted_code number_of
 returns-4 c =
     let at-units : tie.After-units4 = search depth 0 in
-    let at_number : tie.After-number2 = search depth 0 in
+    let at-number : tie.After-number2 = search depth 0 in
     packed (search depth 0) _ _ at-units.units4.given.1
-    (c.code4.ensures ∙ ap (λ (n : ℕ). code 3 n at-units.units4.given.0.0) at_number.number2.ensures)
+    (c.code4.ensures ∙ ap (λ (n : ℕ). code 3 n at-units.units4.given.0.0) at-number.number2.ensures)
 
 returns-5 : tie.Need-returns-5
 unfolding decided_told outermost_code

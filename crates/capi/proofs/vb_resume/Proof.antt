@@ -21,10 +21,10 @@ returns c =
 returns-2 : tie.Need-returns-2
 unfolding resumed_told answer_code
 returns-2 c =
-    let at_number : tie.After-number = search depth 0 in
+    let at-number : tie.After-number = search depth 0 in
     let at-resume : tie.After-resume = search depth 0 in
     let q = at-resume.resume.ensures in
-    let a = c.code2.ensures ∙ ap answer_code (rw at_number.number.given.1 at q.0) in
+    let a = c.code2.ensures ∙ ap answer_code (rw at-number.number.given.1 at q.0) in
     (a, (q.1.0, code_resumes _ _ _ _ _ _ q.0 q.1.1.1 q.1.1.0 a))
 
 pub vb-resume-spec : {M : Type 1} → statement M

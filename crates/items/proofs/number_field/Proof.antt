@@ -38,12 +38,12 @@ number-requires c κs =
 
 returns-2 : tie.Need-returns-2
 returns-2 c =
-    let at_number : tie.After-number = search depth 0 in
+    let at-number : tie.After-number = search depth 0 in
     let in-else1 : tie.Else1 = search depth 0 in
     let d = found (search depth 0) in
     let f = in-else1.if1.left in
     one_ends (omega (arith, d.1, f))
-    (one_read _ (read_number _) _ _ _ d _ (number_is _ _ _ _ _ d.1 d.2 f _ at_number.number.ensures.0))
+    (one_read _ (read_number _) _ _ _ d _ (number_is _ _ _ _ _ d.1 d.2 f _ at-number.number.ensures.0))
 
 returns-3 : tie.Need-returns-3
 returns-3 c =

@@ -14,9 +14,9 @@ two at = search rules
 returns : tie.Need-returns
 returns c =
     let at-put-pair : tie.After-put-pair = search depth 0 in
-    let at_number : tie.After-number = search depth 0 in
+    let at-number : tie.After-number = search depth 0 in
     let entry : tie.Start = search depth 0 in
-    puts_rule entry.args.rules.now entry.args.k (two at_number) at_number.number.ensures at-put-pair.put-pair.ensures
+    puts_rule entry.args.rules.now entry.args.k (two at-number) at-number.number.ensures at-put-pair.put-pair.ensures
 
 pub put-rule-spec : {M : Type 1} → statement M
 put-rule-spec = tie.close (tie.spec (λ c κs. search rules) (λ c. search rules) (λ c κs. search rules) (λ c. search rules) returns)

@@ -76,17 +76,17 @@ cast-numbered c = omega (arith, (found (search depth 0)).1.fits)
 -- its left side stands from i + 5 to m, its right side from there to e
 add-hold-pair : tie.Need-overflow-add-hold-pair invariant-loop decreases-loop
 add-hold-pair c =
-    let at_number : tie.After-number invariant-loop decreases-loop = search depth 0 in
-    let R = (found at_number).1 in
-    omega (arith, R.held.middle, R.held.ends, R.one.within, (entry-of-loop (loop-of-number at_number)).pre.1.0.1)
+    let at-number : tie.After-number invariant-loop decreases-loop = search depth 0 in
+    let R = (found at-number).1 in
+    omega (arith, R.held.middle, R.held.ends, R.one.within, (entry-of-loop (loop-of-number at-number)).pre.1.0.1)
 
 hold-pair-requires : tie.Need-hold-pair-requires invariant-loop decreases-loop
 hold-pair-requires c κs =
-    let at_number : tie.After-number invariant-loop decreases-loop = search depth 0 in
+    let at-number : tie.After-number invariant-loop decreases-loop = search depth 0 in
     let in-else1 : tie.Else1 invariant-loop decreases-loop = search depth 0 in
-    let at-loop = loop-of-number at_number in
+    let at-loop = loop-of-number at-number in
     let s = at-loop.loop.inv in
-    let R = (found at_number).1 in
+    let R = (found at-number).1 in
     let F = R.held in
     let room = (entry-of-loop at-loop).pre.1.1 in (
       (omega (arith, F.middle), omega (arith, F.middle, F.left_small), omega (arith, F.ends), omega (arith, F.ends, F.right_small), R.one.within),
@@ -95,8 +95,8 @@ hold-pair-requires c κs =
 
 add-count : tie.Need-overflow-add-count invariant-loop decreases-loop
 add-count c =
-    let at_number : tie.After-number invariant-loop decreases-loop = search depth 0 in
-    omega (arith, (loop-of-number at_number).loop.inv.1.slotted.few)
+    let at-number : tie.After-number invariant-loop decreases-loop = search depth 0 in
+    omega (arith, (loop-of-number at-number).loop.inv.1.slotted.few)
 
 loop-less : tie.Need-loop-smaller invariant-loop decreases-loop
 loop-less c = let R = (found (search depth 0)).1 in omega (arith, R.one.low, R.one.within)
@@ -105,16 +105,16 @@ loop-again : tie.Need-loop-preserved invariant-loop decreases-loop
 loop-again c =
     let at-hold-pair : tie.After-hold-pair invariant-loop decreases-loop = search depth 0 in
     let at-numbered : tie.After-numbered invariant-loop decreases-loop = search depth 0 in
-    let at_number : tie.After-number invariant-loop decreases-loop = search depth 0 in
+    let at-number : tie.After-number invariant-loop decreases-loop = search depth 0 in
     let in-else2 : tie.Else2 invariant-loop decreases-loop = search depth 0 in
     let in-else1 : tie.Else1 invariant-loop decreases-loop = search depth 0 in
     let in-loop : tie.In-loop invariant-loop decreases-loop = search depth 0 in
-    let at-loop = loop-of-number at_number in
+    let at-loop = loop-of-number at-number in
     let s = at-loop.loop.inv in
     let room = (entry-of-loop at-loop).pre.1.1 in
     let H = at-hold-pair.hold-pair.ensures in (
       H.only.same ∙ s.0,
-      rules_more _ _ _ _ _ _ _ _ _ s.1 in-loop.loop-test.taken in-else1.if1.left in-else2.if2.left _ _ _ _ (found at_number).1 _ _
+      rules_more _ _ _ _ _ _ _ _ _ s.1 in-loop.loop-test.taken in-else1.if1.left in-else2.if2.left _ _ _ _ (found at-number).1 _ _
           at-numbered.numbered.ensures H (omega (arith, room, s.0)),
     )
 

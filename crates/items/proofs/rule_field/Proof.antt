@@ -39,19 +39,19 @@ number-requires c κs =
 
 returns-2 : tie.Need-returns-2
 returns-2 c =
-    let at_number : tie.After-number = search depth 0 in
+    let at-number : tie.After-number = search depth 0 in
     let in-else1 : tie.Else1 = search depth 0 in
     let d = found (search depth 0) in
     one_unread _ (read_rule _ _ _ _) _ _ _ d
-    (rule_low _ _ _ _ _ _ _ d.2 in-else1.if1.left _ at_number.number.ensures.0 (omega (arith, c.if2.true)))
+    (rule_low _ _ _ _ _ _ _ d.2 in-else1.if1.left _ at-number.number.ensures.0 (omega (arith, c.if2.true)))
 
 returns-3 : tie.Need-returns-3
 returns-3 c =
-    let at_number : tie.After-number = search depth 0 in
+    let at-number : tie.After-number = search depth 0 in
     let in-else1 : tie.Else1 = search depth 0 in
     let d = found (search depth 0) in
     one_unread _ (read_rule _ _ _ _) _ _ _ d
-    (rule_high _ _ _ _ _ _ _ d.2 in-else1.if1.left _ at_number.number.ensures.0 (omega (arith, c.if3.true)))
+    (rule_high _ _ _ _ _ _ _ d.2 in-else1.if1.left _ at-number.number.ensures.0 (omega (arith, c.if3.true)))
 
 rule-sides-requires : tie.Need-rule-sides-requires
 rule-sides-requires c κs =
@@ -63,11 +63,11 @@ rule-sides-requires c κs =
 returns-4 : tie.Need-returns-4
 returns-4 c =
     let at-rule-sides : tie.After-rule-sides = search depth 0 in
-    let at_number : tie.After-number = search depth 0 in
+    let at-number : tie.After-number = search depth 0 in
     let in-else1 : tie.Else1 = search depth 0 in
     let d = found (search depth 0) in
     one_unread _ (read_rule _ _ _ _) _ _ _ d
-    (rule_unheld _ _ _ _ _ _ _ d.2 in-else1.if1.left _ at_number.number.ensures.0
+    (rule_unheld _ _ _ _ _ _ _ d.2 in-else1.if1.left _ at-number.number.ensures.0
     (rw c.enum_told.given.1 at at-rule-sides.rule_sides.ensures))
 
 returns-5 : tie.Need-returns-5
@@ -75,13 +75,13 @@ returns-5 c =
     let at-rule-sides : tie.After-rule-sides = search depth 0 in
     let in-else3 : tie.Else3 = search depth 0 in
     let in-else2 : tie.Else2 = search depth 0 in
-    let at_number : tie.After-number = search depth 0 in
+    let at-number : tie.After-number = search depth 0 in
     let in-else1 : tie.Else1 = search depth 0 in
     let d = found (search depth 0) in
     let at-middle : tie.After-middle = search depth 0 in
     let h = rw at-middle.middle.given.1 at at-rule-sides.rule_sides.ensures in
-    let r = rule_fine _ _ _ _ _ _ _ d.2 in-else1.if1.left _ at_number.number.ensures.0 in-else2.if2.left in-else3.if3.left _ h.1 in
-    (h.0, record { one = one_read _ (read_rule _ _ _ _) _ _ _ d _ r; held = h.2; fits = at_number.number.ensures.1 })
+    let r = rule_fine _ _ _ _ _ _ _ d.2 in-else1.if1.left _ at-number.number.ensures.0 in-else2.if2.left in-else3.if3.left _ h.1 in
+    (h.0, record { one = one_read _ (read_rule _ _ _ _) _ _ _ d _ r; held = h.2; fits = at-number.number.ensures.1 })
 
 returns-6 : tie.Need-returns-6
 returns-6 c =

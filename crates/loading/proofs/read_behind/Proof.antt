@@ -64,7 +64,7 @@ read-end-requires : tie.Need-read-end-requires
 read-end-requires c κs =
     let at-live : tie.After-live = search depth 0 in
     let entry = entry-of-pairs (pairs-of-live at-live) in
-    (((found at-live).waiting_there.within, entry.pre.0.small, entry.pre.0.next_few), entry.pre.1.1)
+    (((found at-live).waiting_there.within, entry.pre.0.small), entry.pre.1.1)
 
 returns : tie.Need-returns
 returns c =
@@ -87,7 +87,7 @@ returns-3 c =
     let at-end : tie.After-read-end = search depth 0 in
     let at-live : tie.After-live = search depth 0 in
     let entry = entry-of-pairs (pairs-of-live at-live) in
-    loaded _ _ entry.pre.0 _ _ _ _ (found at-live) _ _ _ _ (rw at-entries.entries.given.1 at at-end.read_end.ensures)
+    loaded _ _ entry.pre.0 _ _ _ _ (found at-live) _ _ _ (rw at-entries.entries.given.1 at at-end.read_end.ensures)
 
 pub read-behind-spec : {M : Type 1} → statement M
 read-behind-spec =

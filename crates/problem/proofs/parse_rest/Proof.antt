@@ -20,9 +20,9 @@ equations-requires c κs =
 
 returns : tie.Need-returns
 returns c =
-    let at_number : tie.After-number = search depth 0 in
+    let at-number : tie.After-number = search depth 0 in
     let at-due : tie.After-due = search depth 0 in
-    rest_not_due _ _ _ _ _ (rw at_number.number.given.1 at at-due.due.ensures)
+    rest_not_due _ _ _ _ _ (rw at-number.number.given.1 at at-due.due.ensures)
 
 returns-2 : tie.Need-returns-2
 returns-2 c =

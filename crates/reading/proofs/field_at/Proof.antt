@@ -16,9 +16,9 @@ returns-2 c =
 returns-3 : tie.Need-returns-3
 returns-3 c =
     let in-else2 : tie.Else2 = search depth 0 in
-    let at_number : tie.After-number = search depth 0 in
+    let at-number : tie.After-number = search depth 0 in
     let in-else1 : tie.Else1 = search depth 0 in
-    field_whole _ _ _ in-else1.if1.left at_number.number.ensures.0 in-else2.if2.left at_number.number.ensures.1
+    field_whole _ _ _ in-else1.if1.left at-number.number.ensures.0 in-else2.if2.left at-number.number.ensures.1
 
 pub field-at-spec : {M : Type 1} → statement M
 field-at-spec =

@@ -49,12 +49,12 @@ returns c =
     let at-rules = rules-of-log at-log in
     let at_second = second-of-rules at-rules in
     let at_first = first-of-second at_second in
-    let at_number = number-of-first at_first in
-    let entry = entry-of-number at_number in
+    let at-number = number-of-first at_first in
+    let entry = entry-of-number at-number in
     let fine = entry.pre.1 in
     record {
       writes = λ tab f is.
-          reported tab f _ _ _ is _ _ _ _ at_number.number.ensures
+          reported tab f _ _ _ is _ _ _ _ at-number.number.ensures
           (wrote_all _ _ _ _ _ _ _ _ _ _ _ _ _ _ _ _ _ _ entry.pre.0 fine.live_few fine.log_few at_first.put-number-field.ensures
           at_second.put-number-field2.ensures at-rules.put-rules.ensures at-log.put-log.ensures at-oldest.put-oldest.ensures);
       few = omega (

@@ -45,10 +45,10 @@ report-requires c κs =
 
 returns-2 : tie.Need-returns-2
 returns-2 c =
-    let at_number : tie.After-number = search depth 0 in
+    let at-number : tie.After-number = search depth 0 in
     let at-read-resumption : tie.After-read-resumption = search depth 0 in
     let in-else1 : tie.Else1 = search depth 0 in
-    let a = answers_refused _ _ _ in-else1.if1.left (rw at_number.number.given.1 at at-read-resumption.read_resumption.ensures) in
+    let a = answers_refused _ _ _ in-else1.if1.left (rw at-number.number.given.1 at at-read-resumption.read_resumption.ensures) in
     (a.answer, (a.bytes, (a.delivery, a.few)))
 
 returns-3 : tie.Need-returns-3

@@ -50,12 +50,12 @@ leave-requires c κs =
 
 returns-2 : tie.Need-returns-2
 returns-2 c =
-    let at_number : tie.After-number = search depth 0 in
+    let at-number : tie.After-number = search depth 0 in
     let at-read-resumption : tie.After-read-resumption = search depth 0 in
     let in-else1 : tie.Else1 = search depth 0 in
     let at-short : tie.After-short = search depth 0 in
     let a = resumes_refused _ _ _ _ (sym at-short.short.ensures ∙ in-else1.if1.left) _ _
-    (rw at_number.number.given.1 at at-read-resumption.read_resumption.ensures) in
+    (rw at-number.number.given.1 at at-read-resumption.read_resumption.ensures) in
     (a.answer, (a.result, (a.saved, (a.delivery, a.few))))
 
 returns-3 : tie.Need-returns-3

@@ -9,12 +9,12 @@ use Rattle.scanning.proofs.scan.Tie as tie
 scan-all-requires : tie.Need-scan-all-requires
 scan-all-requires c κs =
     let entry : tie.Start = search depth 0 in
-    (entry.pre.0, (entry.pre.1.0, entry.pre.1.1, layout_zeros))
+    (entry.pre.0, entry.pre.1, entry.pre.2, entry.pre.3, layout_zeros)
 
 returns : tie.Need-returns
 returns c =
     let at-scan-all : tie.After-scan-all = search depth 0 in
-    scanned _ layout_zeros at-scan-all.scan-all.ensures c.with_pair.ensures
+    scanned layout_zeros at-scan-all.scan-all.ensures c.with_pair.ensures
 
 pub scan-spec : {M : Type 1} → statement M
 scan-spec =

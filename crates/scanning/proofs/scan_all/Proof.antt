@@ -13,21 +13,21 @@ entry-of-scan-rules at = search depth 0
 returns : tie.Need-returns
 returns c =
     let at-scan-rules : tie.After-scan-rules = search depth 0 in
-    going_stop going_start (all_parts _) (rules_walk _ at-scan-rules.scan-rules.ensures)
+    going_stop going_start all_parts (rules_walk at-scan-rules.scan-rules.ensures)
     (λ z. not_equal (rw z at c.match.keys2))
 
 scan-inputs-requires : tie.Need-scan-inputs-requires
 scan-inputs-requires c κs =
     let at-scan-rules : tie.After-scan-rules = search depth 0 in
     let entry = entry-of-scan-rules at-scan-rules in
-    (entry.pre.0.0, entry.pre.1.0, entry.pre.1.1, at-scan-rules.scan-rules.ensures.kept.layout entry.pre.1.2)
+    (entry.pre.0, entry.pre.2, entry.pre.3, at-scan-rules.scan-rules.ensures.kept.layout entry.pre.4)
 
 returns-2 : tie.Need-returns-2
 returns-2 c =
     let at-scan-inputs : tie.After-scan-inputs = search depth 0 in
     let at_told : tie.After-enum-told = search depth 0 in
     let at-scan-rules : tie.After-scan-rules = search depth 0 in
-    going_then (going_on going_start (all_parts _) (rules_walk _ at-scan-rules.scan-rules.ensures) at_told.enum_told.given.1)
+    going_then (going_on going_start all_parts (rules_walk at-scan-rules.scan-rules.ensures) at_told.enum_told.given.1)
     at-scan-inputs.scan_inputs.ensures
 
 pub scan-all-spec : {M : Type 1} → statement M

@@ -24,8 +24,8 @@ overlap-requires c κs =
 
 overlapping-requires : tie.Need-overlapping-requires
 overlapping-requires c κs =
-    let at_overlap : tie.After-overlap = search depth 0 in
-    let entry = entry-of-overlap at_overlap in
+    let at-overlap : tie.After-overlap = search depth 0 in
+    let entry = entry-of-overlap at-overlap in
     let few = (entry.pre.0.0.short _ entry.pre.1.1).left in
     let p = entry.pre.1.2 in
     (layout_room entry.pre.0.0 entry.pre.1.0, layout_room entry.pre.0.0 entry.pre.1.1, omega arith)
@@ -34,21 +34,21 @@ join-requires : tie.Need-join-requires
 join-requires c κs =
     let at-put-mark : tie.After-put-mark = search depth 0 in
     let at_told : tie.After-enum-told3 = search depth 0 in
-    let at_overlap = overlap-of-told at_told in
-    let entry = entry-of-overlap at_overlap in
-    (entry.pre.0.0, at_overlap.overlap.ensures.kept.layout layout_zeros, marked_one entry.pre.0.1 at-put-mark.put_mark.ensures)
+    let at-overlap = overlap-of-told at_told in
+    let entry = entry-of-overlap at-overlap in
+    (entry.pre.0.0, at-overlap.overlap.ensures.kept.layout layout_zeros, marked_one entry.pre.0.1 at-put-mark.put_mark.ensures)
 
 returns : tie.Need-returns
 returns c =
-    let at_overlap : tie.After-overlap = search depth 0 in
-    let entry = entry-of-overlap at_overlap in
-    place_nothing _ entry.pre.1.0 entry.pre.1.1 at_overlap.overlap.ensures c.before.enum_told.given.1 c.walked.ensures
+    let at-overlap : tie.After-overlap = search depth 0 in
+    let entry = entry-of-overlap at-overlap in
+    place_nothing _ entry.pre.1.0 entry.pre.1.1 at-overlap.overlap.ensures c.before.enum_told.given.1 c.walked.ensures
 
 returns-2 : tie.Need-returns-2
 returns-2 c =
-    let at_overlap : tie.After-overlap = search depth 0 in
-    let entry = entry-of-overlap at_overlap in
-    place_large _ entry.pre.1.0 entry.pre.1.1 at_overlap.overlap.ensures c.before.enum-told2.given.1 c.walked2.ensures
+    let at-overlap : tie.After-overlap = search depth 0 in
+    let entry = entry-of-overlap at-overlap in
+    place_large _ entry.pre.1.0 entry.pre.1.1 at-overlap.overlap.ensures c.before.enum-told2.given.1 c.walked2.ensures
 
 returns-3 : tie.Need-returns-3
 returns-3 c =
@@ -56,9 +56,9 @@ returns-3 c =
     let at-put-mark : tie.After-put-mark = search depth 0 in
     let at-overlapping : tie.After-overlapping = search depth 0 in
     let at_told : tie.After-enum-told3 = search depth 0 in
-    let at_overlap = overlap-of-told at_told in
-    let entry = entry-of-overlap at_overlap in
-    place_pair _ entry.pre.1.0 entry.pre.1.1 at_overlap.overlap.ensures at_told.enum-told3.given.1
+    let at-overlap = overlap-of-told at_told in
+    let entry = entry-of-overlap at-overlap in
+    place_pair _ entry.pre.1.0 entry.pre.1.1 at-overlap.overlap.ensures at_told.enum-told3.given.1
     at-overlapping.overlapping.ensures at-put-mark.put_mark.ensures at_join.join.ensures
 
 pub scan-at-spec : {M : Type 1} → statement M

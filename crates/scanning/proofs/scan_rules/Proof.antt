@@ -1,7 +1,7 @@
--- `scan_rules`: the invariant is that what is to come from the place reached, with the units left, comes to what is to come from the first; `ahead` falls.
+-- `scan_rules`: the invariant is that what is to come from the place reached, with the units left, comes to what all places come to; `ahead` falls.
 -- Assumes nothing.
 -- Read first: specs/Order (to-come), proofs/Reaching (Reaching, ahead).
-use Rattle.scanning.proofs.Reaching.{Reaching, ahead, reach_first, from_first, reach_end, reach_stop, reach_next, possible_asks, next_asks, falls}
+use Rattle.scanning.proofs.Reaching.{Reaching, ahead, reach_first, reach_end, reach_stop, reach_next, possible_asks, next_asks, falls}
 use Rattle.scanning.proofs.Placing.{placed, missing}
 use mathlib.Core.Logic.{⊎_elim}
 use mathlib.Core.Path.{refl}
@@ -11,7 +11,7 @@ use Rattle.scanning.proofs.scan_rules.Statement.{statement}
 use Rattle.scanning.proofs.scan_rules.Tie as tie
 
 abbrev invariant-loop : tie.invariant-loop
-invariant-loop rules count table units pair₀ at₀ u₀ pair at u = Reaching table rules count at₀ pair₀ pair units at u
+invariant-loop rules count table units pair₀ at₀ u₀ pair at u = Reaching table rules count pair₀ pair units at u
 
 abbrev decreases-loop : tie.decreases-loop
 decreases-loop rules count table units pair₀ at₀ u₀ pair at u = ahead at
@@ -20,12 +20,9 @@ decreases-loop rules count table units pair₀ at₀ u₀ pair at u = ahead at
 abbrev entry-of-at-loop : tie.At-loop invariant-loop decreases-loop → tie.Start invariant-loop decreases-loop
 entry-of-at-loop at = search depth 0
 
-abbrev behind-of-at-loop : tie.At-loop invariant-loop decreases-loop → tie.After-behind invariant-loop decreases-loop
-behind-of-at-loop at = search depth 0
-
 loop-holds : tie.Need-loop-init invariant-loop decreases-loop
 loop-holds c =
-    reach_first c.behind.ensures
+    reach_first c.spot-at.ensures
 
 possible-requires : tie.Need-possible-requires invariant-loop decreases-loop
 possible-requires c κs =
@@ -41,7 +38,7 @@ scan-at-requires c κs =
     let in-then1 : tie.Then1 invariant-loop decreases-loop = search depth 0 in
     let at-loop : tie.At-loop invariant-loop decreases-loop = search depth 0 in
     let entry = entry-of-at-loop at-loop in (
-      (entry.pre.0, at-loop.loop.inv.going.kept.layout entry.pre.3),
+      (entry.pre.0, at-loop.loop.inv.going.kept.layout entry.pre.2),
       (at-loop.loop.inv.within in-then1.if1.taken, in-then1.if1.taken, at-possible.possible.ensures.within in-then2.if2.taken),
     )
 
@@ -55,10 +52,9 @@ returns c =
     let entry = entry-of-at-loop at-loop in
     let lo = in-then1.if1.taken in
     let li = at-loop.loop.inv.within lo in
-    from_first (behind-of-at-loop at-loop).behind.ensures
-    (reach_stop at-loop.loop.inv (entry.pre.0, entry.pre.1) lo
+    reach_stop at-loop.loop.inv (entry.pre.0, entry.pre.1) lo
     (placed _ li lo at-possible.possible.ensures in-then2.if2.taken at-scan-at.scan-at.ensures)
-    (λ z. not_equal (rw z at c.match.keys2)))
+    (λ z. not_equal (rw z at c.match.keys2))
 
 next-requires : tie.Need-next-requires invariant-loop decreases-loop
 next-requires c κs =
@@ -93,7 +89,7 @@ loop-again c =
 returns-2 : tie.Need-returns-2 invariant-loop decreases-loop
 returns-2 c =
     let at-loop : tie.At-loop invariant-loop decreases-loop = search depth 0 in
-    from_first (behind-of-at-loop at-loop).behind.ensures (reach_end at-loop.loop.inv c.before.if1.false c.walked.ensures)
+    reach_end at-loop.loop.inv c.before.if1.false c.walked.ensures
 
 pub scan-rules-spec : {M : Type 1} → statement M
 scan-rules-spec =

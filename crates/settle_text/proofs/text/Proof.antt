@@ -37,10 +37,10 @@ returns-2 : tie.Need-returns-2
 returns-2 c =
     let at-put-refused : tie.After-put-refused = search depth 0 in
     let at_wide : tie.After-wide = search depth 0 in
-    let at_number : tie.After-number = search depth 0 in
+    let at-number : tie.After-number = search depth 0 in
     let at-complete : tie.After-complete = search depth 0 in
     let entry : tie.Start = search depth 0 in (
-      prints_refused _ _ _ _ _ _ _ _ _ at_number.number.given.1 at-complete.complete.ensures.0
+      prints_refused _ _ _ _ _ _ _ _ _ at-number.number.given.1 at-complete.complete.ensures.0
           at_wide.wide.ensures.0 (search rules) at-put-refused.Put-refused.ensures.1,
       (let p = at-put-refused.Put-refused.ensures.0 in let q = entry.pre in omega arith),
     )

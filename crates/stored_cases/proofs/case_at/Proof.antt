@@ -18,20 +18,20 @@ returns-2 c =
 returns-3 : tie.Need-returns-3
 returns-3 c =
     let in-else2 : tie.Else2 = search depth 0 in
-    let at_number : tie.After-number = search depth 0 in
+    let at-number : tie.After-number = search depth 0 in
     let at-number2 : tie.After-number2 = search depth 0 in
     let h = c.if3.true in
     cut_behind _ _ (let k = in-else2.if2.left in omega arith)
-    (omega (arith, at_number.number.ensures.0, at-number2.number2.ensures.0))
+    (omega (arith, at-number.number.ensures.0, at-number2.number2.ensures.0))
 
 returns-4 : tie.Need-returns-4
 returns-4 c =
     let in-else2 : tie.Else2 = search depth 0 in
     let in-else3 : tie.Else3 = search depth 0 in
-    let at_number : tie.After-number = search depth 0 in
+    let at-number : tie.After-number = search depth 0 in
     let at-number2 : tie.After-number2 = search depth 0 in
-    whole _ _ (let k = in-else2.if2.left in omega arith) _ _ (omega (arith, at_number.number.ensures.0))
-    (omega (arith, at_number.number.ensures.0, at-number2.number2.ensures.0)) in-else3.if3.left
+    whole _ _ (let k = in-else2.if2.left in omega arith) _ _ (omega (arith, at-number.number.ensures.0))
+    (omega (arith, at-number.number.ensures.0, at-number2.number2.ensures.0)) in-else3.if3.left
 
 pub case-at-spec : {M : Type 1} → statement M
 case-at-spec =

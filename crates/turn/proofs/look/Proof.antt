@@ -10,8 +10,7 @@ use Rattle.turn.proofs.look.Tie as tie
 returns : tie.Need-returns
 returns c =
     let in-then1 : tie.Then1 = search depth 0 in
-    let entry : tie.Start = search depth 0 in
-    look_scan entry.pre.0.0 in-then1.if1.taken c.scan.ensures
+    look_scan in-then1.if1.taken c.scan.ensures
 
 returns-2 : tie.Need-returns-2
 returns-2 c =

@@ -14,14 +14,13 @@ use Rattle.orient.specs.declared.Way.{Way}
 use Rattle.orient.specs.declared.Way.TheVariants.{Rule, Neither, TooLarge}
 use Rattle.orient.specs.contracts.Way.{the_type as way-type}
 use Rattle.state.specs.declared.Turned.{Turned}
-use Rattle.keys.specs.Keys.{Proper}
 use Rattle.state.specs.Run.{Fine}
 use Rattle.turn.specs.Turns.{Turns}
 use Rattle.forms.specs.contracts.Due.{the_type}
 use Rattle.forms.proofs.Entries.{settle_room, make_room}
 use Rattle.turn.proofs.Parts.{settle_needs, settles, Makes, orient_room, makes_large, put_back_needs, makes_neither, collapse_room}
 use Rattle.turn.proofs.Parts.{enter_needs, compose_room, makes_ends, makes_goes}
-use Rattle.turn.proofs.Whole.{turn_spent, look_room, began_fine, Begun, turn_ends, turn_settled, turn_made}
+use Rattle.turn.proofs.Whole.{turn_spent, look_room, began_fine, turn_ends, turn_settled, turn_made}
 use borrow.Author.Rules.{rules}
 use Rattle.turn.proofs.turn.Statement.{statement}
 use Rattle.turn.proofs.turn.Tie as tie
@@ -38,35 +37,26 @@ to-rule Neither h k = absurd (miss (0 ∷ 2 ∷ []) 1 tt k)
 to-rule TooLarge h k = absurd (miss (0 ∷ 1 ∷ []) 2 tt h)
 
 -- Places, found by their types: the only field of a type is the place itself.
-abbrev entry-of-begin : tie.After-begin → tie.Start
-entry-of-begin at = search depth 0
+abbrev begin-of-look : tie.After-look → tie.After-begin
+begin-of-look at = search depth 0
+
+abbrev waits-of : tie.After-look → tie.After-waiting-behind
+waits-of at = search depth 0
 
 abbrev else-of-begin : tie.After-begin → tie.Else1
 else-of-begin at = search depth 0
 
-abbrev begin-of-look : tie.After-look → tie.After-begin
-begin-of-look at = search depth 0
-
-abbrev waits-of-look : tie.After-look → tie.After-waiting-behind
-waits-of-look at = search depth 0
+abbrev entry-of-begin : tie.After-begin → tie.Start
+entry-of-begin at = search depth 0
 
 abbrev look-of-due : tie.After-due-after → tie.After-look
 look-of-due at = search depth 0
 
-abbrev due-of-passed : tie.After-passed-then → tie.After-due-after
-due-of-passed at = search depth 0
+abbrev due-of-take : tie.After-take → tie.After-due-after
+due-of-take at = search depth 0
 
-abbrev stop-of-passed : tie.After-passed-then → tie.At-match-keys2
-stop-of-passed at = search depth 0
-
-abbrev passed-of-take : tie.After-take → tie.After-passed-then
-passed-of-take at = search depth 0
-
-abbrev passed-of-rest : tie.After-take2 → tie.After-passed-then
-passed-of-rest at = search depth 0
-
-abbrev look-of-rest : tie.After-take2 → tie.After-look
-look-of-rest at = look-of-due (due-of-passed (passed-of-rest at))
+abbrev due-of-rest : tie.After-take2 → tie.After-due-after
+due-of-rest at = search depth 0
 
 abbrev rest-of-orient : tie.After-orient → tie.After-take2
 rest-of-orient at = search depth 0
@@ -80,34 +70,12 @@ collapse-of-enter at = search depth 0
 abbrev enter-of-compose : tie.After-compose-few → tie.After-enter-rule
 enter-of-compose at = search depth 0
 
-abbrev compose-of-done : tie.After-enum-told4 → tie.After-compose-few
-compose-of-done at = search depth 0
-
 -- the state that began its turn is fine, and the slot that was looked for is whole
 begun-fine : (at : tie.After-look) → Fine (begin-of-look at).begin.result
 begun-fine at = let at-begin = begin-of-look at in began_fine (entry-of-begin at-begin).pre.0 at-begin.begin.ensures
 
 pair-whole : (at : tie.After-look) → length at.look.result.pair ≡ slot_width
 pair-whole at = search rules
-
--- the turn up to what is due
-abbrev first_of : tie.After-due-after → tie.After-begin
-first_of at = begin-of-look (look-of-due at)
-
-abbrev entry-of-due : tie.After-due-after → tie.Start
-entry-of-due at = entry-of-begin (first_of at)
-
-begun : (at : tie.After-due-after) →
-    Begun (entry-of-due at).args.table.now (entry-of-due at).args.inputs.now (entry-of-due at).args.count (entry-of-due at).args.st
-    (first_of at).begin.result (waits-of-look (look-of-due at)).waiting_behind.result (look-of-due at).look.result at.due_after.result
-begun at = record {
-  first = (entry-of-due at).requires.0;
-  some = (else-of-begin (first_of at)).if1.false;
-  began = (first_of at).begin.ensures;
-  waits = (waits-of-look (look-of-due at)).waiting_behind.ensures;
-  looked = (look-of-due at).look.ensures;
-  due = at.due_after.ensures;
-}
 
 returns : tie.Need-returns
 returns c =
@@ -130,76 +98,75 @@ look-requires c κs =
 returns-2 : tie.Need-returns-2
 returns-2 c =
     let at-due : tie.After-due-after = search depth 0 in
-    turn_ends (begun at-due) c.before.before.due.given.1 c.ended2.ensures
-
--- the key then
-passed-then-requires : tie.Need-passed-then-requires
-passed-then-requires c κs =
-    let at-due : tie.After-due-after = search depth 0 in
-    let B = begun at-due in
-    let room = look_room B.first B.began B.waits in
-    (room.0, room.1, room.3, B.looked.layout)
-
-take-room : (at : tie.After-passed-then) → Fine (first_of (due-of-passed at)).begin.result × Proper at.Passed-then.result
-take-room at = (begun-fine (look-of-due (due-of-passed at)), at.Passed-then.ensures.proper)
+    let at-look = look-of-due at-due in
+    let at-begin = begin-of-look at-look in
+    turn_ends (entry-of-begin at-begin).pre.0 (else-of-begin at-begin).if1.left at-begin.begin.ensures
+    (waits-of at-look).waiting_behind.ensures at-look.look.ensures
+    at-due.due_after.ensures c.before.before.due.given.1 c.ended2.ensures
 
 -- step 3
 take-requires : tie.Need-take-requires
-take-requires c κs = take-room (search depth 0)
+take-requires c κs = begun-fine (look-of-due (search depth 0))
 
 slice-aggregate-settle : tie.Need-slice-aggregate-settle
 slice-aggregate-settle c =
-    let at_take : tie.After-take = search depth 0 in
-    let n = pair-whole (look-of-due (due-of-passed (passed-of-take at_take))) in
+    let n = pair-whole (look-of-due (due-of-take (search depth 0))) in
     search rules
 
 settle-requires : tie.Need-settle-requires
 settle-requires c κs =
     let at_take : tie.After-take = search depth 0 in
     let at_told : tie.After-enum-told = search depth 0 in
-    let B = begun (due-of-passed (passed-of-take at_take)) in
-    settle_needs at_take.take.ensures (settle_room _ _ _ B.due at_told.enum_told.given.1) B.looked.layout
+    let at-due = due-of-take at_take in
+    settle_needs at_take.take.ensures (settle_room _ _ _ at-due.due_after.ensures at_told.enum_told.given.1)
+    (look-of-due at-due).look.ensures.layout
 
 returns-3 : tie.Need-returns-3
 returns-3 c =
     let at-settle : tie.After-settle = search depth 0 in
     let at_take : tie.After-take = search depth 0 in
     let at_told : tie.After-enum-told = search depth 0 in
-    let at-passed = passed-of-take at_take in
-    turn_settled (begun (due-of-passed at-passed)) at-passed.Passed-then.ensures at_told.enum_told.given.1
-    (settles at_take.take.ensures at-settle.settle.ensures c.goes_on.ensures)
+    let at-due = due-of-take at_take in
+    let at-look = look-of-due at-due in
+    let at-begin = begin-of-look at-look in
+    turn_settled (entry-of-begin at-begin).pre.0 (else-of-begin at-begin).if1.left at-begin.begin.ensures
+    (waits-of at-look).waiting_behind.ensures at-look.look.ensures
+    at-due.due_after.ensures at_told.enum_told.given.1 (settles at_take.take.ensures at-settle.settle.ensures c.goes_on.ensures)
 
 -- steps 4 to 7: a rule is due
 take-requires-2 : tie.Need-take-requires-2
-take-requires-2 c κs = take-room (search depth 0)
-
-abbrev due-of-rest : tie.After-take2 → tie.After-due-after
-due-of-rest at = due-of-passed (passed-of-rest at)
+take-requires-2 c κs = begun-fine (look-of-due (search depth 0))
 
 is-make : (at : tie.After-take2) → (due-of-rest at).due_after.result ≡ Make
-is-make at = to_make _ (stop-of-passed (passed-of-rest at)).match.keys2 at.before.match2.keys2
+is-make at = to_make _ at.before.before.match.keys2 at.before.match2.keys2
 
-log-room : (at : tie.After-take2) → (first_of (due-of-rest at)).begin.result.log.count < most_entries
+log-room : (at : tie.After-take2) → (begin-of-look (look-of-due (due-of-rest at))).begin.result.log.count < most_entries
 log-room at = make_room _ _ _ (due-of-rest at).due_after.ensures (is-make at)
 
-abbrev entry-of-rest : tie.After-take2 → tie.Start
-entry-of-rest at = entry-of-due (due-of-rest at)
+abbrev first_of : tie.After-take2 → tie.After-begin
+first_of at = begin-of-look (look-of-due (due-of-rest at))
 
 made : (at : tie.After-take2) {o : Turned} →
-    Makes (entry-of-rest at).args.table.now (look-of-rest at).look.result.pair (first_of (due-of-rest at)).begin.result
-    (passed-of-rest at).Passed-then.result (look-of-rest at).look.result.units o →
-    Turns (entry-of-rest at).args.table.now (entry-of-rest at).args.inputs.now (entry-of-rest at).args.count (entry-of-rest at).args.st o
-made at M = turn_made (begun (due-of-rest at)) (passed-of-rest at).Passed-then.ensures (is-make at) M
+    Makes (entry-of-begin (first_of at)).args.table.now (look-of-due (due-of-rest at)).look.result.pair (first_of at).begin.result
+    (look-of-due (due-of-rest at)).look.result.units o →
+    Turns (entry-of-begin (first_of at)).args.table.now (entry-of-begin (first_of at)).args.inputs.now (entry-of-begin (first_of at)).args.count
+    (entry-of-begin (first_of at)).args.st o
+made at M =
+    let at-due = due-of-rest at in
+    let at-begin = first_of at in
+    turn_made (entry-of-begin at-begin).pre.0 (else-of-begin at-begin).if1.left at-begin.begin.ensures
+    (waits-of (look-of-due at-due)).waiting_behind.ensures (look-of-due at-due).look.ensures
+    at-due.due_after.ensures (is-make at) M
 
 slice-aggregate-orient : tie.Need-slice-aggregate-orient
 slice-aggregate-orient c =
-    let n = pair-whole (look-of-rest (search depth 0)) in
+    let n = pair-whole (look-of-due (due-of-rest (search depth 0))) in
     search rules
 
 orient-requires : tie.Need-orient-requires
 orient-requires c κs =
     let at_rest : tie.After-take2 = search depth 0 in
-    let at-look = look-of-rest at_rest in
+    let at-look = look-of-due (due-of-rest at_rest) in
     (at_rest.take2.ensures.fine, orient_room (begun-fine at-look) at_rest.take2.ensures, at-look.look.ensures.layout)
 
 returns-4 : tie.Need-returns-4
@@ -207,12 +174,12 @@ returns-4 c =
     let at_told : tie.After-enum-told2 = search depth 0 in
     let at-orient : tie.After-orient = search depth 0 in
     let at_rest = rest-of-orient at-orient in
-    made at_rest (makes_large (begun-fine (look-of-rest at_rest)) at_rest.take2.ensures at-orient.orient.ensures
+    made at_rest (makes_large (begun-fine (look-of-due (due-of-rest at_rest))) at_rest.take2.ensures at-orient.orient.ensures
     at_told.enum-told2.given.1 c.ended3.ensures)
 
 slice-aggregate-put-back : tie.Need-slice-aggregate-put-back
 slice-aggregate-put-back c =
-    let n = pair-whole (look-of-rest (rest-of-orient (search depth 0))) in
+    let n = pair-whole (look-of-due (due-of-rest (rest-of-orient (search depth 0)))) in
     search rules
 
 put-back-requires : tie.Need-put-back-requires
@@ -220,7 +187,7 @@ put-back-requires c κs =
     let at_told : tie.After-enum-told3 = search depth 0 in
     let at-orient : tie.After-orient = search depth 0 in
     let at_rest = rest-of-orient at-orient in
-    let at-look = look-of-rest at_rest in
+    let at-look = look-of-due (due-of-rest at_rest) in
     put_back_needs (begun-fine at-look) at_rest.take2.ensures at-orient.orient.ensures at_told.enum-told3.given.1 (log-room at_rest)
     at-look.look.ensures.layout
 
@@ -230,14 +197,14 @@ returns-5 c =
     let at_told : tie.After-enum-told3 = search depth 0 in
     let at-orient : tie.After-orient = search depth 0 in
     let at_rest = rest-of-orient at-orient in
-    made at_rest (makes_neither (begun-fine (look-of-rest at_rest)) at_rest.take2.ensures at-orient.orient.ensures
+    made at_rest (makes_neither (begun-fine (look-of-due (due-of-rest at_rest))) at_rest.take2.ensures at-orient.orient.ensures
     at_told.enum-told3.given.1 at-put-back.put_back.ensures c.goes-on2.ensures)
 
 collapse-requires : tie.Need-collapse-requires
 collapse-requires c κs =
     let at-orient : tie.After-orient = search depth 0 in
     let at_rest = rest-of-orient at-orient in
-    collapse_room (begun-fine (look-of-rest at_rest)) at_rest.take2.ensures at-orient.orient.ensures
+    collapse_room (begun-fine (look-of-due (due-of-rest at_rest))) at_rest.take2.ensures at-orient.orient.ensures
     (to-rule _ c.before.match3.keys2 c.match4.keys2)
 
 -- the pair became a rule
@@ -247,7 +214,7 @@ is_rule at = to-rule _ at.before.before.match3.keys2 at.before.match4.keys2
 slice-aggregate-enter-rule : tie.Need-slice-aggregate-enter-rule
 slice-aggregate-enter-rule c =
     let at-collapse : tie.After-collapse = search depth 0 in
-    let n = pair-whole (look-of-rest (rest-of-orient (orient-of-collapse at-collapse))) in
+    let n = pair-whole (look-of-due (due-of-rest (rest-of-orient (orient-of-collapse at-collapse)))) in
     search rules
 
 enter-rule-requires : tie.Need-enter-rule-requires
@@ -255,7 +222,7 @@ enter-rule-requires c κs =
     let at-collapse : tie.After-collapse = search depth 0 in
     let at-orient = orient-of-collapse at-collapse in
     let at_rest = rest-of-orient at-orient in
-    let at-look = look-of-rest at_rest in
+    let at-look = look-of-due (due-of-rest at_rest) in
     enter_needs (begun-fine at-look) at_rest.take2.ensures at-orient.orient.ensures at-collapse.collapse.ensures (log-room at_rest)
     at-look.look.ensures.layout
 
@@ -271,11 +238,14 @@ returns-6 c =
     let at-collapse = collapse-of-enter at-enter in
     let at-orient = orient-of-collapse at-collapse in
     let at_rest = rest-of-orient at-orient in
-    made at_rest (makes_ends (begun-fine (look-of-rest at_rest)) at_rest.take2.ensures at-orient.orient.ensures
+    made at_rest (makes_ends (begun-fine (look-of-due (due-of-rest at_rest))) at_rest.take2.ensures at-orient.orient.ensures
     at-collapse.collapse.ensures (is_rule at-collapse) at-enter.enter-rule.ensures at-compose.compose-few.ensures
     c.before.before.composed.given.1 c.ended4.ensures)
 
 -- all right sides were done
+abbrev compose-of-done : tie.After-enum-told4 → tie.After-compose-few
+compose-of-done at = search depth 0
+
 returns-7 : tie.Need-returns-7
 returns-7 c =
     let at_told : tie.After-enum-told4 = search depth 0 in
@@ -284,7 +254,7 @@ returns-7 c =
     let at-collapse = collapse-of-enter at-enter in
     let at-orient = orient-of-collapse at-collapse in
     let at_rest = rest-of-orient at-orient in
-    made at_rest (makes_goes (begun-fine (look-of-rest at_rest)) at_rest.take2.ensures at-orient.orient.ensures
+    made at_rest (makes_goes (begun-fine (look-of-due (due-of-rest at_rest))) at_rest.take2.ensures at-orient.orient.ensures
     at-collapse.collapse.ensures (is_rule at-collapse) at-enter.enter-rule.ensures at-compose.compose-few.ensures
     at_told.enum-told4.given.1 c.goes-on3.ensures)
 
@@ -293,8 +263,7 @@ turn_spec =
     tie.close (tie.spec
     (λ c κs. search rules) returns (λ c κs. search rules) waiting-behind-requires look-requires (λ c κs. search rules) (λ c. search rules)
     (λ c κs. search rules)
-    returns-2 (λ c. search rules) passed-then-requires (λ c. search rules) take-requires slice-aggregate-settle settle-requires
-    (λ c κs. search rules) returns-3 take-requires-2
+    returns-2 (λ c. search rules) take-requires slice-aggregate-settle settle-requires (λ c κs. search rules) returns-3 take-requires-2
     slice-aggregate-orient orient-requires (λ c. search rules) (λ c κs. search rules) returns-4 (λ c. search rules) slice-aggregate-put-back
     put-back-requires (λ c κs. search rules) returns-5 collapse-requires slice-aggregate-enter-rule enter-rule-requires compose-few-requires
     (λ c. search rules) (λ c κs. search rules) returns-6 (λ c. search rules) (λ c κs. search rules) returns-7)

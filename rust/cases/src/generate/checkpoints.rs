@@ -10,7 +10,6 @@ mod changed;
 pub mod exhaustive;
 mod long;
 mod made;
-mod marks;
 mod moved;
 
 use super::damage::damage;
@@ -28,12 +27,11 @@ pub type Save<'s> = &'s dyn Fn(&[u8]) -> Option<Vec<u8>>;
 type Family = fn(&mut Random, Save) -> Resumption;
 
 /// The families; the long records are rare.
-const FAMILIES: [Shared<Family>; 9] = [
+const FAMILIES: [Shared<Family>; 8] = [
     ("saved run", 12, saved),
     ("changed state", 10, changed::state),
     ("made state", 14, made::state),
     ("made fields", 8, made::fields),
-    ("other marks", 10, marks::other),
     ("moved fields", 6, moved::fields),
     ("damaged record", 10, damaged),
     ("large budget", 2, large_budget),

@@ -3,8 +3,7 @@
 //! `problem` is a function of its two numbers alone. The index modulo the
 //! number of families chooses the family, the rest varies it. In a third of
 //! the problems symbols share a rank; in four families equations with neither
-//! side above wait, in two right sides change after overlaps were read. Most
-//! budgets are small, so that many problems can be run.
+//! side above wait. Most budgets are small, so that many problems can be run.
 //! `damage::exhaustive` lists all truncations and single-byte changes of some
 //! problems. `records` makes questions of records, `pairs` pairs of terms for
 //! lower, `slices` runs that are cut and go on in slices, `checkpoints` saved
@@ -14,7 +13,6 @@ pub mod checkpoints;
 pub mod damage;
 pub mod edges;
 pub mod limits;
-pub mod marks;
 pub mod pairs;
 pub mod random;
 pub mod ranks;
@@ -30,7 +28,7 @@ use random::Random;
 type Family = fn(&mut Random) -> Vec<u8>;
 
 /// The families in the order of the index.
-const FAMILIES: [(&str, Family); 26] = [
+const FAMILIES: [(&str, Family); 24] = [
     ("random theory", theory::random),
     ("orientable theory", theory::orientable),
     ("non-linear theory", theory::non_linear),
@@ -51,8 +49,6 @@ const FAMILIES: [(&str, Family); 26] = [
     ("waiting, then simplified", waiting::simplified),
     ("removed, then waiting", waiting::removed),
     ("paper theory behind waiting", waiting::behind),
-    ("changed right sides", marks::composed),
-    ("grown right sides", marks::grown),
     ("edges", edges::edges),
     ("damaged", damage::random),
     ("bytes", damage::bytes),

@@ -1,11 +1,11 @@
 //! Equations that were put back, and the limits: a term over 120 nodes, 16 and
 //! 17 variables, 32 rules and a 33rd, 512 entries and a 513th.
 
+use super::{case, input, Run, BACK, BUDGET};
 use crate::fixed::{Case, Ended};
 use crate::full_log;
 use crate::notation::Theory;
 use crate::theories::{many_variables, power, with_products};
-use crate::turns::{case, input, Run, BACK, BUDGET};
 
 /// Symbols of the equations beside products.
 const BESIDE_PRODUCTS: &str = "q/1 m/2 k/3 g/3";
@@ -44,9 +44,9 @@ pub(super) fn grown() -> Run {
     let (long, doubling) = (power("h", 6, "x"), "h(x) = t(x,x)");
     let theory = symbols().equation(&format!("t({long},y) = t(y,{long})"));
     let (theory, rules) = (theory.equation(doubling), symbols().equation(doubling));
-    let mut run = Run::complete("put back, then too large", theory, 9, rules);
-    run.end = 22;
-    run.with_turns(&[(1, input(1), BACK, 0), (2, input(2), 1, 1)])
+    let run = Run::complete("put back, then too large", theory, 9, rules);
+    let run = run.with_turns(&[(1, input(1), BACK, 0), (2, input(2), 1, 1)]);
+    Run { end: 22, ..run }
 }
 
 /// A run with the highest budget: its end, its units and its rules.
@@ -60,12 +60,12 @@ pub(super) fn cases() -> Vec<Case> {
     let mut list = vec![
         full("16 variables, put back", sixteen, (20, 4, 2)),
         full("17 variables, not put back", seventeen, (22, 3, 2)),
-        full("put back beside 32 rules", one_removed(3, 7), (20, 37, 32)),
-        full("31 rules, one put back", two_removed(3, 6), (0, 62, 31)),
+        full("put back beside 32 rules", one_removed(3, 7), (20, 247, 32)),
+        full("31 rules, one put back", two_removed(3, 6), (0, 233, 31)),
         full(
             "a 33rd rule of one put back",
             two_removed(2, 9),
-            (23, 43, 32),
+            (23, 196, 32),
         ),
     ];
     list.extend(full_logs());

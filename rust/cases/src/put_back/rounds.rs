@@ -2,10 +2,10 @@
 //! a rule is made, or an equation settled, until none is and the end is 20, or
 //! until none waits.
 
+use super::{input, removed, Run, BACK, SETTLED};
 use crate::fixed::{single, Case, Ended};
 use crate::notation::Theory;
 use crate::theories::GROUP;
-use crate::turns::{input, removed, Run, BACK, SETTLED};
 use kb_engine::calls::UnifyAnswer;
 use kb_engine::order::Order;
 

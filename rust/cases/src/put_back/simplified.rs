@@ -1,10 +1,10 @@
 //! Equations with neither side above that later rules simplify: the runs end
 //! 0, and ended 20 when such an equation did not wait.
 
+use super::{case, input, overlap, removed, Run, BACK, BUDGET, SETTLED};
 use crate::fixed::{Case, Ended};
 use crate::notation::Theory;
 use crate::theories::{self, GROUP};
-use crate::turns::{case, input, overlap, removed, Run, BACK, BUDGET, SETTLED};
 
 /// 0, s, + and *, ranked so.
 const NUMBERS: &str = "0/0/0 s/1/1 +/2/2 */2/3";
@@ -19,7 +19,7 @@ pub fn groups_with_unit() -> Theory {
 }
 
 pub(super) fn groups() -> Case {
-    let ended = Ended::complete(244, &theories::group_rules().all_sides());
+    let ended = Ended::complete(981, &theories::group_rules().all_sides());
     let name = "002 group axioms behind x*e = e*x";
     case(name, &groups_with_unit(), BUDGET, ended)
 }
@@ -102,20 +102,20 @@ fn fragment() -> Run {
     let printed = theories::fragment_rules().sides(&[1, 2, 3, 4, 5, 7, 8, 9]);
     let rules = printed.into_iter();
     let rules = rules.fold(Theory::new(GROUP), Theory::raw_equation);
-    Run::complete("001 axioms with x*e = e*x", theory, 51, rules).with_turns(&[
+    Run::complete("001 axioms with x*e = e*x", theory, 80, rules).with_turns(&[
         (1, input(1), BACK, 0),
         (2, input(2), 1, 1),
         (3, input(3), 2, 2),
         (5, input(1), 3, 3),
         (6, overlap(1, 1, 3), 4, 4),
-        (7, overlap(2, 1, 3), 5, 5),
-        (8, overlap(3, 1, 3), 6, 6),
-        (9, overlap(1, 4, 0), 7, 7),
-        (14, overlap(2, 4, 0), 8, 7),
-        (16, removed(4), SETTLED, 7),
-        (19, overlap(2, 5, 0), 9, 7),
-        (22, removed(6), SETTLED, 7),
-        (24, overlap(2, 7, 2), 10, 8),
+        (8, overlap(2, 1, 3), 5, 5),
+        (11, overlap(3, 1, 3), 6, 6),
+        (15, overlap(1, 4, 0), 7, 7),
+        (24, overlap(2, 4, 0), 8, 7),
+        (26, removed(4), SETTLED, 7),
+        (32, overlap(2, 5, 0), 9, 7),
+        (35, removed(6), SETTLED, 7),
+        (44, overlap(2, 7, 2), 10, 8),
     ])
 }
 

@@ -1,7 +1,7 @@
 //! Records and budgets that are refused: 2, 16 and 17, with their places.
 
-use super::{case, first_turn, second_turn, spent, Case};
-use crate::checkpoints::{marked, waiting, Checkpoint};
+use super::{case, first_turn, second_turn, Case};
+use crate::checkpoints::{waiting, Checkpoint};
 use kb_engine::Refusal;
 
 /// Most bytes of a saved record, written out like the answers.
@@ -14,7 +14,6 @@ const NEXT: usize = EQUATION + 7;
 const RULE: usize = NEXT + 5;
 const ENTRY: usize = RULE + 9;
 const COUNT: usize = ENTRY + 11;
-const MARKED: usize = COUNT + 4;
 
 pub(super) fn cases() -> Vec<Case> {
     let mut list = symbols_and_equations();
@@ -23,8 +22,6 @@ pub(super) fn cases() -> Vec<Case> {
     list.extend(waits());
     list.extend(entries());
     list.extend(counts());
-    list.extend(places());
-    list.extend(place_fields());
     list.extend(cut());
     list.extend(not_due());
     list.extend(budgets());
@@ -192,85 +189,6 @@ fn counts() -> Vec<Case> {
     ]
 }
 
-/// The state after three rules, of which the first lives, with these contents
-/// of the last field.
-fn with_place(contents: &[u8]) -> Checkpoint {
-    Checkpoint {
-        next: 4,
-        entries: vec![vec![1, 0, 1, 0, 0, 0, 0, 1]; 3],
-        marked: contents.to_vec(),
-        ..second_turn()
-    }
-}
-
-/// Where its last field begins.
-const PLACE: usize = MARKED + 2 * 11;
-
-/// The place marked last, which need not be one of live rules.
-fn places() -> Vec<Case> {
-    let good = |numbers, position| {
-        let record = with_place(&marked(numbers, position));
-        let name = format!("the place {numbers:?} at {position}");
-        spent(&name, &record, 0, &record)
-    };
-    let bad = |what: &str, numbers, position| {
-        let record = with_place(&marked(numbers, position));
-        refused(&format!("{what} of a place"), record.bytes(), PLACE)
-    };
-    vec![
-        good([1, 1, 1], 1),
-        good([3, 1, 1], 0),
-        good([3, 1, 3], 0),
-        good([3, 3, 3], 1),
-        good([2, 2, 2], 119),
-        good([3, 2, 3], 119),
-        bad("numbers 0", [0, 0, 0], 1),
-        bad("earlier 0", [1, 0, 1], 0),
-        bad("earlier and inner 0", [3, 0, 0], 1),
-        bad("inner 0", [1, 1, 0], 1),
-        bad("later 4", [4, 1, 1], 0),
-        bad("later and inner 4", [4, 3, 4], 0),
-        bad("numbers 4", [4, 4, 4], 1),
-        bad("inner 4", [3, 3, 4], 1),
-        bad("later 65,535", [65_535, 1, 1], 0),
-        bad("earlier above later", [2, 3, 2], 0),
-        bad("earlier, as inner, above later", [1, 2, 2], 0),
-        bad("a third rule", [3, 1, 2], 0),
-        bad("a second rule, of one with itself,", [2, 2, 1], 1),
-        bad("position 120", [3, 1, 1], 120),
-        bad("position 120, of one with itself,", [3, 3, 3], 120),
-        bad("position 255", [3, 2, 3], 255),
-        bad("the root, of one with itself,", [2, 2, 2], 0),
-    ]
-}
-
-/// Its length; and that a rule must have been made.
-fn place_fields() -> Vec<Case> {
-    let bytes = |length: usize| {
-        let contents = [0, 1].repeat(7);
-        let record = with_place(&contents[..length]).bytes();
-        refused(&format!("a place of {length} bytes"), record, PLACE)
-    };
-    let whole = with_place(&marked([3, 1, 1], 0)).bytes();
-    let cut = |length: usize| {
-        let name = format!("{length} bytes of a place");
-        refused(&name, whole[..PLACE + length].to_vec(), PLACE)
-    };
-    let first = Checkpoint {
-        marked: marked([1, 1, 1], 1),
-        ..first_turn()
-    };
-    let mut list: Vec<Case> = [1, 2, 6, 8, 14].map(bytes).into();
-    list.extend([0, 1, 2, 3, 9].map(cut));
-    let behind = RULE + 13 + 4;
-    list.push(refused(
-        "a place before the first rule",
-        first.bytes(),
-        behind,
-    ));
-    list
-}
-
 /// Fields that are missing or cut.
 fn cut() -> Vec<Case> {
     let record = second_turn().bytes();
@@ -286,8 +204,6 @@ fn cut() -> Vec<Case> {
         cut("no log", ENTRY, ENTRY),
         cut("no count", COUNT, COUNT),
         cut("the count cut", COUNT + 3, COUNT),
-        cut("no place", MARKED, MARKED),
-        cut("a place's header cut", MARKED + 2, MARKED),
     ]
 }
 
@@ -297,27 +213,19 @@ fn not_due() -> Vec<Case> {
     let joined = |name: &str, parts: &[&[u8]], place| refused(name, parts.concat(), place);
     let budget = [2, 0, 4, 0, 0, 0, 9];
     let (symbols, behind) = record.split_at(EQUATION);
-    let (before, last) = record.split_at(COUNT);
-    let (count, place) = last.split_at(MARKED - COUNT);
+    let (before, count) = record.split_at(COUNT);
     let (next, rule) = (&record[..RULE], &record[RULE..ENTRY]);
     let entry = &record[ENTRY..COUNT];
     let end = record.len();
     vec![
         joined("a byte behind", &[&record, &[0]], end),
-        joined("the place twice", &[&record, place], end),
-        joined("the count twice", &[before, count, last], MARKED),
-        joined("the count behind the place", &[&record, count], end),
-        joined("the place first", &[before, place, count], COUNT),
+        joined("the count twice", &[&record, count], end),
         joined("a budget", &[symbols, &budget, behind], EQUATION),
         joined("no symbols", &[behind], 0),
         joined("no problem", &[&record[NEXT..]], 0),
-        joined("an entry first", &[next, entry, rule, last], RULE + 11),
-        joined("a count of no byte", &[before, &[0x22, 0, 0], place], COUNT),
-        joined(
-            "a count of two",
-            &[before, &[0x22, 0, 2, 0, 0], place],
-            COUNT,
-        ),
+        joined("an entry first", &[next, entry, rule, count], RULE + 11),
+        joined("a count of no byte", &[before, &[0x22, 0, 0]], COUNT),
+        joined("a count of two", &[before, &[0x22, 0, 2, 0, 0]], COUNT),
     ]
 }
 

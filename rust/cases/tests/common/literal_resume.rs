@@ -3,9 +3,7 @@
 
 use super::literal::{Bytes, Rule, Symbols};
 use super::literal_decide::{fields, number, Field};
-use super::literal_marks::{key, places, Marking, Marks, Place};
-use super::literal_rounds::Waiting;
-use super::literal_run::{run_from, State, Words, WORDS};
+use super::literal_run::{run_from, State, Waiting, ROUNDS};
 use super::Fields;
 use kb_engine::Refusal;
 use std::collections::HashMap;
@@ -16,11 +14,6 @@ pub type Resumed = (Fields, Bytes);
 
 /// What resume_saving must leave or answer, `None` where this cannot say.
 pub fn resume(record: &[u8], budget: u64) -> Option<Result<Resumed, Refusal>> {
-    resume_with(WORDS, record, budget)
-}
-
-/// The same with other words.
-pub fn resume_with(words: Words, record: &[u8], budget: u64) -> Option<Result<Resumed, Refusal>> {
     let refused = |number, place| Some(Err(Refusal { number, place }));
     if record.len() > 49_152 {
         return refused(2, 49_152);
@@ -33,7 +26,7 @@ pub fn resume_with(words: Words, record: &[u8], budget: u64) -> Option<Result<Re
             return refused(16, field.start);
         }
     }
-    if fields.last().is_none_or(|field| field.tag != 0x23) {
+    if fields.last().is_none_or(|field| field.tag != 0x22) {
         return refused(16, record.len());
     }
     if budget > 1_000_000 {
@@ -41,12 +34,12 @@ pub fn resume_with(words: Words, record: &[u8], budget: u64) -> Option<Result<Re
     }
     let equations = contents(&fields, 0x03).map(|sides| symbols.two_terms(sides).unwrap());
     let equations: Vec<(Bytes, Bytes)> = equations.collect();
-    let state = state(words.marking, &symbols, &fields);
+    let state = state(&symbols, &fields);
     let problem = fields.iter().take_while(|field| field.tag < 0x20);
     let problem = record[..problem.map(|field| 3 + whole(field).len()).sum()].to_vec();
-    let (left, state) = run_from(words, symbols, budget as u32, &equations, state)?;
+    let (left, state) = run_from(ROUNDS, symbols, budget as u32, &equations, state)?;
     let saved = match left.end {
-        21 => saved(words.marking, problem, &state),
+        21 => saved(problem, &state),
         _ => Vec::new(),
     };
     Some(Ok((left, saved)))
@@ -73,38 +66,6 @@ fn symbols(field: &Field) -> Option<Symbols> {
 /// Kind 1 to 4, and the second number and the position 0 but for kind 4.
 fn is_origin(six: &[u8]) -> bool {
     (1..=3).contains(&six[0]) && six[3..6] == [0, 0, 0] || six[0] == 4
-}
-
-/// Later, earlier and inner number and the position of a place: the numbers
-/// from 1 and below the next, the earlier at most the later, the inner one of
-/// the two; the position below 120, and from 1 for a rule with itself.
-fn is_key(bytes: &[u8], next: usize) -> bool {
-    if bytes.len() != 7 {
-        return false;
-    }
-    let (later, earlier, inner) = numbers(bytes);
-    let made = [later, earlier, inner].iter().all(|n| 1 <= *n && *n < next);
-    let first = if earlier == later { 1 } else { 0 };
-    let position = bytes[6];
-    made && earlier <= later
-        && (inner == later || inner == earlier)
-        && first <= position
-        && position < 120
-}
-
-fn numbers(bytes: &[u8]) -> (usize, usize, usize) {
-    (
-        number(&bytes[..2]),
-        number(&bytes[2..4]),
-        number(&bytes[4..6]),
-    )
-}
-
-/// The place of a key.
-fn place(bytes: &[u8]) -> Place {
-    let (later, earlier, inner) = numbers(bytes);
-    let outer = if inner == later { earlier } else { later };
-    (inner, outer, bytes[6].into())
 }
 
 /// The next rule number that good fields give.
@@ -146,10 +107,6 @@ impl Symbols {
                 let good = bytes.len() == 1 && number(bytes) <= count(0x21);
                 follows(&[0x20, 0x12, 0x21, 0x13]) && enough && good
             }
-            0x23 => {
-                let good = bytes.is_empty() || is_key(bytes, next(before));
-                follows(&[0x22]) && good
-            }
             _ => false,
         }
     }
@@ -167,22 +124,8 @@ impl Symbols {
     }
 }
 
-/// The marks of these rules that field 23 holds: all places up to its own.
-fn marks(marking: Marking, rules: &[Rule], contents: &[u8]) -> Marks {
-    if contents.is_empty() {
-        return Marks::default();
-    }
-    let last = place(contents);
-    let marked = places(rules).into_iter();
-    let marked = marked.filter(|place| (marking.read)(rules, *place, last));
-    Marks {
-        places: marked.collect(),
-        last: Some(last),
-    }
-}
-
 /// The state that good fields hold: the last of those that wait were put back.
-fn state(marking: Marking, symbols: &Symbols, fields: &[Field]) -> State {
+fn state(symbols: &Symbols, fields: &[Field]) -> State {
     let rules = contents(fields, 0x12).map(|bytes| {
         let (left, right) = symbols.pair(&bytes[2..]).unwrap();
         let number = number(&bytes[..2]);
@@ -203,11 +146,8 @@ fn state(marking: Marking, symbols: &Symbols, fields: &[Field]) -> State {
             put_back: place + put_back >= waits,
         }
     });
-    let rules: Vec<Rule> = rules.collect();
-    let marked = contents(fields, 0x23).next().unwrap_or(&[]);
     State {
-        marks: marks(marking, &rules, marked),
-        rules,
+        rules: rules.collect(),
         waiting: waiting.collect(),
         log: contents(fields, 0x13).map(<[u8]>::to_vec).collect(),
         made: next(fields) as u16 - 1,
@@ -215,7 +155,7 @@ fn state(marking: Marking, symbols: &Symbols, fields: &[Field]) -> State {
 }
 
 /// The record of a run with these first fields that stopped in this state.
-fn saved(marking: Marking, problem: Bytes, state: &State) -> Bytes {
+fn saved(problem: Bytes, state: &State) -> Bytes {
     let mut out = problem;
     let mut put = |tag: u8, parts: &[&[u8]]| {
         let contents = parts.concat();
@@ -236,12 +176,5 @@ fn saved(marking: Marking, problem: Bytes, state: &State) -> Bytes {
     }
     let put_back = state.waiting.iter().filter(|equation| equation.put_back);
     put(0x22, &[&[put_back.count() as u8]]);
-    match (marking.saved)(&state.marks).map(key) {
-        None => put(0x23, &[]),
-        Some([later, earlier, inner, position]) => {
-            let numbers = [later, earlier, inner].map(|n| (n as u16).to_be_bytes());
-            put(0x23, &[&numbers.concat(), &[position as u8]]);
-        }
-    }
     out
 }

@@ -1,8 +1,6 @@
 //! The turns word for word, on the literal definitions.
 
 use super::literal::{apply, rename, Bytes, Rule, Symbols};
-use super::literal_marks::{places, Marked, Marking, Marks, Passed, Place, MARKING};
-use super::literal_rounds::{Rounds, Taken, Waiting, ROUNDS};
 use super::Fields;
 use std::collections::{BTreeSet, HashMap};
 
@@ -14,23 +12,73 @@ enum Break {
     Unknown,
 }
 
-/// All that can be made wrong.
-#[derive(Clone, Copy)]
-pub struct Words {
-    pub rounds: Rounds,
-    pub marking: Marking,
+/// An equation that waits.
+#[derive(Clone)]
+pub struct Waiting {
+    pub left: Bytes,
+    pub right: Bytes,
+    /// Kind, numbers and position, as its entries have them.
+    pub origin: Bytes,
+    /// Since a rule was last made or an equation settled.
+    pub put_back: bool,
 }
 
-pub const WORDS: Words = Words {
-    rounds: ROUNDS,
-    marking: MARKING,
+/// A pair as it stood, its two normal forms, and its origin.
+pub struct Taken {
+    pub before: [Bytes; 2],
+    pub forms: [Bytes; 2],
+    pub origin: Bytes,
+}
+
+/// What the definitions say of equations with neither side above. The tests of
+/// the comparison make one of them wrong.
+#[derive(Clone, Copy)]
+pub struct Rounds {
+    pub put_back: fn(&mut Vec<Waiting>, &Taken),
+    /// The rule made, in the entry of a pair put back.
+    pub made: u16,
+    /// The equation that field 14 shows, if the end is 20.
+    pub stuck: fn(&[Waiting]) -> Option<&Waiting>,
+    pub after_a_rule: fn(&mut [Waiting]),
+    pub after_settling: fn(&mut [Waiting]),
+}
+
+pub const ROUNDS: Rounds = Rounds {
+    put_back,
+    made: 0xffff,
+    stuck,
+    after_a_rule: none_put_back_since,
+    after_settling: none_put_back_since,
 };
+
+/// To the end, as its two normal forms.
+fn put_back(waiting: &mut Vec<Waiting>, taken: &Taken) {
+    let [left, right] = &taken.forms;
+    let (left, right) = rename(left, right);
+    waiting.push(Waiting {
+        left,
+        right,
+        origin: taken.origin.clone(),
+        put_back: true,
+    });
+}
+
+/// Some equation waits and every one waiting has been put back: the oldest.
+fn stuck(waiting: &[Waiting]) -> Option<&Waiting> {
+    let every_one = waiting.iter().all(|equation| equation.put_back);
+    waiting.first().filter(|_| every_one)
+}
+
+fn none_put_back_since(waiting: &mut [Waiting]) {
+    for equation in waiting {
+        equation.put_back = false;
+    }
+}
 
 /// What a run keeps from turn to turn.
 #[derive(Clone, Default)]
 pub struct State {
     pub rules: Vec<Rule>,
-    pub marks: Marks,
     pub waiting: Vec<Waiting>,
     pub log: Vec<Bytes>,
     /// The number of the last rule made.
@@ -40,23 +88,20 @@ pub struct State {
 struct Run {
     symbols: Symbols,
     rounds: Rounds,
-    marking: Marking,
     inputs: Vec<(Bytes, Bytes)>,
     state: State,
-    /// The marks at the turn's beginning.
-    before: Marks,
     budget: u32,
     units: u32,
 }
 
 /// The fields that complete should write, `None` where this cannot say.
 pub fn run(symbols: Symbols, budget: u32, equations: &[(Bytes, Bytes)]) -> Option<Fields> {
-    run_with(WORDS, symbols, budget, equations)
+    run_with(ROUNDS, symbols, budget, equations)
 }
 
-/// The same with other words.
+/// The same with other rounds.
 pub fn run_with(
-    words: Words,
+    rounds: Rounds,
     symbols: Symbols,
     budget: u32,
     equations: &[(Bytes, Bytes)],
@@ -66,13 +111,13 @@ pub fn run_with(
         waiting: (1..).zip(inputs).map(input).collect(),
         ..State::default()
     };
-    let (fields, _) = run_from(words, symbols, budget, equations, first)?;
+    let (fields, _) = run_from(rounds, symbols, budget, equations, first)?;
     Some(fields)
 }
 
 /// The same from a state, with the state as at the beginning of the last turn.
 pub fn run_from(
-    words: Words,
+    rounds: Rounds,
     symbols: Symbols,
     budget: u32,
     equations: &[(Bytes, Bytes)],
@@ -80,24 +125,20 @@ pub fn run_from(
 ) -> Option<(Fields, State)> {
     let mut run = Run {
         symbols,
-        rounds: words.rounds,
-        marking: words.marking,
+        rounds,
         inputs: equations.iter().map(|(l, r)| rename(l, r)).collect(),
-        before: state.marks.clone(),
         state,
         budget,
         units: 0,
     };
     loop {
-        let mut state = run.state.clone();
-        run.before = state.marks.clone();
+        let state = run.state.clone();
         let (end, pair) = match run.turn() {
             Ok(()) => continue,
             Err(Break::Unknown) => return None,
             Err(Break::End(number)) => (number, None),
             Err(Break::Pair(l, r)) => (20, Some([l, r].concat())),
         };
-        state.marks = (run.marking.stopped)(state.marks, run.state.marks);
         let rule = |r: &Rule| (r.number as u16, [&r.left[..], &r.right].concat());
         let fields = Fields {
             count: 0,
@@ -142,7 +183,6 @@ impl Run {
 
     fn turn(&mut self) -> Result<(), Break> {
         self.pay()?;
-        (self.marking.begin)(&mut self.state.marks);
         if let Some(shown) = (self.rounds.stuck)(&self.state.waiting) {
             return Err(Break::Pair(shown.left.clone(), shown.right.clone()));
         }
@@ -160,7 +200,6 @@ impl Run {
             self.state.made
         } else {
             (self.rounds.put_back)(&mut self.state.waiting, &taken);
-            (self.marking.put_back)(&mut self.state.marks, &self.before);
             self.rounds.made
         };
         let made = made.to_be_bytes();
@@ -183,71 +222,49 @@ impl Run {
             let oldest = self.state.waiting.remove(0);
             return self.forms([oldest.left, oldest.right], oldest.origin);
         }
-        if let Some(taken) = self.take_overlap()? {
-            return Ok(taken);
+        for (inner, outer, p) in self.places() {
+            let Some((left, right)) = self.critical_pair(&inner, &outer, p)? else {
+                continue;
+            };
+            let taken = self.forms([left, right], origin(4, inner.number, outer.number, p))?;
+            if taken.forms[0] != taken.forms[1] {
+                return Ok(taken);
+            }
         }
         for (i, (left, right)) in self.inputs.clone().into_iter().enumerate() {
             let taken = self.forms([left, right], origin(3, i + 1, 0, 0))?;
             if taken.forms[0] != taken.forms[1] {
-                (self.marking.input_taken)(&mut self.state.marks, &self.before);
                 return Ok(taken);
             }
         }
         Err(Break::End(0))
     }
 
-    /// The first overlap that is not marked and has two different forms.
-    fn take_overlap(&mut self) -> Result<Option<Taken>, Break> {
-        let places = places(&self.state.rules);
-        for (i, place) in places.iter().enumerate() {
-            if self.state.marks.places.contains(place) {
-                self.again(*place)?;
-                continue;
-            }
-            if !(self.marking.walks)(&self.state.rules, *place) {
-                continue;
-            }
-            let passed = match self.overlap(*place)? {
-                None => Passed::NoOverlap,
-                Some(taken) if taken.forms[0] == taken.forms[1] => Passed::Settled,
-                Some(taken) => {
-                    (self.marking.taken)(&mut self.state.marks, *place, &places[i + 1..]);
-                    return Ok(Some(taken));
+    /// Rules with a position, in the scan's order, by sorting.
+    fn places(&self) -> Vec<(Rule, Rule, usize)> {
+        let mut list = Vec::new();
+        for inner in &self.state.rules {
+            for outer in &self.state.rules {
+                for p in 0..outer.left.len() {
+                    if inner.number != outer.number || p > 0 {
+                        list.push((inner.clone(), outer.clone(), p));
+                    }
                 }
-            };
-            (self.marking.passed)(&mut self.state.marks, *place, passed);
+            }
         }
-        Ok(None)
+        list.sort_by_key(|(inner, outer, p)| {
+            let (i, o) = (inner.number, outer.number);
+            (i.max(o), i.min(o), i > o, *p)
+        });
+        list
     }
 
-    /// A marked place, which is passed over.
-    fn again(&mut self, place: Place) -> Result<(), Break> {
-        match self.marking.marked {
-            Marked::PassedOver => {}
-            Marked::Tested => drop(self.critical_pair(place)?),
-            Marked::Paid => drop(self.overlap(place)?),
-        }
-        Ok(())
-    }
-
-    /// The forms of the overlap at a place, none if there is none.
-    fn overlap(&mut self, place: Place) -> Result<Option<Taken>, Break> {
-        let Some((left, right)) = self.critical_pair(place)? else {
-            return Ok(None);
-        };
-        let (inner, outer, p) = place;
-        let taken = self.forms([left, right], origin(4, inner, outer, p))?;
-        Ok(Some(taken))
-    }
-
-    fn rule(&self, number: usize) -> &Rule {
-        let mut live = self.state.rules.iter();
-        live.find(|rule| rule.number == number)
-            .expect("a live rule")
-    }
-
-    fn critical_pair(&self, (inner, outer, p): Place) -> Result<Option<(Bytes, Bytes)>, Break> {
-        let (inner, outer) = (self.rule(inner), self.rule(outer));
+    fn critical_pair(
+        &self,
+        inner: &Rule,
+        outer: &Rule,
+        p: usize,
+    ) -> Result<Option<(Bytes, Bytes)>, Break> {
         if outer.left[p] >= 0x80 {
             return Ok(None);
         }
@@ -294,11 +311,9 @@ impl Run {
     }
 
     fn add(&mut self, new: Rule) -> Result<(), Break> {
-        let (mut kept, mut removed) = (Vec::new(), Vec::new());
+        let mut kept = Vec::new();
         for old in std::mem::take(&mut self.state.rules) {
             if self.symbols.rewrites(&new, &old.left) {
-                (self.marking.removed)(&mut self.state.marks, old.number);
-                removed.push(old.number);
                 self.state.waiting.push(Waiting {
                     left: old.left,
                     right: old.right,
@@ -311,17 +326,12 @@ impl Run {
         }
         kept.push(new);
         self.state.rules = kept;
-        (self.marking.made)(&mut self.state.marks, &self.state.rules, &removed);
         if self.state.rules.len() > 32 {
             return Err(Break::End(23));
         }
         for i in 0..self.state.rules.len() - 1 {
             let right = self.state.rules[i].right.clone();
-            let normal = self.normalise(right.clone())?;
-            if normal != right {
-                (self.marking.composed)(&mut self.state.marks, self.state.rules[i].number);
-            }
-            self.state.rules[i].right = normal;
+            self.state.rules[i].right = self.normalise(right)?;
         }
         Ok(())
     }

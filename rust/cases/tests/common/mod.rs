@@ -4,9 +4,7 @@
 pub mod literal;
 pub mod literal_decide;
 pub mod literal_lower;
-pub mod literal_marks;
 pub mod literal_resume;
-pub mod literal_rounds;
 pub mod literal_run;
 
 use kb_cases::notation::Theory;

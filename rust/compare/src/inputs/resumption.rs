@@ -1,6 +1,6 @@
 //! Saved records, each with a new budget: resume and resume_saving.
 
-use super::saving::{buffers, note, note_place};
+use super::saving::{buffers, note};
 use super::{hex, listed, Case, Cases, Due, Input, Kind, Notes, Plan};
 use crate::call::{left_by, refused, saved_record_of, Call, Engine, RustEngine};
 use crate::check::{Checker, Difference, NONE};
@@ -25,7 +25,6 @@ pub fn check(
     let mut notes = vec![note(&resume, answer, checker.written(answer))];
     let answer = checker.call(&resume_saving, buffers)?;
     notes.push(note(&resume_saving, answer, checker.written(answer)));
-    notes.extend(note_place(checker.saved(answer)));
     Ok(notes)
 }
 

@@ -5,11 +5,10 @@
 use super::{hex, question, Case, Cases, Due, Input, Kind, Notes, Plan};
 use crate::call::{decode, encode, left_by, refused, Call, Engine};
 use crate::check::{Checker, Difference, Start, NONE};
-use kb_cases::checkpoints::Checkpoint;
 use kb_cases::generate::slices as generator;
+use kb_cases::put_back::{self, Run};
 use kb_cases::questions::Question;
 use kb_cases::slices::{self, with_budget, Sliced, Slices};
-use kb_cases::turns::{self, Run};
 use kb_cases::{fixed as of_papers, generate};
 use kb_engine::problem::Problem;
 use kb_engine::run::END_COMPLETE;
@@ -62,16 +61,6 @@ pub fn note(call: &Call, answer: u64, result: &[u8]) -> String {
         (Some(end), _) => format!("{call}: end {end:2}"),
         (None, (_, number, _)) => format!("{call}: refused {number:2}"),
     }
-}
-
-/// The place marked last in a saved record, for the summary.
-pub fn note_place(saved: &[u8]) -> Option<String> {
-    let place = match Checkpoint::of_record(saved)?.marked_lives() {
-        None => "no place",
-        Some(true) => "a place of live rules",
-        Some(false) => "a place of removed rules",
-    };
-    Some(format!("saved: {place}"))
 }
 
 /// What a call that saves has left on both sides.
@@ -140,7 +129,6 @@ impl Saving<'_, '_> {
             return Err(Difference::of_both(&what, answer));
         }
         self.notes.push(note(call, answer, &left.result));
-        self.notes.extend(note_place(&left.saved));
         Ok(left)
     }
 
@@ -275,17 +263,12 @@ fn fixed(_: Plan) -> Cases {
 /// Budgets with which a cut run is resumed.
 const BUDGETS: [u32; 6] = [0, 1, 2, 3, 7, 1000];
 
-/// A run that is known turn by turn, cut at every budget and resumed; the
-/// record tells the place marked last.
+/// A run that is known turn by turn, cut at every budget and resumed.
 fn run_faults(engine: &dyn Engine, run: &Run) -> Vec<(String, u64)> {
     let mut faults = Vec::new();
     for cut in 0..run.units {
         let problem = run.theory.problem(cut);
         let left = left_by(engine, &Call::CompleteSaving(problem.into()));
-        let marked = Checkpoint::of_record(&left.saved).map(|c| c.marked);
-        if marked != Some(run.marked(cut)) {
-            faults.push((format!("complete_saving with {cut} units"), left.answer));
-        }
         for budget in BUDGETS {
             let ended = run.resumed(cut, budget);
             let record = || left.saved.as_slice().into();
@@ -319,7 +302,7 @@ fn turn_by_turn(_: Plan) -> Cases {
             faults: Box::new(move |engine| run_faults(engine, &run)),
         }),
     };
-    Box::new(turns::runs().into_iter().map(case))
+    Box::new(put_back::runs().into_iter().map(case))
 }
 
 fn corpus(_: Plan) -> Cases {

@@ -11,12 +11,12 @@ use kb_engine::Refusal;
 /// number, if there are no equations.
 const BEHIND_SYMBOLS: usize = 13;
 const BEHIND_NEXT: usize = BEHIND_SYMBOLS + 5;
-/// Bytes of a field's head, of an origin, of an entry's field, of the fields of
-/// those put back and of no place, and of a result's end and units.
+/// Bytes of a field's head, of an origin, of an entry's field, of the field of
+/// those put back, and of a result's end and units.
 const HEAD: usize = 3;
 const ORIGIN: usize = 6;
 const ENTRY: usize = HEAD + 8;
-const LAST: usize = HEAD + 1 + HEAD;
+const COUNT: usize = HEAD + 1;
 const END_AND_UNITS: usize = 4 + 7;
 
 /// The origin of the first input.
@@ -94,7 +94,7 @@ fn first_states() -> Vec<Case> {
     }
     fn saved(n: usize) -> u64 {
         let waits = HEAD + ORIGIN + 2 * n;
-        let length = BEHIND_NEXT + HEAD + 2 * n + waits + LAST;
+        let length = BEHIND_NEXT + HEAD + 2 * n + waits + COUNT;
         encode(1, length, END_AND_UNITS)
     }
     vec![
@@ -132,7 +132,7 @@ fn runs() -> Vec<Case> {
     vec![
         deep("complete_saving, two chains", |n| {
             let lent = problem(&[[&alone(n), &chain("j", n, "x")]]);
-            let saved = BEHIND_NEXT + HEAD + 2 * n + (HEAD + 2 + 2 * n) + ENTRY + LAST;
+            let saved = BEHIND_NEXT + HEAD + 2 * n + (HEAD + 2 + 2 * n) + ENTRY + COUNT;
             let call = Call::CompleteSaving(with_budget(&lent, 1).into());
             (call, encode(1, saved, result(2 * n, 1)))
         }),

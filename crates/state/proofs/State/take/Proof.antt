@@ -10,12 +10,12 @@ returns c =
     let at-drop-pair : tie.After-drop-pair = search depth 0 in
     let in-then1 : tie.Then1 = search depth 0 in
     let entry : tie.Start = search depth 0 in
-    take_done _ _ entry.pre.0 entry.pre.1 in-then1.if1.taken _ at-drop-pair.drop-pair.ensures
+    take_done _ entry.pre in-then1.if1.taken _ at-drop-pair.drop-pair.ensures
 
 returns-2 : tie.Need-returns-2
 returns-2 c =
     let entry : tie.Start = search depth 0 in
-    take_none _ _ entry.pre.0 entry.pre.1 c.if1.false
+    take_none _ entry.pre c.if1.false
 
 pub take_spec : {M : Type 1} → statement M
 take_spec = tie.close (tie.spec (λ c κs. search rules) (λ c. search rules) returns returns-2)

@@ -1,7 +1,6 @@
 //! Saved states that are changed, mostly to others in the form.
 
 use super::made::{entry, origin};
-use super::marks::place;
 use super::{saved_record, with_units, Save};
 use crate::checkpoints::Checkpoint;
 use crate::generate::random::Random;
@@ -24,7 +23,7 @@ fn change(random: &mut Random, checkpoint: &mut Checkpoint) {
         entries,
         ..
     } = checkpoint;
-    match random.below(14) {
+    match random.below(12) {
         0 => waiting.reverse(),
         1 => remove(random, waiting),
         2 => remove(random, rules),
@@ -39,7 +38,6 @@ fn change(random: &mut Random, checkpoint: &mut Checkpoint) {
         8 => other_origin(random, entries),
         9 => checkpoint.put_back = random.below(waiting.len() + 2) as u8,
         10 => checkpoint.next = (checkpoint.next + random.below(4) as u16).saturating_sub(1),
-        11 | 12 => checkpoint.marked = place(random, checkpoint.next, rules),
         _ => checkpoint.next = entries.len() as u16 + 1,
     }
 }

@@ -2,7 +2,7 @@
 //! of some records.
 
 use super::moved::joined;
-use crate::checkpoints::{marked, waiting, Checkpoint};
+use crate::checkpoints::{waiting, Checkpoint};
 use crate::notation::Theory;
 use crate::resumptions::Resumption;
 use crate::theories::{ARITHMETIC, GROUP};
@@ -18,8 +18,7 @@ fn bases() -> [Vec<u8>; 4] {
     [groups(), one_rank(), arithmetic(), first_state()].map(|base| base.bytes())
 }
 
-/// 002's axioms: two rules made and the third equation waits, beside a place of
-/// the two.
+/// 002's axioms: two rules made, the third equation waits.
 fn groups() -> Checkpoint {
     let axioms = ["*(e,x) = x", "*(i(x),x) = e", "*(x,*(y,z)) = *(*(x,y),z)"];
     let first = Checkpoint::of_theory(&Theory::new(GROUP).equations(&axioms));
@@ -31,13 +30,11 @@ fn groups() -> Checkpoint {
         ],
         waiting: vec![first.waiting[2].clone()],
         entries: vec![vec![1, 0, 1, 0, 0, 0, 0, 1], vec![1, 0, 2, 0, 0, 0, 0, 2]],
-        marked: marked([2, 1, 2], 1),
         ..first
     }
 }
 
-/// Equations of every kind of origin wait; one was put back. A rule of the place
-/// is gone.
+/// Equations of every kind of origin wait; one was put back.
 fn one_rank() -> Checkpoint {
     let theory = Theory::new("c/0/0 f/1/1 g/1/1").equations(&["f(x) = g(x)", "f(g(x)) = x"]);
     let first = Checkpoint::of_theory(&theory);
@@ -53,23 +50,21 @@ fn one_rank() -> Checkpoint {
         ],
         entries: (1..=4).map(|k| vec![k, 0, 1, 0, 0, 0, 0, 0]).collect(),
         put_back: 1,
-        marked: marked([3, 1, 1], 0),
         ..first
     }
 }
 
-/// Rules that another one will remove and compose, and nothing waits: the place
-/// is just before an overlap with two different forms.
+/// Rules that another one will remove and compose, and nothing waits.
 fn arithmetic() -> Checkpoint {
     let symbols = Theory::new(ARITHMETIC);
     let rules = symbols
         .clone()
-        .equations(&["+(x,s(y)) = s(+(x,y))", "p(s(x)) = x", "s(p(x)) = x"]);
+        .equations(&["+(x,s(y)) = s(+(x,y))", "p(s(x)) = x"]);
+    let [first, second] = [0, 1].map(|i| rules.all_sides()[i].clone());
     Checkpoint {
         next: 6,
-        rules: [2, 4, 5].into_iter().zip(rules.all_sides()).collect(),
+        rules: vec![(2, first), (5, second)],
         entries: vec![vec![4, 0, 2, 0, 5, 1, 0, 2]; 5],
-        marked: marked([5, 2, 5], 1),
         ..Checkpoint::of_theory(&symbols)
     }
 }

@@ -1,7 +1,6 @@
 //! Records of the largest sizes, and around the most bytes.
 
 use super::made::{entry, origin};
-use super::marks::place;
 use super::Save;
 use crate::checkpoints::Checkpoint;
 use crate::generate::damage::damage;
@@ -41,12 +40,10 @@ fn checkpoint(random: &mut Random) -> Checkpoint {
     let waits = |random: &mut Random| [origin(random), sides(random)].concat();
     let rules = (1..=rules as u16).map(|number| (number, sides(random)));
     let rules: Vec<(u16, Vec<u8>)> = rules.collect();
-    let next = *random.pick(&[rules.len() as u16 + 1, MAX_LOG as u16 + 1]);
     Checkpoint {
         symbols: SYMBOLS.iter().flat_map(|(a, r)| [*a, *r]).collect(),
         equations: (0..MAX_EQUATIONS).map(|_| sides(random)).collect(),
-        next,
-        marked: place(random, next, &rules),
+        next: *random.pick(&[rules.len() as u16 + 1, MAX_LOG as u16 + 1]),
         rules,
         waiting: (0..waiting).map(|_| waits(random)).collect(),
         entries: (0..logged).map(|_| entry(random)).collect(),
@@ -58,5 +55,5 @@ fn checkpoint(random: &mut Random) -> Checkpoint {
 fn pad(random: &mut Random, record: &mut Vec<u8>) {
     let total = random.between(MAX_SAVED - 1, MAX_SAVED + 1);
     let contents = vec![1; total - record.len() - 3];
-    push_field(record, *random.pick(&[0x03, 0x13, 0x22, 0x23]), &contents);
+    push_field(record, *random.pick(&[0x03, 0x13, 0x22]), &contents);
 }

@@ -1,7 +1,6 @@
 //! States that no engine saved: random rules, waiting equations of any origin,
 //! and a log of any entries. Nearly all are accepted.
 
-use super::marks::{self, place};
 use super::{with_units, Save};
 use crate::checkpoints::Checkpoint;
 use crate::generate::random::Random;
@@ -47,7 +46,6 @@ pub fn checkpoint(random: &mut Random) -> Checkpoint {
     Checkpoint {
         equations: (0..inputs).map(|_| sides(random, &symbols)).collect(),
         next,
-        marked: place(random, next, &rules),
         rules,
         waiting: (0..waiting).map(|_| waits(random, &symbols)).collect(),
         entries: (0..logged).map(|_| entry(random)).collect(),
@@ -140,7 +138,7 @@ pub fn entry(random: &mut Random) -> Vec<u8> {
 
 fn vary(random: &mut Random, checkpoint: &mut Checkpoint) {
     let waiting = checkpoint.waiting.len();
-    match random.below(10) {
+    match random.below(9) {
         0 => checkpoint.put_back = *random.pick(&[waiting + 1, waiting, 255]) as u8,
         1 => vary_next(random, checkpoint),
         2 => vary_number(random, checkpoint),
@@ -149,7 +147,6 @@ fn vary(random: &mut Random, checkpoint: &mut Checkpoint) {
         5 => repeat(random, &mut checkpoint.equations, MAX_EQUATIONS + 1),
         6 => vary_origin(random, &mut checkpoint.waiting),
         7 => vary_origin(random, &mut checkpoint.entries),
-        8 => marks::vary(random, checkpoint),
         _ => vary_sides(random, checkpoint),
     }
 }

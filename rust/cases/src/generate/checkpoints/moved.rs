@@ -6,8 +6,8 @@ use crate::resumptions::Resumption;
 use kb_engine::fields::{push_field, split_fields};
 
 /// The tags of a saved record, and some others.
-const TAGS: [u8; 12] = [
-    0x01, 0x02, 0x03, 0x04, 0x10, 0x12, 0x13, 0x14, 0x20, 0x21, 0x22, 0x23,
+const TAGS: [u8; 11] = [
+    0x01, 0x02, 0x03, 0x04, 0x10, 0x12, 0x13, 0x14, 0x20, 0x21, 0x22,
 ];
 
 pub fn fields(random: &mut Random, save: Save) -> Resumption {
@@ -17,12 +17,11 @@ pub fn fields(random: &mut Random, save: Save) -> Resumption {
     };
     let mut fields: Vec<(u8, &[u8])> = split_fields(&record).collect();
     let (chosen, other) = (random.below(fields.len()), random.below(fields.len()));
-    match random.below(7) {
+    match random.below(6) {
         0 | 1 => fields.swap(chosen, other),
         2 => fields.insert(other, fields[chosen]),
         3 => fields.push(fields[chosen]),
         4 => drop(fields.remove(chosen)),
-        5 => drop(fields.pop()),
         _ => fields[chosen].0 = *random.pick(&TAGS),
     }
     let bytes = joined(&fields);
