@@ -1,4 +1,6 @@
 // The public calls: compare, unify and subterm.
+#![tactic(auto)]
+
 ghost use Rattle.std.specs.Prelude.{◌≡◌, ◌≤◌, eqb, length};
 ghost use Rattle.limits.specs.Limits.{field_head, least_buffer, most_problem};
 ghost use Rattle.problem.specs.Problem.{ok};

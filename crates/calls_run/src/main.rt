@@ -1,5 +1,7 @@
 // Runs the public calls on the cases of standard input, document 01's worked instances and edges, and prints a line for each. `stored_cases` says what
 // a case is; rust/src/bin/call_cases.rs writes them.
+#![tactic(auto)]
+
 ghost use Rattle.std.specs.Prelude.{◌≤◌, length};
 
 use stored_cases::Case;

@@ -1,5 +1,7 @@
 // The fields of a saved record that have an origin, read front to back: its waiting equations into slots, its log into bytes. A field that is bad has its
 // first byte for a place.
+#![tactic(auto)]
+
 ghost use Rattle.std.specs.Prelude.{◌≡◌, ◌+◌, ◌*◌, ◌≤◌, length, drop};
 ghost use Rattle.limits.specs.Limits.{most_pairs, most_rules, most_entries, most_saved, origin_width};
 ghost use Rattle.fields.specs.Puts.{patched};

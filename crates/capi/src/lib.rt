@@ -1,4 +1,6 @@
 // The public calls for C: a slice is a pointer and a length, an answer is one number.
+#![tactic(auto)]
+
 ghost use Rattle.std.specs.Prelude.{◌≡◌, ◌≤◌, eqb, length};
 ghost use Rattle.completion.specs.Calls.{complete_call, compare_call, unify_call, subterm_part, after_complete, after_unify};
 ghost use Rattle.completion.specs.Calls.{counted};

@@ -1,4 +1,5 @@
 // The tags of a saved record's own fields; its other fields are a problem's and a result's. The definitions and their theory stand in specs/ and proofs/.
+#![tactic(auto)]
 
 // The next rule number.
 pub const NEXT: u8 = 0x20;

@@ -1,4 +1,6 @@
 // A test before unification: whether two terms have different symbols at one place.
+#![tactic(auto)]
+
 ghost use Rattle.std.specs.Prelude.{◌<◌, ◌≤◌, length};
 ghost use Rattle.limits.specs.Limits.{most_nodes};
 ghost use Rattle.clash.specs.Clashing.{Differ, Past, Clashing};

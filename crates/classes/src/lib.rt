@@ -1,4 +1,6 @@
 // Classes of nodes in an arena of terms, joined until arguments of one class are in one class, or two symbols meet.
+#![tactic(auto)]
+
 ghost use Rattle.std.specs.Prelude.{◌≡◌, map, ◌<◌, ◌≤◌, length};
 ghost use Rattle.limits.specs.Limits.{two_byte_values, arena_width};
 ghost use Rattle.classes.specs.Steps.{at, arena, Ready, SpellsSome, Apart, StepIs, key, relabelled, joined, ClosedTo};

@@ -1,4 +1,6 @@
 // Step 6 of a turn on the pairs in their slots: the older rules that the newest one rewrites go behind what waits.
+#![tactic(auto)]
+
 ghost use Rattle.std.specs.Prelude.{◌<◌, ◌≤◌};
 ghost use Rattle.slots.specs.Slots.{Layout};
 ghost use Rattle.collapse.specs.Sifting.{SiftedOne, Sifted};

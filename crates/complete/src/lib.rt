@@ -1,4 +1,6 @@
 // The call complete: from a problem's bytes to a result's.
+#![tactic(auto)]
+
 ghost use Rattle.std.specs.Prelude.{◌≡◌, ◌≤◌, length};
 ghost use Rattle.limits.specs.Limits.{most_equations, most_budget, most_result, field_head, two_byte_values};
 ghost use Rattle.completion.specs.Calls.{complete_call, counted, after_complete};

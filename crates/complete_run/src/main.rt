@@ -1,6 +1,8 @@
 // Runs complete on the cases of standard input: the papers' theories, the worked instances, the edges, every end by each cause, every refusal.
 // `stored_cases` says what a case is, and what is asked says which buffer is lent; rust/src/bin/complete_cases.rs writes them, and the independent
 // engine writes the output that is due.
+#![tactic(auto)]
+
 ghost use Rattle.std.specs.Prelude.{◌≤◌, length};
 
 use stored_cases::Case;

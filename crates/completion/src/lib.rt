@@ -1,1 +1,2 @@
 // Completion: definitions and theory only. The code that computes them stands in the crates above.
+#![tactic(auto)]

@@ -1,4 +1,6 @@
 // Step 7 of a turn: the older rules' right sides, ascending, each normalised by all live rules as they then read.
+#![tactic(auto)]
+
 ghost use Rattle.std.specs.Prelude.{◌+◌, ◌<◌};
 ghost use Rattle.slots.specs.Slots.{Layout};
 ghost use Rattle.compose.specs.Rights.{One, All, ComposesFew};

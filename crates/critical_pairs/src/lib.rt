@@ -1,4 +1,6 @@
 // The pair of an overlap: the instances of two terms, renamed together, where they and the peak are small enough.
+#![tactic(auto)]
+
 ghost use Rattle.std.specs.Prelude.{true, ◌<◌, length};
 ghost use Rattle.classes.specs.Steps.{at, arena, Ready};
 ghost use Rattle.sizing.specs.Sizes.{Sized, SizesKnown};

@@ -1,4 +1,6 @@
 // Whether two terms are the same by the rules of a kept result: by normalising from the inside out, or from the outside in.
+#![tactic(auto)]
+
 ghost use Rattle.std.specs.Prelude.{◌≡◌, ◌≤◌, length};
 ghost use Rattle.limits.specs.Limits.{most_nodes, most_rules, most_budget};
 ghost use Rattle.reading.specs.Answers.{Table};

@@ -1,4 +1,6 @@
 // Fields put into a lent buffer, one behind the other. Each function answers the place behind what it put.
+#![tactic(auto)]
+
 ghost use Rattle.std.specs.Prelude.{◌≡◌, ◌∷◌, ◌+◌, ◌<◌, ◌≤◌, length, take, drop};
 ghost use Rattle.limits.specs.Limits.{two_byte_values, field_head};
 ghost use Rattle.terms.specs.Base.{number_bytes, field_bytes};
@@ -9,7 +11,7 @@ pub fn paste(d: &mut [u8], at: usize, p: &[u8])
     requires { at + length p.now ≤ length d.old }
     ensures { d.new ≡ patched at p.now d.old }
 {
-    bytes::copy(p, &mut d[at..]);
+    d[at..at + p.len()].copy_from_slice(p);
 }
 
 // A number in so many bytes, high byte first: the place behind it.

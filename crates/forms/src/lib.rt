@@ -1,4 +1,6 @@
 // A pair's two normal forms, compared; and what is due then.
+#![tactic(auto)]
+
 ghost use Rattle.std.specs.Prelude.{◌≡◌, ◌+◌};
 ghost use Rattle.slots.specs.Slots.{Layout};
 ghost use Rattle.forms.specs.Forms.{PairWalk, OldestIs, with_room, due_after};

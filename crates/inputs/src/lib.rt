@@ -1,4 +1,6 @@
 // Input equations, read from lent bytes: each renamed as a pair, in slots, marked as they wait at first.
+#![tactic(auto)]
+
 ghost use Rattle.std.specs.Prelude.{◌+◌, ◌*◌, ◌<◌, ◌≤◌, length};
 ghost use Rattle.limits.specs.Limits.{most_equations, two_byte_values};
 ghost use Rattle.slots.specs.Slots.{slot_width};
@@ -35,7 +37,7 @@ fn put_sides(source: &[u8], table: &[u8], at: usize, slots: &mut [u8], k: usize)
     let m = side_end(source, table, at);
     let e = side_end(source, table, m);
     let mut held = [0u8; limits::PAIR];
-    bytes::copy(&source[at..e], &mut held);
+    held[..e - at].copy_from_slice(&source[at..e]);
     naming::rename_front(&mut held, e - at);
     let n = m - at;
     let end = e - at;

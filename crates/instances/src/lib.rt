@@ -1,4 +1,6 @@
 // The most general common instance of two terms, renamed, as a field of the result.
+#![tactic(auto)]
+
 ghost use Rattle.std.specs.Prelude.{◌+◌, ◌≤◌, length};
 ghost use Rattle.limits.specs.Limits.{most_nodes, field_head};
 ghost use Rattle.classes.specs.Steps.{Ready};

@@ -1,5 +1,7 @@
 // The fields of rules, log entries and pairs of forms: of each its tag, its reader over a problem's symbols, and its writer; and numbers in fields of
 // their own, which `fields::put_number_field` writes. A field that is bad has its first byte for a place; the refusal's number is the caller's.
+#![tactic(auto)]
+
 ghost use Rattle.std.specs.Prelude.{◌≡◌, ◌+◌, ◌*◌, ◌≤◌, length};
 ghost use mathlib.Core.List.{flat_map};
 ghost use Rattle.limits.specs.Limits.{most_nodes, most_pair, most_rules, two_byte_values};

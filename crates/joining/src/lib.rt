@@ -1,4 +1,6 @@
 // Two terms normalised, left then right, by one of the two strategies, and their last terms compared.
+#![tactic(auto)]
+
 ghost use Rattle.std.specs.Prelude.{◌≡◌, ◌≤◌, length};
 ghost use Rattle.limits.specs.Limits.{most_nodes};
 ghost use Rattle.slots.specs.Slots.{Layout};
@@ -87,7 +89,7 @@ fn join_right(
     let form = r.form;
     match form {
         Form::Normal(n) => {
-            if check::same(first, &right[0..n]) {
+            if first == &right[0..n] {
                 return walked(Found::Equal, left);
             }
             slots::put_sides(pair, 0, first, &right[0..n]);

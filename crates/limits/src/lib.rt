@@ -1,4 +1,5 @@
 // Document 01's limits, each once, and the sizes that follow from them. specs/Limits has the same numbers for contracts and definitions.
+#![tactic(auto)]
 
 // "Symbol n (0 to 15) is byte n."
 pub const SYMBOLS: usize = 16;

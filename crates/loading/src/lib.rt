@@ -1,5 +1,7 @@
 // A saved record's bytes, read front to back: its rules and waiting equations into slots, its log into bytes. A field that is bad has its first byte for
 // a place.
+#![tactic(auto)]
+
 ghost use Rattle.std.specs.Prelude.{◌≡◌, ◌+◌, ◌*◌, ◌≤◌, length};
 ghost use Rattle.limits.specs.Limits.{most_pairs, most_entries, most_next, most_saved};
 ghost use Rattle.reading.specs.Answers.{Table};

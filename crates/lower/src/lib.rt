@@ -1,4 +1,6 @@
 // The lower of two lent terms.
+#![tactic(auto)]
+
 ghost use Rattle.std.specs.Prelude.{◌≡◌, eqb, length};
 ghost use Rattle.terms.specs.Base.{is_some};
 ghost use Rattle.reading.specs.Answers.{Table, symbols_of};

@@ -1,5 +1,7 @@
 // Whether a term in cells is an instance of a left side, and the instance of a right side, put into a buffer. A cell is a node's byte, and `CELL` times the
 // size of its subterm where that is known to be normal. Entry x of `binds` is the place plus one of the term for the variable x, or 0.
+#![tactic(auto)]
+
 ghost use Rattle.std.specs.Prelude.{◌≡◌, true, [], ◌∷◌, ◌++◌, ◌+◌, ◌*◌, ◌/◌, ◌%◌, ◌<◌, ◌≤◌, length, get_or, drop, take};
 ghost use Rattle.limits.specs.Limits.{most_variables, most_nodes, byte_values, two_byte_values, cell_base};
 ghost use Rattle.matching.specs.Held.{Within, Cleared, Again, Advanced, Matched};

@@ -1,4 +1,6 @@
 // Unification of the terms at two nodes of an arena of bytes, by classes of nodes.
+#![tactic(auto)]
+
 mod start;
 
 ghost use Rattle.std.specs.Prelude.{◌≡◌, ◌+◌, ◌<◌, ◌≤◌, length};

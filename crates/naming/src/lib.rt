@@ -1,4 +1,6 @@
 // Numbers the variables in the bytes of terms 0, 1, 2 .. in order of first occurrence.
+#![tactic(auto)]
+
 ghost use Rattle.std.specs.Prelude.{◌≡◌, map, [], ◌++◌, ◌+◌, ◌<◌, ◌≤◌, length, take, drop};
 ghost use Rattle.limits.specs.Limits.{most_pair};
 ghost use Rattle.terms.specs.Base.{place_in};

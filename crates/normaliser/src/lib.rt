@@ -1,4 +1,6 @@
 // Normalising terms by rules in slots. Inside, a term stands in cells: a subterm that is known to be normal has its size in its cell.
+#![tactic(auto)]
+
 ghost use Rattle.std.specs.Prelude.{◌≡◌, ◌++◌, ◌≤◌, length, drop};
 ghost use Rattle.limits.specs.Limits.{most_nodes, cell_base};
 ghost use Rattle.rewriting.specs.Rewrite.{normalise};

@@ -1,4 +1,6 @@
 // A problem with one equation: where the sides of that equation stand.
+#![tactic(auto)]
+
 ghost use Rattle.only_equation.specs.Places.{IsSides};
 
 #[derive(Drop)]

@@ -1,5 +1,7 @@
 // Steps 4 and 5 of a turn: the taken pair's variables are counted, and its upper side becomes the left side of a new rule; with neither side above
 // the pair is renamed as it is, to wait again.
+#![tactic(auto)]
+
 ghost use Rattle.std.specs.Prelude.{◌≡◌, [], ◌∷◌, ◌++◌, ◌≤◌, length};
 ghost use Rattle.limits.specs.Limits.{most_nodes, origin_width};
 ghost use Rattle.slots.specs.Slots.{Layout};

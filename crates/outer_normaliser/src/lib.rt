@@ -1,5 +1,7 @@
 // Normalising from the outside in by rules in slots: the earliest matched node in preorder, and the lowest rule there. The term stands in cells, all of
 // which have their sizes.
+#![tactic(auto)]
+
 ghost use Rattle.std.specs.Prelude.{◌≡◌, ◌-◌, ◌<◌, ◌≤◌, length, take, drop};
 ghost use Rattle.limits.specs.Limits.{most_nodes, most_variables};
 ghost use Rattle.rewriting.specs.Outermost.{normalise_outer};

@@ -1,4 +1,6 @@
 // The four terms of an overlap, laid out one after the other, with the inner rule's variables renamed apart.
+#![tactic(auto)]
+
 ghost use Rattle.std.specs.Prelude.{◌≡◌, ◌+◌, ◌<◌, ◌≤◌, length};
 ghost use Rattle.limits.specs.Limits.{most_variables, most_nodes, arena_width};
 ghost use Rattle.overlap_terms.specs.Layout.{moved, Lays, LaysFour};

@@ -1,4 +1,6 @@
 // The overlap of two stored rules at a position.
+#![tactic(auto)]
+
 ghost use Rattle.std.specs.Prelude.{◌+◌, ◌<◌, ◌≤◌, length};
 ghost use Rattle.limits.specs.Limits.{most_nodes};
 ghost use Rattle.slots.specs.Slots.{slot, left_length, Layout};

@@ -1,4 +1,6 @@
 // The problem's bytes, read front to back.
+#![tactic(auto)]
+
 ghost use Rattle.std.specs.Prelude.{◌≡◌, ◌+◌, ◌<◌, ◌≤◌, length};
 ghost use Rattle.limits.specs.Limits.{field_head, most_problem, most_equations};
 ghost use Rattle.reading.specs.Answers.{Table};

@@ -1,5 +1,7 @@
 // Bytes read at a place: a number, a field, a field whose tag is due, symbols, a term, a side, a pair, and whether a
 // pair is renamed. No answer has a refusal's number: each caller gives its own.
+#![tactic(auto)]
+
 ghost use Rattle.std.specs.Prelude.{◌≡◌, ◌+◌, ◌^◌, ◌<◌, ◌≤◌, ◌*◌, length, take, drop};
 ghost use Rattle.limits.specs.Limits.{most_symbols, byte_values, two_byte_values};
 ghost use Rattle.terms.specs.Base.{number_from};

@@ -1,5 +1,7 @@
 // A result record's bytes, read front to back over a problem's symbols: its end, its units, and behind them its items. A field that is bad has its
 // first byte for a place; the refusal's number is the caller's.
+#![tactic(auto)]
+
 ghost use Rattle.std.specs.Prelude.{◌≡◌, ◌+◌, ◌*◌, ◌≤◌, length};
 ghost use Rattle.limits.specs.Limits.{most_rules, two_byte_values};
 ghost use Rattle.reading.specs.Answers.{Table};

@@ -1,5 +1,7 @@
 // The lowest rule that matches at a node, and the step there. The rules stand in slots and the term in cells. `fits`, `find`, `contract`, `contract_at`
 // and `size_cells` ask for no normal subterm; of `rewrite`, which is built of them, the arguments are normal.
+#![tactic(auto)]
+
 ghost use Rattle.std.specs.Prelude.{◌≡◌, ◌+◌, ◌-◌, ◌<◌, ◌≤◌, length, take, drop};
 ghost use Rattle.limits.specs.Limits.{most_nodes, most_variables};
 ghost use Rattle.slots.specs.Slots.{slot, right_of, Layout};

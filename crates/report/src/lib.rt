@@ -1,4 +1,6 @@
 // The result's bytes: its fields, one behind the other.
+#![tactic(auto)]
+
 ghost use Rattle.std.specs.Prelude.{◌+◌, ◌≤◌, length};
 ghost use Rattle.limits.specs.Limits.{forms_width, most_result};
 ghost use Rattle.fields.specs.Puts.{PutsSome};

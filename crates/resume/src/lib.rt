@@ -1,4 +1,6 @@
 // The call that takes up a saved run again.
+#![tactic(auto)]
+
 ghost use Rattle.std.specs.Prelude.{◌≡◌, ◌*◌, ◌≤◌, length};
 ghost use Rattle.limits.specs.Limits.{most_equations, most_saved, most_entries, most_pairs};
 ghost use Rattle.problem.specs.Parser.{SymbolsAt};

@@ -1,4 +1,6 @@
 // Rewriting: definitions, theory, and how the work ends. The code that rewrites stands in `redex` and `normaliser`.
+#![tactic(auto)]
+
 ghost use Rattle.std.specs.Prelude.{◌≡◌};
 ghost use Rattle.rewriting.specs.Ends.{number_of};
 

@@ -1,4 +1,6 @@
 // The run: turns until one ends it.
+#![tactic(auto)]
+
 ghost use Rattle.std.specs.Prelude.{◌≡◌, ◌≤◌};
 ghost use Rattle.limits.specs.Limits.{most_equations};
 ghost use Rattle.slots.specs.Slots.{Layout};

@@ -1,4 +1,6 @@
 // A saved record's bytes: the fields of the symbols and the equations as they stand in lent bytes, then those of a state.
+#![tactic(auto)]
+
 ghost use mathlib.Core.List.{flat_map};
 ghost use Rattle.std.specs.Prelude.{◌+◌, ◌*◌, ◌≤◌, length};
 ghost use Rattle.limits.specs.Limits.{most_equations, most_symbols, field_head, forms_width, waiting_width, longest_saved};

@@ -1,4 +1,6 @@
 // The calls that save a run that was stopped: completion, and a saved run taken up again.
+#![tactic(auto)]
+
 ghost use Rattle.std.specs.Prelude.{◌≡◌, ◌*◌, ◌≤◌, length};
 ghost use Rattle.limits.specs.Limits.{most_equations, most_symbols, most_budget, most_result, longest_saved, field_head, symbols_width};
 ghost use Rattle.limits.specs.Limits.{two_byte_values};

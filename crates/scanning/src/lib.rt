@@ -1,4 +1,6 @@
 // The scan: the overlaps of the rules in order, then the input equations, up to the first pair with two different normal forms.
+#![tactic(auto)]
+
 mod spots;
 
 ghost use Rattle.std.specs.Prelude.{◌<◌, ◌≤◌, length};

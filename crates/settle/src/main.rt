@@ -1,5 +1,7 @@
 // The program settle: reads a problem from standard input and prints its result, a line a field, or the refusal. All that it prints is
 // `settle_text::text`, which is proved; a problem over 8,192 bytes is refused by its first 8,193.
+#![tactic(auto)]
+
 fn main() {
     let mut problem = [0u8; limits::PROBLEM + 1];
     let n = io::read_full(0, &mut problem);

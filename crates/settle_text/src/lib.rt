@@ -1,4 +1,6 @@
 // What the program settle prints, from the result's bytes or a refusal.
+#![tactic(auto)]
+
 ghost use Rattle.std.specs.Prelude.{◌≡◌, ◌+◌, ◌*◌, ◌<◌, ◌≤◌, length};
 ghost use mathlib.Core.List.{[], ◌∷◌, flat_map};
 ghost use Rattle.limits.specs.Limits.{two_byte_values};

@@ -1,4 +1,6 @@
 // The sizes of the instances that classes of nodes stand for; a node that has none is on a circle.
+#![tactic(auto)]
+
 ghost use Rattle.std.specs.Prelude.{◌≡◌, ◌<◌, ◌≤◌, length};
 ghost use Rattle.classes.specs.Steps.{at, arena, Each, Ready, SpellsSome};
 ghost use Rattle.sizing.specs.Sizes.{cap, Sized, Total, SizeAt, SizedTo};

@@ -1,5 +1,7 @@
 // A list of pairs of terms is one array and a count. A slot has the pair's mark, the lengths of its sides in one byte each, and the bytes of
 // the sides, each with room for the largest term. This crate alone computes places.
+#![tactic(auto)]
+
 pub mod origins;
 
 ghost use Rattle.std.specs.Prelude.{◌≡◌, ◌+◌, ◌*◌, ◌<◌, ◌≤◌, length, get_or};
@@ -131,7 +133,7 @@ pub fn copy(slots: &[u8], k: usize) -> [u8; SLOT]
 {
     let a = SLOT * k;
     let mut one = [0u8; SLOT];
-    bytes::copy(&slots[a..a + SLOT], &mut one);
+    one.copy_from_slice(&slots[a..a + SLOT]);
     one
 }
 

@@ -1,4 +1,6 @@
 // The run's state by value, and the steps of a turn: each takes the state and hands back the next.
+#![tactic(auto)]
+
 ghost use Rattle.std.specs.Prelude.{◌≡◌, ◌+◌, ◌-◌, ◌*◌, ◌<◌, ◌≤◌, length};
 ghost use Rattle.limits.specs.Limits.{most_equations, most_rules, most_entries};
 ghost use Rattle.orient.specs.Orients.{LowPair};

@@ -1,5 +1,7 @@
 // What the programs that run the calls share: where a stored case stands, and printing. A case is a byte that says what is asked, the length of its
 // name in a byte, the length of its problem in two, the name and the problem; the Rust programs of rust/src/bin write them.
+#![tactic(auto)]
+
 ghost use Rattle.std.specs.Prelude.{◌≡◌};
 ghost use Rattle.stored_cases.specs.Cases.{case_at};
 

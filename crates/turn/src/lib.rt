@@ -1,4 +1,6 @@
 // A turn of the run: from a state to the next; or, where the turn ends the run, to the state as at its beginning with the units that are left.
+#![tactic(auto)]
+
 ghost use Rattle.std.specs.Prelude.{◌≡◌, ◌+◌, ◌<◌, ◌≤◌};
 ghost use Rattle.limits.specs.Limits.{most_pairs, most_equations};
 ghost use Rattle.slots.specs.Slots.{Layout};

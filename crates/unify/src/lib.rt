@@ -1,1 +1,2 @@
 // Unification: the definition and its theory only. The code that unifies stands in `mgu`.
+#![tactic(auto)]

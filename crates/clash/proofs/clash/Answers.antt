@@ -1,0 +1,28 @@
+-- `clash`: two terms in step; the invariant is that substitutions that make the terms equal make those still to do equal. Assumes nothing.
+-- Read first: specs/Clashing (Clashing), proofs/Facing.
+use Rattle.clash.proofs.Facing.{going_start, going_next, going_clash, no_clash}
+use native.Mathlib.Omega.{arith}
+use Prim.Native.Nat.{◌-◌}
+use Rattle.clash.proofs.clash.Goals as goal
+
+pub loop-i-init : goal.loop-i-init
+loop-i-init c = going_start _ _ _ _
+
+pub returns-then-j-t : goal.returns-then-j-t
+returns-then-j-t c = no_clash _ _ _ _
+
+pub returns-then-differ : goal.returns-then-differ
+returns-then-differ c =
+    going_clash _ _ _ _ _ _ c.differ.result c.loop-i.invariant c.loop-i-test.true
+    (omega (arith, c.if-j-t.false)) c.differ.ensures c.if-differ.true
+
+pub loop-i-smaller : goal.loop-i-smaller
+loop-i-smaller c = omega (arith, c.past-i.ensures.on, c.loop-i-test.true)
+
+pub loop-i-preserved : goal.loop-i-preserved
+loop-i-preserved c =
+    going_next _ _ _ _ _ _ _ _ c.loop-i.invariant c.loop-i-test.true (omega (arith, c.if-j-t.false))
+    c.past-i.ensures c.past-j.ensures
+
+pub returns : goal.returns
+returns c = no_clash _ _ _ _
