@@ -7,7 +7,7 @@ use native.Mathlib.Omega.{arith}
 use Rattle.terms.specs.Scan.{owes}
 use native.Mathlib.Numerals.{add-one}
 use lib.ListN.{length}
-use Rattle.terms.specs.Term.{Term, node, cons, subst_term, subst_terms}
+use Rattle.terms.specs.Term.{nil, Term, node, cons, subst_term, subst_terms}
 use Rattle.terms.proofs.Shape.{node_args, cons_head, cons_tail}
 use Rattle.terms.proofs.Subst.{Subst}
 use Rattle.classes.specs.Arena.{Arena, Spells, made, SpellsAll, more, same, NodesSpell, Joins, Agree, ClosedAt}
@@ -32,9 +32,11 @@ first_within A p zero s h = absurd (omega arith)
 first_within A p (suc n) (ts, more r s) h = spells_within A r
 
 pub rest_spells : (A : Arena) (p n : ℕ) → SpellsSome A p (suc n) → SpellsSome A (A.end p) n
+rest_spells A p n (nil, x) = elim x [ ]
 rest_spells A p n (cons t ts, more r s) = (ts, s)
 
 first_spells : (A : Arena) (p n : ℕ) → SpellsSome A p (suc n) → (t : Term) × Spells A same p t
+first_spells A p n (nil, x) = elim x [ ]
 first_spells A p n (cons t ts, more r s) = (t, r)
 
 pub some_within : (A : Arena) (p n N : ℕ) → SpellsSome A p n → 0 < n → A.nodes ≤ N → p < N

@@ -5,6 +5,7 @@ use mathlib.Core.Path.{◌≡◌, refl, sym, ap, ap₂, ◌∙◌}
 use mathlib.Core.List.{List, [], ◌++◌, append_assoc, append-nil}
 use Prim.Native.Nat.{ℕ, ◌+◌, ◌-◌, ◌≤◌}
 use native.Mathlib.Omega.{arith}
+use borrow.Rule.Slice.PartMut.{put_mid}
 use lib.ListN.{length, drop, take, length-append, length-drop, take-append-drop, drop_of_length-le}
 use lib.Seq.{length-take-le, take_all, take-append-le, drop-append-le, drop-append-add, take_at, drop_at, drop-drop, take-length}
 use Rattle.fields.specs.Puts.{patched}
@@ -54,16 +55,12 @@ front_more at m p d h e =
     let n : length (take at d ++ p) ≡ m = length-append (take at d) p ∙ omega (arith, length-take-le at d (let l : at ≤ length d = omega arith in l)) in
     ap (take m) (sym (append_assoc (take at d) p (drop (at + length p) d))) ∙ take_at (take at d ++ p) (drop (at + length p) d) m n
 
--- as a part of the list that was lent comes back
-pub patched_back : (at : ℕ) (p d ys : List ℕ) → at + length p ≤ length d → ys ≡ take (length p) p ++ drop (length p) (take (length d - at) (drop at d)) →
-    take at d ++ (ys ++ drop (length d - at) (drop at d)) ≡ patched at p d
+-- as a part of the list that was lent comes back: with ys, which are p, in its place
+pub patched_back : (at : ℕ) (p d ys : List ℕ) → ys ≡ p → put_mid at (at + length p - at) d ys ≡ patched at p d
 unfolding patched
-patched_back at p d ys h q =
-    let a : take (length d - at) (drop at d) ≡ drop at d = take_all (length d - at) (drop at d) (omega (arith, length-drop at d)) in
-    let j : length (drop at d) ≤ length d - at = omega (arith, length-drop at d) in
-    let b : drop (length d - at) (drop at d) ≡ [] = drop_of_length-le (drop at d) j in
-    let y : ys ≡ p ++ drop (at + length p) d = q ∙ ap₂ ◌++◌ (take-length p) (ap (drop (length p)) a ∙ drop-drop (length p) at d) in
-    ap (λ z. take at d ++ z) (ap₂ ◌++◌ y b ∙ append-nil (p ++ drop (at + length p) d))
+patched_back at p d ys q =
+    let n : at + length p - at ≡ length p = omega arith in
+    rw (q, n) (ap (λ z. take at d ++ (p ++ z)) (drop-drop (length p) at d))
 
 -- a part from a to a + n
 pub part_is : (d : List ℕ) (a n : ℕ) → take (a + n - a) (drop a d) ≡ take n (drop a d)

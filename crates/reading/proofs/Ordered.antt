@@ -1,7 +1,7 @@
 -- A pair is renamed where each variable is one that stood before or the next one: a lemma for each step and each return of `is_renamed`. Assumes
 -- nothing.
 -- Read first: specs/Answers (ordered, IsRenamed), naming/specs/Names (renamed_bytes), naming/proofs/Pairs (renamed_pair).
-use mathlib.Core.Path.{◌≡◌, refl, ap, ap₂, sym, ◌∙◌}
+use mathlib.Core.Path.{subst, ◌≡◌, refl, ap, ap₂, sym, ◌∙◌}
 use mathlib.Core.Bool.{Bool, true, false}
 use mathlib.Core.List.{List, [], ◌∷◌, ◌++◌, map, append_assoc, append-nil}
 use Prim.Native.Nat.{ℕ, zero, suc, ◌+◌, ◌≤◌, ◌<◌}
@@ -89,6 +89,10 @@ module _ (n b : ℕ) (l : List ℕ) where
   abbrev Goal : Bool → Type 0
   Goal r = Says (map (named (collect (added b (ups n)) l)) (b ∷ l) ≡ b ∷ l) r
 
+  -- the same of any names
+  abbrev Known : Bool → List ℕ → Type 0
+  Known r ns = Says (map (named (collect ns l)) (b ∷ l) ≡ b ∷ l) r
+
   above : 128 + n < b → Goal false
   above h =
       let low : Every (λ y. y < b) (ups n) = every_map (λ y k. omega arith) (ups_below n) in
@@ -110,18 +114,18 @@ module _ (n b : ℕ) (l : List ℕ) where
       let v : named (collect (ups (suc n)) l) b ≡ b =
       named_variable (collect (ups (suc n)) l) b (omega arith) ∙ ap (λ ns. 128 + place_in b ns) (collect_more (ups (suc n)) l).1
       ∙ place_up (suc n) b _ (omega arith) (omega arith) in
-      rw q (cons_says _ b l r v h)
+      subst (Known r) (sym q) (cons_says _ b l r v h)
 
   module _ (r : Bool) (h : Says (map (named (collect (ups n) l)) l ≡ l) r) where
     symbol : b < 128 → Goal r
-    symbol s = rw (added_symbol b (ups n) s) (cons_says _ b l r (named_symbol (collect (ups n) l) b s) h)
+    symbol s = subst (Known r) (sym (added_symbol b (ups n) s)) (cons_says _ b l r (named_symbol (collect (ups n) l) b s) h)
 
     old : 128 ≤ b → b < 128 + n → Goal r
     old s k =
         let p : 128 + place_in b (ups n) ≡ b = ap (λ ns. 128 + place_in b ns) (sym (append-nil (ups n))) ∙ place_up n b [] s k in
         let v : named (collect (ups n) l) b ≡ b =
         named_variable (collect (ups n) l) b s ∙ ap (λ ns. 128 + place_in b ns) (collect_more (ups n) l).1 ∙ place_up n b _ s k in
-        rw (added_old b (ups n) s (omega (arith, p, length_ups n))) (cons_says _ b l r v h)
+        subst (Known r) (sym (added_old b (ups n) s (omega (arith, p, length_ups n)))) (cons_says _ b l r v h)
 
 ordered_says : (n : ℕ) (l : List ℕ) → Says (map (named (collect (ups n) l)) l ≡ l) (ordered (128 + n) l)
 unfolding ordered collect next_after if◌then◌else◌
