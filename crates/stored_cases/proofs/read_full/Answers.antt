@@ -1,6 +1,6 @@
 -- `read_full`: each turn fills a byte or more, and what stands at the buffer's start is what the input lost. Assumes nothing.
 -- Read first: `read_full` in src/lib.rt.
-use Rattle.std.proofs.Common.{◌≡◌, ℕ, ◌+◌, ◌-◌, ◌≤◌, List, ◌++◌, rules, arith, length, take, sym, ap, ◌∙◌, subst, length-take-le}
+use Rattle.std.proofs.Common.{◌≡◌, ℕ, ◌+◌, ◌-◌, ◌≤◌, List, ◌++◌, rules, length, take, sym, ap, ◌∙◌, subst, length-take-le}
 use Rattle.std.specs.Io.KnownBytes.{Consumes}
 use Rattle.std.proofs.KnownBytes.{Consumes-trans}
 use Rattle.std.proofs.Math.Seq.{take-append-add}
@@ -21,5 +21,4 @@ pub loop-preserved : goal.loop-preserved
 loop-preserved g c =
     let room = length c.loop.buffer - c.loop.filled in
     let start = start_put c.loop.filled room c.in_ok-n.n c.loop.buffer c.read.new.buf c.loop.invariant.1 c.in_ok-n.ensures.bound.0 in
-    (search rules, search rules, search rules,
-        subst (Consumes _ _) (sym start) (Consumes-trans _ _ _ _ _ c.loop.invariant.3 c.in_ok-n.ensures.bytes.0))
+    (search rules, search rules, subst (Consumes _ _) (sym start) (Consumes-trans _ _ _ _ _ c.loop.invariant.2 c.in_ok-n.ensures.bytes.0))
