@@ -39,6 +39,7 @@ module _ (rank : ℕ → ℕ) where
     within_trans (later w) e = later (within_trans w e)
 
     pub all_within : {s u : Term} {ts : Terms} → AboveAll rank s ts → Within rank ts u → Above rank s u
+    all_within {u = u} (all_nil {s = s}) x10 = elim x10 [ ]
     all_within (all_cons a all) here = a
     all_within (all_cons a all) (by_above e) = above_trans a e
     all_within (all_cons a all) (later w) = all_within all w

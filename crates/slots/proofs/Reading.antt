@@ -8,7 +8,7 @@ use lib.ListN.{length, get_or, drop, take, length-take}
 use lib.Seq.{take_all}
 use Rattle.limits.specs.Limits.{most_nodes, origin_width}
 use Rattle.terms.specs.Base.{number_bytes}
-use Rattle.fields.proofs.Patching.{part_is, filled}
+use Rattle.fields.proofs.Patching.{part_is}
 use Rattle.slots.specs.Slots.{left_at, right_at, slot_width, slot, mark_of, number_of, left_length, right_length, left_of, right_of, Layout}
 use Rattle.slots.specs.Slots.{overlapping_bytes}
 use Rattle.slots.proofs.Parts.{slot_length, slot_part, slot_byte}
@@ -58,15 +58,12 @@ module _ (slots : List ℕ) (k : ℕ) where
     right_read e = side_read right_at (origin_width + 1) n (omega arith) (omega arith) (y.short k (omega arith)).right e
 
 -- `copy`: the slot fills the array
-abbrev lent : List ℕ → ℕ → List ℕ
-lent slots k = take (slot_width * k + slot_width - slot_width * k) (drop (slot_width * k) slots)
-
-pub copied : (slots : List ℕ) (k : ℕ) (h one : List ℕ) → slot_width * (k + 1) ≤ length slots → length h ≡ slot_width →
-    one ≡ take (length (lent slots k)) (lent slots k) ++ drop (length (lent slots k)) h → slot one 0 ≡ slot slots k
+pub copied : (slots : List ℕ) (k : ℕ) (one : List ℕ) → slot_width * (k + 1) ≤ length slots →
+    one ≡ take (slot_width * k + slot_width - slot_width * k) (drop (slot_width * k) slots) → slot one 0 ≡ slot slots k
 unfolding slot
-copied slots k h one r w q =
+copied slots k one r q =
     let m = slot_length slots k r in
-    let p : one ≡ slot slots k = filled (lent slots k) h one (slot slots k) (part_is slots (slot_width * k) slot_width) (omega arith) q in
+    let p : one ≡ slot slots k = q ∙ part_is slots (slot_width * k) slot_width in
     take_all slot_width one (omega (arith, ap length p)) ∙ p
 
 -- the first six bytes, and the second and third, one by one

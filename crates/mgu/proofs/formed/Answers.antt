@@ -1,0 +1,23 @@
+-- `formed`: a lemma for each return: no node's byte, a variable, no symbol, too few terms behind a symbol, a symbol with its arguments. Assumes
+-- nothing.
+-- Read first: specs/Result (Formed), proofs/Laying.
+use native.Mathlib.Omega.{arith}
+use Rattle.mgu.proofs.Laying.{formed_high, formed_gap, formed_few, formed_variable, formed_symbol}
+use Rattle.mgu.proofs.formed.Goals as goal
+
+pub returns-then-b-ge-VARIABLES_END : goal.returns-then-b-ge-VARIABLES_END
+returns-then-b-ge-VARIABLES_END c = formed_high _ _ _ c.if-b-ge-VARIABLES_END.true
+
+pub returns-then-b-ge-VARIABLE : goal.returns-then-b-ge-VARIABLE
+returns-then-b-ge-VARIABLE c = formed_variable _ _ _ c.if-b-ge-VARIABLE.true (omega (arith, c.if-b-ge-VARIABLES_END.false))
+
+pub returns-then-b-ge-SYMBOLS_END : goal.returns-then-b-ge-SYMBOLS_END
+returns-then-b-ge-SYMBOLS_END c = formed_gap _ _ _ c.if-b-ge-SYMBOLS_END.true (omega (arith, c.if-b-ge-VARIABLE.false))
+
+pub returns-then-have-k : goal.returns-then-have-k
+returns-then-have-k c = formed_few _ _ _ _ c.owed_by-k.ensures.0 (omega (arith, c.if-b-ge-SYMBOLS_END.false)) c.if-have-k.true
+
+pub returns : goal.returns
+returns c =
+    formed_symbol _ _ _ _ c.owed_by-k.ensures.0 (omega (arith, c.if-b-ge-SYMBOLS_END.false))
+    (omega (arith, c.if-have-k.false))

@@ -1,0 +1,24 @@
+-- `equations`: the invariant is that the fields before i are `count` equations; the bytes to come fall. Assumes nothing.
+-- Read first: specs/Parser (IsEquations), proofs/Parses (SoFar).
+use native.Mathlib.Omega.{arith}
+use Rattle.problem.proofs.Parses.{fields_start, fields_turn, fields_bad, fields_end}
+use Prim.Native.Nat.{◌-◌}
+use Rattle.std.proofs.Common.{rules}
+use Rattle.problem.proofs.equations.Goals as goal
+
+pub loop-i-init : goal.loop-i-init
+loop-i-init c = (search rules, search rules, fields_start _ _ _)
+
+pub returns-in-Refused : goal.returns-in-Refused
+returns-in-Refused c = fields_bad _ _ _ _ _ c.loop-i.invariant.2 _ _ c.in-Refused.ensures
+
+pub loop-i-smaller : goal.loop-i-smaller
+loop-i-smaller c = let f = c.in-Value.ensures in omega (arith, f.low, f.within)
+
+pub loop-i-preserved : goal.loop-i-preserved
+loop-i-preserved c =
+    let f = c.in-Value.ensures in
+    (f.more, f.within, fields_turn _ _ _ _ _ c.loop-i.invariant.2 c.loop-i-test.true _ f)
+
+pub returns : goal.returns
+returns c = fields_end _ _ _ _ _ c.loop-i.invariant.2 c.loop-i-test.false
