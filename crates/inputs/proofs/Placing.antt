@@ -6,7 +6,8 @@ use mathlib.Core.List.{List, [], ◌++◌, append_assoc}
 use Prim.Native.Nat.{ℕ, ◌+◌, ◌-◌, ◌≤◌}
 use native.Mathlib.Omega.{arith}
 use lib.ListN.{length, drop, take, length-drop, length-append}
-use lib.Seq.{take_at, drop_at, take-add, drop-drop, take-length, length-take-le}
+use lib.Seq.{take_at, drop_at, take-add, drop-drop, length-take-le}
+use Rattle.fields.specs.Puts.{patched}
 use Rattle.terms.specs.Term.{Pair, size, term_bytes, renamed}
 use Rattle.terms.proofs.Every.{every_append, every_in}
 use Rattle.terms.proofs.Bytes.{length_bytes}
@@ -33,16 +34,15 @@ module _ (tab l : List ℕ) (at m e : ℕ) (a : SideEnd tab l at m) (b : SideEnd
       ∙ ap (λ z. take (m - at) (drop at l) ++ take (e - m) z) (drop-drop (m - at) at l ∙ ap (λ z. drop z l) d) in
       subst (λ z. KnownBytes z) (sym f) (every_append a.known b.known)
 
-  module _ (h h₁ : List ℕ)
-      (c : h₁ ≡ take (length (take (e - at) (drop at l))) (take (e - at) (drop at l)) ++ drop (length (take (e - at) (drop at l))) h) where
+  module _ (h h₁ : List ℕ) (c : h₁ ≡ patched 0 (take (e - at) (drop at l)) h) where
     copied : take (e - at) h₁ ≡ take (e - at) (drop at l)
+    unfolding patched
     copied =
         let p = a.low in
         let q = b.low in
         let r = b.within in
         let s : List ℕ = take (e - at) (drop at l) in
-        ap (take (e - at)) (c ∙ ap (λ y. y ++ drop (length s) h) (take-length s))
-        ∙ take_at s (drop (length s) h) (e - at) (length-take-le (e - at) (drop at l) (omega (arith, length-drop at l)))
+        ap (take (e - at)) c ∙ take_at s (drop (0 + length s) h) (e - at) (length-take-le (e - at) (drop at l) (omega (arith, length-drop at l)))
 
     pub few_names : length (collect [] (take (e - at) h₁)) ≤ 127
     few_names =

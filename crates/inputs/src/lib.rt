@@ -37,7 +37,7 @@ fn put_sides(source: &[u8], table: &[u8], at: usize, slots: &mut [u8], k: usize)
     let m = side_end(source, table, at);
     let e = side_end(source, table, m);
     let mut held = [0u8; limits::PAIR];
-    held[..e - at].copy_from_slice(&source[at..e]);
+    fields::paste(&mut held, 0, &source[at..e]);
     naming::rename_front(&mut held, e - at);
     let n = m - at;
     let end = e - at;

@@ -179,4 +179,6 @@ kind_back e at rest =
 pub kinds_back : (at : ℕ) (before : Option ℕ) (log : List Entry) → Backs 0x13 (λ _ f. read_kind f) at before (map entry_field log) (kinds_of log)
 unfolding entry_field
 kinds_back at before [] = none_back
-kinds_back at before (e ∷ log) = one_more {f = entry_field e} refl (omega (arith, entry_length e)) (kind_back e at) (kinds_back _ _ log)
+kinds_back at before (e ∷ log) =
+    one_more {f = entry_field e} refl (omega (arith, entry_length e)) (kind_back e at)
+    (kinds_back (at + 3 + length (entry_field e).contents) (some (get_or (entry_field e).contents 0 0)) log)

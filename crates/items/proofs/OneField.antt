@@ -10,7 +10,6 @@ use lib.ListN.{length, take, drop, get_or}
 use lib.Seq.{get_or-take, get_or-drop}
 use lib.Dec.{leb}
 use borrow.Author.Tests.{le-leb, lt-leb, eq-eqb, ne_eqb}
-use types.Run.{OneOf, miss}
 use Rattle.terms.specs.Base.{number_from}
 use Rattle.terms.proofs.Lists.{take_drop}
 use Rattle.reading.proofs.Reading.{bind_ok, bind_refused}
@@ -57,10 +56,6 @@ demand_broken f e = rw e tt
 pub one_ends : {A : Type 0} {tag : ℕ} {read : ReadField → Reading A} {l : List ℕ} {at : ℕ} {a : A} {e d : ℕ} → e ≡ d → OneAt tag read l at a e →
     OneAt tag read l at a d
 one_ends {tag = tag} {read = read} {l = l} {at = at} {a = a} q o = subst (OneAt tag read l at a) q o
-
--- the answers but the field that is due
-pub not_due : OneOf (1 ∷ 2 ∷ []) 0 → ⊥
-not_due = miss (1 ∷ 2 ∷ []) 0 tt
 
 -- what is due at `at` is refused; or it is the field to e, which is read or not
 module _ {A : Type 0} (tag : ℕ) (read : ReadField → Reading A) (l : List ℕ) (at : ℕ) where

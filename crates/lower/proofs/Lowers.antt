@@ -118,6 +118,9 @@ module _ (first second : List ℕ) where
   -- "The part is empty exactly if" the lent bytes are refused.
   empty_if : (w : Which) (r : Bool) → Choice first second w r → eqb (length (bytes_of w first second)) 0 ≡ r
   unfolding bytes_of
+  empty_if First true h = elim h [ ]
+  empty_if Second true h = elim h [ ]
+  empty_if Neither false h = elim h [ ]
   empty_if First false (is_first h) = h
   empty_if Second false (is_second h) = h
   empty_if Neither true is_refused = refl

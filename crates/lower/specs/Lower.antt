@@ -53,9 +53,9 @@ lower_call symbols first second = bytes_of (which symbols first second) first se
 -- where that part begins, a block of memory and a place in it: "the lower of two lent terms" is the lent slice itself; the empty part begins where
 -- the first does [19.5, 19.6]
 unfoldable pub place_of : Which → Bor (List ℕ) → Bor (List ℕ) → ℕ × ℕ
-place_of First first second = first.ptr
-place_of Second first second = second.ptr
-place_of Neither first second = first.ptr
+place_of First first second = first.ref_ptr
+place_of Second first second = second.ref_ptr
+place_of Neither first second = first.ref_ptr
 
 -- "The part is empty exactly if the problem's rules refuse the symbol field or a term, or bytes follow any of the three." [19.6]
 unfoldable pub lower_refused : List ℕ → List ℕ → List ℕ → Bool

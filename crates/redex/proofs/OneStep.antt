@@ -138,10 +138,10 @@ module _ {rules t : List ℕ} {number len end most k : ℕ} {B : List ℕ} {c : 
           subst (λ y. Wrote tab rs t' x post most (suc m) o y) (sym h.result) (subst (λ a. StepTested tab rs t' post m o new a) (sym e) s)
 
       large : (m : ℕ) → most < v → Wrote tab rs t' x post most (suc m) (out TooLarge m len end) (root_step rs x)
-      large m l = tested m _ true (lt-ltb most (size new + length post) (omega (arith, pt.over l, put_length))) (refl, refl)
+      large m l = tested m (out TooLarge m len end) true (lt-ltb most (size new + length post) (omega (arith, pt.over l, put_length))) (refl, refl)
 
       done : (m : ℕ) → v ≤ most → Wrote tab rs t' x post most (suc m) (out Rewritten m v 0) (root_step rs x)
-      done m l = tested m _ false (le-ltb most (size new + length post) (omega (arith, pt.next l, put_length))) (
+      done m l = tested m (out Rewritten m v 0) false (le-ltb most (size new + length post) (omega (arith, pt.next l, put_length))) (
         refl,
         refl,
         record {

@@ -33,12 +33,15 @@ pub record StepStands (rs : List Pair) (l r : Term) : Type 0 where
   pub is_l : l ≡ lhs rs i
   pub is_r : r ≡ rhs rs i
 
-pub stands : {rs : List Pair} (l r : Term) → Of rs l r → StepStands rs l r
-stands l r (Memᴰ.head e) = record { i = 0; below = omega arith; is_l = ap (λ (p : Pair). p.left) e; is_r = ap (λ (p : Pair). p.right) e }
-stands l r (Memᴰ.tail m) =
-    let s = stands l r m in
+stands_in : (l r : Term) {rs : List Pair} → Of rs l r → StepStands rs l r
+stands_in l r (Memᴰ.head e) = record { i = 0; below = omega arith; is_l = ap (λ (p : Pair). p.left) e; is_r = ap (λ (p : Pair). p.right) e }
+stands_in l r (Memᴰ.tail m) =
+    let s = stands_in l r m in
     let h : s.i < _ = s.below in
     record { i = suc s.i; below = omega arith; is_l = s.is_l; is_r = s.is_r }
+
+pub stands : {rs : List Pair} (l r : Term) → Of rs l r → StepStands rs l r
+stands l r m = stands_in l r m
 
 -- No variable.
 pub data IsNode : Term → Type 0 where

@@ -1,0 +1,54 @@
+-- `read_entries`: the invariant is that the entries before i are read, each of this kind; the bytes to come fall. Assumes nothing.
+-- Read first: specs/Readers (IsEntries), proofs/Walking (Walked).
+use mathlib.Core.Path.{refl, ◌∙◌}
+use mathlib.Core.List.{[], ◌∷◌, ◌++◌}
+use mathlib.Core.Option.{none, some}
+use lib.ListN.{length-append}
+use Prim.Native.Nat.{◌-◌}
+use native.Mathlib.Omega.{arith}
+use Rattle.items.proofs.Walking.{walk_start, walk_full, walk_none, walk_other, walk_bad, walk_more}
+use Rattle.items.proofs.read_entries.Goals as goal
+
+pub loop-i-init : goal.loop-i-init
+loop-i-init c = ([], none, refl, walk_start _ _ _ _ _ c.requires)
+
+pub returns-then-count-eq-ENTRIES : goal.returns-then-count-eq-ENTRIES
+returns-then-count-eq-ENTRIES c =
+    let s = c.loop-i.invariant in
+    (s.0, walk_full _ _ _ _ _ _ _ _ s.3 (omega (arith, s.2, s.3.few, c.if-count-eq-ENTRIES.true)))
+
+pub returns-then-kept-i-ne-ENTRY : goal.returns-then-kept-i-ne-ENTRY
+returns-then-kept-i-ne-ENTRY c =
+    let s = c.loop-i.invariant in
+    (s.0, walk_other _ _ _ _ _ _ _ _ s.3 c.loop-i-test.true c.if-kept-i-ne-ENTRY.true)
+
+pub returns-in-Bad : goal.returns-in-Bad
+returns-in-Bad c =
+    let s = c.loop-i.invariant in
+    walk_bad _ _ _ _ _ _ _ _ s.3 c.loop-i-test.true (λ e. c.if-count-eq-ENTRIES.false (omega (arith, s.2))) c.if-kept-i-ne-ENTRY.false _
+    c.in-Bad.ensures
+
+pub overflow_add-count : goal.overflow_add-count
+overflow_add-count c =
+    let s = c.loop-i.invariant in
+    omega (arith, s.2, s.3.few)
+
+pub loop-i-smaller : goal.loop-i-smaller
+loop-i-smaller c =
+    let f = c.in-Value.ensures in
+    omega (arith, f.1.low, f.1.within)
+
+pub loop-i-preserved : goal.loop-i-preserved
+loop-i-preserved c =
+    let s = c.loop-i.invariant in
+    let f = c.in-Value.ensures in (
+      s.0 ++ (f.0 ∷ []),
+      some f.0,
+      length-append s.0 (f.0 ∷ []) ∙ omega (arith, s.2),
+      walk_more _ _ _ _ _ _ _ _ s.3 c.loop-i-test.true (λ e. c.if-count-eq-ENTRIES.false (omega (arith, s.2))) c.if-kept-i-ne-ENTRY.false _ _ f.1,
+    )
+
+pub returns : goal.returns
+returns c =
+    let s = c.loop-i.invariant in
+    (s.0, walk_none _ _ _ _ _ _ _ _ s.3 c.loop-i-test.false)

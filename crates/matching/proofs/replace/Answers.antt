@@ -1,0 +1,27 @@
+-- `replace`: too long for the buffer (`replace_over`), or put back (`replace_done`). Assumes nothing.
+-- Read first: specs/Pieces (replaced), proofs/Replacing.
+use Rattle.matching.proofs.Replacing.{take_less_zero, part_within, contracted, replace_over, replace_done}
+use Rattle.std.proofs.Common.{rules}
+use Rattle.matching.proofs.replace.Goals as goal
+
+pub contract-w-requires : goal.contract-w-requires
+contract-w-requires c =
+    let a = c.args in
+    record {
+      most_in_bounds = search rules;
+      t_len_bound = (search rules, search rules, part_within a.t.now a.binds.now a.len c.requires.most_variables_in_bounds.1);
+    }
+
+pub returns-then-w-most : goal.returns-then-w-most
+returns-then-w-most c =
+    let a = c.args in
+    replace_over _ _ _ _ _ _ _
+    (contracted a.t.now a.binds.now _ a.right.now a.len a.end (take_less_zero a.len a.t.now))
+    c.contract-w.ensures c.if-w-most.true
+
+pub returns : goal.returns
+returns c =
+    let a = c.args in
+    replace_done _ _ _ _ _ _ _
+    (contracted a.t.now a.binds.now _ a.right.now a.len a.end (take_less_zero a.len a.t.now))
+    c.contract-w.ensures c.if-w-most.false _ _ c.put_run.ensures

@@ -1,0 +1,23 @@
+-- `overlap`: no right side (`overlap_empty`), or what `meet` answers of the sides (`overlap_met`). Assumes nothing.
+-- Read first: specs/Answer (Overlapped), proofs/Meeting.
+use Rattle.slots.proofs.Layouts.{left_long}
+use Rattle.overlaps.proofs.Meeting.{overlap_empty, overlap_met}
+use native.Mathlib.Omega.{arith}
+use mathlib.Core.Path.{ap}
+use lib.ListN.{length}
+use Rattle.overlaps.proofs.overlap.Goals as goal
+
+pub returns-then-r2-eq0 : goal.returns-then-r2-eq0
+returns-then-r2-eq0 c = overlap_empty c.right-r2.ensures.result_value c.if-r2-eq0.true
+
+pub meet-requires : goal.meet-requires
+meet-requires c =
+    record {
+      l1_len_bound = (c.left-l1.ensures.result_len_bound, c.right-r1.ensures.result_len_bound, c.left-l2.ensures.result_len_bound, c.right-r2.ensures.result_len_bound);
+      position_in_bounds = ( omega (arith, ap length c.left-l2.ensures.result_value, left_long _ _ c.requires.layout.1, c.requires.position_bound.0), omega (arith, c.if-r2-eq0.false), c.requires.position_bound.1, );
+    }
+
+pub returns : goal.returns
+returns c =
+    overlap_met c.left-l1.ensures.result_value c.right-r1.ensures.result_value c.left-l2.ensures.result_value c.right-r2.ensures.result_value
+    c.meet.ensures
