@@ -63,7 +63,8 @@ module _ {A : Type 0} (tag : ℕ) (read : ReadField → Reading A) (field : A �
     (back : (a : A) → Q a → (at : ℕ) (rest : List ℕ) → read (placed at (field a) rest) ≡ ok a) where
   backs_of : (at : ℕ) (before : Option A) (l : List A) → Every Q l → Backs tag (λ _ f. read f) at before (map field l) l
   backs_of at before [] of_none = none_back
-  backs_of at before (a ∷ l) (of_cons q h) = one_more {f = field a} (has_tag a) (short a q) (back a q at) (backs_of _ (some a) l h)
+  backs_of at before (a ∷ l) (of_cons q h) =
+      one_more {f = field a} (has_tag a) (short a q) (back a q at) (backs_of (at + 3 + length (field a).contents) (some a) l h)
 
 -- A group of fields of another tag, with such behind it, does not begin with this one.
 other_group : {A : Type 0} (tag : ℕ) (field : A → Field) (l : List A) (rest : List ℕ) → ((a : A) → eqb (field a).tag tag ≡ false) → OtherTag tag rest →

@@ -37,7 +37,7 @@ pub fn join(
 }
 
 // The pair that a turn takes: its forms, where they differ, and its origin.
-#[derive(Drop)]
+#[derive(Clone, Copy)]
 pub struct Taken {
     pub found: Found,
     pub units: u32,

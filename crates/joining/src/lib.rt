@@ -12,7 +12,7 @@ use normaliser::{Form, Reached};
 use rewriting::End;
 
 // Which matched node a step takes.
-#[derive(Drop)]
+#[derive(Clone, Copy)]
 pub enum Strategy {
     // The earliest in preorder among those with no matched node strictly below.
     Innermost,
@@ -21,7 +21,7 @@ pub enum Strategy {
 }
 
 // What became of two terms, or of a walk over pairs.
-#[derive(Drop)]
+#[derive(Clone, Copy)]
 pub enum Found {
     // The two last terms are equal: of a walk, those of each pair.
     Equal,

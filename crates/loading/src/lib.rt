@@ -110,7 +110,7 @@ fn back_field(saved: &[u8], at: usize, waiting: usize) -> Outcome
 }
 
 // What a record holds before its rules: where its symbols end, how many equations it has and where these end, and the next rule number.
-#[derive(Drop)]
+#[derive(Clone, Copy)]
 pub struct Front {
     pub table: usize,
     pub equations: usize,

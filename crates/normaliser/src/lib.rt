@@ -27,7 +27,7 @@ fn leave(c: u16, len: usize, units: u32) -> Out
 }
 
 // Normalises the term at the start of t, of which `len` cells are in use and at most `most` may be.
-#[cycle(normalise_all_normalise_in)]
+#[cycle(normalise)]
 fn normalise_in(
     t: &mut [u16],
     len: usize,
@@ -69,7 +69,7 @@ fn normalise_in(
 }
 
 // Normalises the n terms at the start of t.
-#[cycle(normalise_all_normalise_in)]
+#[cycle(normalise)]
 fn normalise_all(
     t: &mut [u16],
     n: usize,

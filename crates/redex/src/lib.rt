@@ -63,7 +63,7 @@ fn contract(
 }
 
 // What came of a term.
-#[derive(Drop)]
+#[derive(Clone, Copy)]
 pub enum Step {
     Normal,
     // A step was made at the root.

@@ -5,7 +5,7 @@ ghost use Rattle.std.specs.Prelude.{◌≡◌};
 ghost use Rattle.rewriting.specs.Ends.{number_of};
 
 // How a run ends; specs/Ends has what each case says, and its number.
-#[derive(Drop)]
+#[derive(Clone, Copy)]
 pub enum End {
     Complete,
     // Neither side above the other.
@@ -35,7 +35,7 @@ pub fn number(end: End) -> u8
 }
 
 // What a step of a turn, and a turn, say beside their state.
-#[derive(Drop)]
+#[derive(Clone, Copy)]
 pub enum Verdict {
     GoesOn,
     Ends(End),

@@ -5,7 +5,7 @@ ghost use Rattle.slots.specs.Slots.{Layout};
 ghost use Rattle.scanning.specs.Order.{Follows};
 
 // Rule `inner` in rule `outer` at a position of its left side, or behind its end, where there is no overlap.
-#[derive(Drop)]
+#[derive(Clone, Copy)]
 pub struct Spot {
     pub inner: usize,
     pub outer: usize,

@@ -26,7 +26,7 @@ pub const SLOT: usize = RIGHT + NODES;
 pub const ROOM: usize = limits::PAIRS * SLOT;
 
 // The pairs in the first `count` slots.
-#[derive(Drop)]
+#[derive(Clone, Copy)]
 pub struct Pairs {
     pub bytes: [u8; ROOM],
     pub count: usize,

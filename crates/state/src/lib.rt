@@ -22,7 +22,7 @@ const SETTLED: u16 = 0;
 const PUT_BACK: u16 = 0xffff;
 
 // The entries, oldest first.
-#[derive(Drop)]
+#[derive(Clone, Copy)]
 pub struct Log {
     pub bytes: [u8; LOG],
     pub count: usize,
@@ -30,7 +30,7 @@ pub struct Log {
 
 // The first `live` pairs are the live rules, of which `made` were made so far; the pairs behind them wait. Both stand oldest first. Of those that
 // wait the last `back` were put back since a rule was last made or an equation settled.
-#[derive(Drop)]
+#[derive(Clone, Copy)]
 pub struct State {
     pub pairs: Pairs,
     pub live: usize,

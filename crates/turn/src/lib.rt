@@ -15,7 +15,7 @@ use slots::SLOT;
 use state::{State, Turned};
 
 // What waits: behind so many live rules so many pairs, of which the last so many were put back.
-#[derive(Drop)]
+#[derive(Clone, Copy)]
 pub struct Waiting {
     pub live: usize,
     pub count: usize,

@@ -29,4 +29,4 @@ returns-in-Value-units_field c =
     let E = c.in-Value.ensures in
     let U = c.in-Value-units_field.ensures in
     let B = c.read_behind in
-    record_behind c.args.table.now _ c.if-kept-gt-RECORD.false _ E _ U B.last.1.1.1.0 B.result B.ensures
+    record_behind c.args.table.now _ c.if-kept-gt-RECORD.false _ E _ U B.new.slots B.result B.ensures
