@@ -5,29 +5,38 @@
 
 ghost use Rattle.std.specs.Prelude.{◌≤◌, length};
 
+use std::io;
+use std::io::Write;
 use stored_cases::Case;
 
 mod print;
 
 // The lines of a case, whose name and problem stand from these places on.
-fn answer(asked: u8, text: &[u8], name: usize, problem: usize, end: usize)
+fn answer<W: Write>(
+    out: &mut W,
+    asked: u8,
+    text: &[u8],
+    name: usize,
+    problem: usize,
+    end: usize,
+) -> io::Result<()>
     requires { (name ≤ problem) × (problem ≤ end) × (end ≤ length text.now) }
 {
-    stored_cases::print(&text[name..problem]);
+    stored_cases::print(out, &text[name..problem])?;
     let given = &text[problem..end];
     match asked {
-        0 => print::completed(given),
-        _ => print::short_buffer(given),
+        0 => print::completed(out, given),
+        _ => print::short_buffer(out, given),
     }
 }
 
 // A case that is cut is left out.
-fn answers(text: &[u8]) {
+fn answers<W: Write>(out: &mut W, text: &[u8]) -> io::Result<()> {
     let mut at = 0;
     while at < text.len() {
         match stored_cases::case_at(text, at) {
             Case::Cut => {
-                return;
+                return Ok(());
             }
             Case::At {
                 asked,
@@ -35,18 +44,19 @@ fn answers(text: &[u8]) {
                 problem,
                 end,
             } => {
-                answer(asked, text, name, problem, end);
+                answer(out, asked, text, name, problem, end)?;
                 at = end;
             }
         }
     }
+    Ok(())
 }
 
 // The most bytes of cases.
 const TEXT: usize = 65536;
 
-fn main() {
+fn main(rt: HostRuntime) -> io::Result<()> {
     let mut text = [0u8; TEXT];
-    let n = io::read_full(0, &mut text);
-    answers(&text[..n]);
+    let n = stored_cases::read_full(&mut rt.stdin(), &mut text)?;
+    answers(&mut rt.stdout(), &text[..n])
 }

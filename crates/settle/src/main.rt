@@ -2,10 +2,12 @@
 // `settle_text::text`, which is proved; a problem over 8,192 bytes is refused by its first 8,193.
 #![tactic(auto)]
 
-fn main() {
+use std::io;
+
+fn main(rt: HostRuntime) -> io::Result<()> {
     let mut problem = [0u8; limits::PROBLEM + 1];
-    let n = io::read_full(0, &mut problem);
+    let n = stored_cases::read_full(&mut rt.stdin(), &mut problem)?;
     let mut out = [0u8; limits::LENGTHS];
     let r = settle_text::text(&problem[..n], &mut out);
-    io::write_all(1, &out[0..r]);
+    stored_cases::print(&mut rt.stdout(), &out[0..r])
 }

@@ -8,23 +8,23 @@ use native.Mathlib.Omega.{arith}
 use lib.Dec.{ltb}
 use lib.ListN.{length, get_or}
 use borrow.Author.Tests.{lt-ltb, le-ltb, ltb-false}
-use Rattle.terms.specs.Base.{if◌then◌else◌}
+use Rattle.std.specs.Prelude.{if◌then◌else◌}
 use Rattle.terms.proofs.Shape.{zero≢one}
 use Rattle.stored_cases.specs.Cases.{problem_at, end_at, case_at}
 use Rattle.stored_cases.specs.declared.Case.TheVariants.{Cut, At}
 
 module _ (l : List ℕ) (at : ℕ) where
   pub no_head : length l < at + 4 → Cut ≡ case_at l at
-  unfolding case_at if◌then◌else◌
+  unfolding case_at
   no_head h = rw (lt-ltb (length l) (at + 4) h) refl
 
   module _ (head : at + 4 ≤ length l) where
     pub cut_behind : length l < end_at l at → Cut ≡ case_at l at
-    unfolding case_at if◌then◌else◌
+    unfolding case_at
     cut_behind h = rw (le-ltb (length l) (at + 4) head, lt-ltb (length l) (end_at l at) h) refl
 
     pub whole : (problem end : ℕ) → problem ≡ problem_at l at → end ≡ end_at l at → end ≤ length l → At (get_or l at 0) (at + 4) problem end ≡ case_at l at
-    unfolding case_at if◌then◌else◌
+    unfolding case_at
     whole problem end p e h =
         ap₂ (At (get_or l at 0) (at + 4)) p e
         ∙ sym (rw (le-ltb (length l) (at + 4) head, le-ltb (length l) (end_at l at) (omega arith)) refl)
@@ -37,7 +37,7 @@ pub record InOrder (l : List ℕ) (at name problem end : ℕ) : Type 0 where
   pub within : end ≤ length l
 
 pub in_order : (l : List ℕ) (at asked name problem end : ℕ) → case_at l at ≡ At asked name problem end → InOrder l at name problem end
-unfolding case_at if◌then◌else◌
+unfolding case_at
 in_order l at asked name problem end h = go (ltb (length l) (at + 4)) (ltb (length l) (end_at l at)) refl h
   where
     go : (b c : Bool) → ltb (length l) (end_at l at) ≡ c →

@@ -1,6 +1,6 @@
 -- A stored case: a byte that says what is asked, the length of its name in a byte, that of its problem in two, the name, the problem. Assumes nothing.
-use Rattle.std.specs.Prelude.{List, ℕ, ◌+◌, ltb, length, take, drop, get_or}
-use Rattle.terms.specs.Base.{if◌then◌else◌, number_from}
+use Rattle.std.specs.Prelude.{List, ℕ, ◌+◌, ltb, length, take, drop, get_or, if◌then◌else◌}
+use Rattle.terms.specs.Base.{number_from}
 use Rattle.stored_cases.specs.declared.Case.{Case}
 use Rattle.stored_cases.specs.declared.Case.TheVariants.{Cut, At}
 

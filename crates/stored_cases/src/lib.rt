@@ -1,11 +1,13 @@
-// What the programs that run the calls share: where a stored case stands, and printing. A case is a byte that says what is asked, the length of its
+// What the programs share: where a stored case stands, reading and printing. A case is a byte that says what is asked, the length of its
 // name in a byte, the length of its problem in two, the name and the problem; the Rust programs of rust/src/bin write them.
 #![tactic(auto)]
 
-ghost use Rattle.std.specs.Prelude.{◌≡◌};
+ghost use Rattle.std.specs.Prelude.{◌≡◌, ◌<◌, ◌≤◌, ◌++◌, length, take, codes, decimal, IfOk, OnOk};
+ghost use Rattle.std.specs.Io.KnownBytes.{Appends, Consumes, IsAtEnd};
 ghost use Rattle.stored_cases.specs.Cases.{case_at};
 
-use libc::STDOUT_FILENO;
+use std::io;
+use std::io::{Read, Write};
 
 // Bytes before the name.
 pub const HEAD: usize = 4;
@@ -47,18 +49,41 @@ pub fn case_at(text: &[u8], at: usize) -> Case
     }
 }
 
-// To standard output, as the two below: their promise is that of the kit's `io`.
-pub fn print(text: &[u8]) {
-    io::write_all(STDOUT_FILENO, text);
+// Reads until the buffer is full or the input ends: how many bytes stand at its start. Where the input's bytes are known, these are the next of them.
+pub fn read_full<R: Read>(input: &mut R, buffer: &mut [u8]) -> io::Result<usize>
+    ensures bound { IfOk result (λ n. n ≤ length buffer.new) }
+    ensures bytes { IfOk result (λ n. Consumes (R.remaining input.old) (R.remaining input.new) (take n buffer.new)) }
+    ensures end { IfOk result (λ n. n < length buffer.new → IsAtEnd (R.remaining input.new)) }
+{
+    let mut filled = 0;
+    for _ in 0..buffer.len() {
+        if filled == buffer.len() {
+            break;
+        }
+        let n = input.read(&mut buffer[filled..])?;
+        if n == 0 {
+            break;
+        }
+        filled += n;
+    }
+    Ok(filled)
 }
 
-pub fn print_number(n: usize) {
-    io::print_decimal(STDOUT_FILENO, n as u64);
+// To a writer, as the two below. Where the bytes that it holds are known, they grow by the text.
+pub fn print<W: Write>(out: &mut W, text: &[u8]) -> io::Result<()>
+    ensures { OnOk result (Appends (W.contents out.old) (W.contents out.new) text.now) }
+{
+    out.write_all(text)
 }
 
-pub fn print_refused(n: u8, place: usize) {
-    print(b"refused ");
-    print_number(n as usize);
-    print(b" at ");
-    print_number(place);
+pub fn print_number<W: Write>(out: &mut W, n: usize) -> io::Result<()>
+    ensures { OnOk result (Appends (W.contents out.old) (W.contents out.new) (decimal n)) }
+{
+    write!(out, "{n}")
+}
+
+pub fn print_refused<W: Write>(out: &mut W, n: u8, place: usize) -> io::Result<()>
+    ensures { OnOk result (Appends (W.contents out.old) (W.contents out.new) (codes "refused " ++ decimal n ++ codes " at " ++ decimal place)) }
+{
+    write!(out, "refused {n} at {place}")
 }

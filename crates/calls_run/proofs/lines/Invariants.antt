@@ -1,0 +1,10 @@
+-- `lines` makes no promise: the parts of a case stand in their order, and what is left of the text falls. Assumes nothing.
+-- Read first: `lines` in src/main.rt, stored_cases/proofs/Reading (in_order).
+use Rattle.std.proofs.Common.{◌-◌, length}
+use Rattle.calls_run.proofs.lines.Given as goal
+
+abbrev pub invariant-loop-at : goal.invariant-loop-at
+invariant-loop-at g l = Unit
+
+abbrev pub decreases-loop-at : goal.decreases-loop-at
+decreases-loop-at g l = length l.text - l.at
