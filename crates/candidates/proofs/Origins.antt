@@ -10,7 +10,8 @@ use lib.Dec.{eqb, leb}
 use lib.ListN.{take, drop, get_or}
 use lib.Seq.{get_or-take, get_or-drop, take-take, drop-drop}
 use borrow.Author.Tests.{le-leb, lt-leb, ne_eqb, eqb-true}
-use Rattle.terms.specs.Base.{if◌then◌else◌, number_bytes, number_from}
+use Rattle.std.specs.Prelude.{if◌then◌else◌}
+use Rattle.terms.specs.Base.{number_bytes, number_from}
 use Rattle.terms.proofs.Lists.{take_drop}
 use Rattle.fields.specs.Puts.{patched}
 use Rattle.reading.specs.Answers.{between}
@@ -35,7 +36,7 @@ both_zero second position h = let s = eqb-true (second + position) 0 h in (omega
 
 copied : (kind first second position : ℕ) → test kind second position ≡ true →
     origin_bytes (origin_with kind first second position) ≡ of_numbers kind first second position
-unfolding origin_with origin_bytes if◌then◌else◌
+unfolding origin_with origin_bytes
 copied zero first second position h = absurd (true≢false (sym h))
 copied (suc zero) first second position h = let z = both_zero second position h in rw (z.0, z.1) refl
 copied (suc (suc zero)) first second position h = let z = both_zero second position h in rw (z.0, z.1) refl

@@ -8,7 +8,8 @@ use mathlib.Core.WellFounded.{Acc}
 use Prim.Native.Nat.{ℕ, suc, ◌+◌}
 use native.Mathlib.Nat.{add_comm}
 use lib.Dec.{ltb}
-use Rattle.terms.specs.Base.{if◌then◌else◌, Every, of_none, of_cons}
+use Rattle.std.specs.Prelude.{if◌then◌else◌}
+use Rattle.terms.specs.Base.{Every, of_none, of_cons}
 use Rattle.terms.specs.Term.{Term, Pair, size, renamed}
 use Rattle.terms.proofs.Every.{every_one, every_append}
 use Rattle.terms.proofs.Shape.{either_has}
@@ -105,7 +106,6 @@ unfolding pay
 pay_ending = record { steady_is = pay_steady; units = 1; over = tt }
 
 if_over : {A : Type 0} (b : Bool) (p q : Paid A) → Over p → Over q → Over {A = A} (if b then p else q)
-unfolding if◌then◌else◌
 if_over true p q h k = h
 if_over false p q h k = k
 

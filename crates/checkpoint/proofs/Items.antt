@@ -11,7 +11,8 @@ use lib.ListN.{length}
 use lib.Seq.{drop_at}
 use borrow.Author.Tests.{le-ltb, le-leb, eqb-false}
 use Rattle.limits.specs.Limits.{most_symbols, most_number, most_next, byte_values, two_byte_values}
-use Rattle.terms.specs.Base.{if◌then◌else◌, number_bytes}
+use Rattle.std.specs.Prelude.{if◌then◌else◌}
+use Rattle.terms.specs.Base.{number_bytes}
 use Rattle.terms.specs.Term.{Pair}
 use Rattle.terms.proofs.Numerals.{number_back}
 use Rattle.terms.proofs.Shape.{zero≢one}
@@ -54,7 +55,7 @@ origin_four kind n second p rest a b c known =
     rw (two_back second b, two_back n a, q) (demand_kept _ known)
 
 pub origin_back : (o : Origin) → OriginWide o → (rest : List ℕ) → read_origin (origin_bytes o ++ rest) ≡ ok o
-unfolding OriginWide origin_bytes origin_with if◌then◌else◌
+unfolding OriginWide origin_bytes origin_with
 origin_back (waiting_input n) h rest = origin_four 1 n 0 0 rest h (omega arith) (omega arith) refl
 origin_back (removed_rule n) h rest = origin_four 2 n 0 0 rest h (omega arith) (omega arith) refl
 origin_back (scanned_input n) h rest = origin_four 3 n 0 0 rest h (omega arith) (omega arith) refl

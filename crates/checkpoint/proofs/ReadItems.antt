@@ -11,7 +11,8 @@ use lib.ListN.{length, take, drop, get_or, length-drop, take-append-drop}
 use lib.Seq.{take_all}
 use borrow.Author.Tests.{ltb-true, ltb-false, leb-true, eqb-true}
 use Rattle.limits.specs.Limits.{most_number, most_next, byte_values, two_byte_values}
-use Rattle.terms.specs.Base.{if◌then◌else◌, number_from, Field, Every, of_none, of_cons}
+use Rattle.std.specs.Prelude.{if◌then◌else◌}
+use Rattle.terms.specs.Base.{number_from, Field, Every, of_none, of_cons}
 use Rattle.terms.specs.Term.{Pair}
 use Rattle.terms.proofs.Shape.{both_true, either_has}
 use Rattle.terms.proofs.Limits.{Bytes}
@@ -74,7 +75,7 @@ module _ {A : Type 0} where
 
     pub there_few : (more : ℕ) (before : Option A) (at : ℕ) (bytes : List ℕ) (p : ReadPart (List A)) →
         fields_there n tag read more before at bytes ≡ ok p → length p.part ≤ more
-    unfolding fields_there if◌then◌else◌
+    unfolding fields_there
     there_few zero before at bytes p e = none_few zero at bytes p e
     there_few (suc more) before at [] p e = none_few (suc more) at [] p e
     there_few (suc more) before at (c ∷ bytes) p e = go (eqb c tag) refl (λ before at bytes p e. there_few more before at bytes p e)

@@ -12,7 +12,7 @@ use lib.Dec.{eqb}
 use lib.ListN.{length}
 use borrow.Author.Tests.{ltb-true, ltb-false}
 use Rattle.limits.specs.Limits.{most_equations, most_rules, most_entries, most_budget, most_saved, least_buffer, least_saved}
-use Rattle.terms.specs.Base.{if◌then◌else◌}
+use Rattle.std.specs.Prelude.{if◌then◌else◌}
 use Rattle.reading.specs.Stops.{short_buffer, long_problem, wrong_saved, large_budget}
 use Rattle.reading.proofs.Reading.{bind_ok, bind_refused}
 use Rattle.reading.proofs.Refusals.{is_refusal, Within, reads, refuses, within_bind, within_also, within_test, wider, Behind}
@@ -83,7 +83,7 @@ one_refused k tag read at bytes n p e = or_refused k at _ n p e
 
 there_refused : {A : Type 0} (k tag : ℕ) (read : Option A → ReadField → Reading A) (more : ℕ) (before : Option A) (at : ℕ) (bytes : List ℕ) (n p : ℕ) →
     fields_there k tag read more before at bytes ≡ refused n p → n ≡ k
-unfolding fields_there if◌then◌else◌
+unfolding fields_there
 there_refused k tag read zero before at bytes n p e = absurd (no_ok (sym e))
 there_refused k tag read (suc more) before at [] n p e = absurd (no_ok (sym e))
 there_refused {A} k tag read (suc more) before at (c ∷ bytes) n p e =

@@ -4,7 +4,8 @@ use Rattle.std.specs.Prelude.{Bool, true, ◌&&◌, ◌||◌, ℕ, suc, ◌+◌,
 use mathlib.Core.List.{List, [], ◌∷◌, ◌++◌, map, flat_map}
 use Rattle.std.proofs.Math.Option.{none}
 use Rattle.limits.specs.Limits.{most_equations, most_rules, most_pairs, most_entries, most_saved, most_next}
-use Rattle.terms.specs.Base.{if◌then◌else◌, number_bytes, number_from, Field, field_bytes}
+use Rattle.std.specs.Prelude.{if◌then◌else◌}
+use Rattle.terms.specs.Base.{number_bytes, number_from, Field, field_bytes}
 use Rattle.terms.specs.Term.{Pair}
 use Rattle.reading.specs.Stops.{long_problem, wrong_saved}
 use Rattle.problem.specs.Problem.{Reading, ok, ◌>>=◌, refuse_if, ReadField, Symbol, read_pair, symbol_field, Theory}

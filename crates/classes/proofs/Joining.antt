@@ -10,7 +10,7 @@ use native.Mathlib.Nat.{le_of_suc-le-suc}
 use lib.Dec.{eqb, ltb}
 use lib.ListN.{length, length-map}
 use borrow.Author.Tests.{ltb-true, ltb-false, lt-ltb, le-ltb}
-use Rattle.terms.specs.Base.{if◌then◌else◌}
+use Rattle.std.specs.Prelude.{if◌then◌else◌}
 use Rattle.terms.proofs.Shape.{Says, eqb_says}
 use Rattle.terms.proofs.Subst.{Subst}
 use Rattle.classes.specs.Arena.{Arena, NodesSpell, Joins, Classes}
@@ -22,7 +22,6 @@ Cases from to b = ((b ≡ from) × (relabelled from to b ≡ to)) ⊎ ((b ≡ fr
 
 relabelled_at : (from to b : ℕ) (x : Bool) → Says (b ≡ from) x →
     ((b ≡ from) × ((if x then to else b) ≡ to)) ⊎ ((b ≡ from → ⊥) × ((if x then to else b) ≡ b))
-unfolding if◌then◌else◌
 relabelled_at from to b true h = inl (h, refl)
 relabelled_at from to b false h = inr (h, refl)
 
@@ -37,11 +36,11 @@ pub relabelled_no : (from to b : ℕ) → (b ≡ from → ⊥) → b ≡ relabel
 relabelled_no from to b e = ⊎_elim (λ h. absurd (e h.0)) (λ h. sym h.1) (relabelled_cases from to b)
 
 key_symbol : (l : List ℕ) (r : ℕ) → at l r < 128 → key l r ≡ r
-unfolding key if◌then◌else◌
+unfolding key
 key_symbol l r h = rw (lt-ltb (at l r) 128 h) refl
 
 key_variable : (l : List ℕ) (r : ℕ) → 128 ≤ at l r → key l r ≡ r + 1024
-unfolding key if◌then◌else◌
+unfolding key
 key_variable l r h = rw (le-ltb (at l r) 128 h) refl
 
 key_split : (l : List ℕ) (r : ℕ) (b : Bool) → ltb (at l r) 128 ≡ b → ((at l r < 128) × (key l r ≡ r)) ⊎ ((128 ≤ at l r) × (key l r ≡ r + 1024))
@@ -142,7 +141,6 @@ record Merge (l cs : List ℕ) (a b : ℕ) (ds : List ℕ) : Type 0 where
 
 merged : (l cs : List ℕ) (a b : ℕ) (x : Bool) → ltb (key l (at cs a)) (key l (at cs b)) ≡ x →
     Merge l cs a b (if x then map (relabelled (at cs b) (at cs a)) cs else map (relabelled (at cs a) (at cs b)) cs)
-unfolding if◌then◌else◌
 merged l cs a b true e =
     let h = ltb-true (key l (at cs a)) (key l (at cs b)) e in
     record { from = at cs b; to = at cs a; roots = inr (refl, refl); order = omega arith; bytes = refl }
@@ -248,14 +246,14 @@ key_second l i r e h = sym (key_variable l i h) ∙ ap (key l) e
 
 pub joined_first : (l cs ds : List ℕ) (a b : ℕ) (k q : ℕ) → k ≡ key l (at cs a) → q ≡ key l (at cs b) → k < q → ds ≡ map (relabelled (at cs b) (at cs a)) cs →
     ds ≡ joined l cs a b
-unfolding joined if◌then◌else◌
+unfolding joined
 joined_first l cs ds a b k q ek eq h e =
     let j : key l (at cs a) < key l (at cs b) = omega (arith, ek, eq) in
     rw (lt-ltb (key l (at cs a)) (key l (at cs b)) j) e
 
 pub joined_second : (l cs ds : List ℕ) (a b : ℕ) (k q : ℕ) → k ≡ key l (at cs a) → q ≡ key l (at cs b) → q ≤ k → ds ≡ map (relabelled (at cs a) (at cs b)) cs →
     ds ≡ joined l cs a b
-unfolding joined if◌then◌else◌
+unfolding joined
 joined_second l cs ds a b k q ek eq h e =
     let j : key l (at cs b) ≤ key l (at cs a) = omega (arith, ek, eq) in
     rw (le-ltb (key l (at cs a)) (key l (at cs b)) j) e

@@ -1,7 +1,7 @@
 -- What the steps that join and close classes answer: the arena of three lists, and its classes in a list. Assumes nothing.
 use Rattle.std.specs.Prelude.{◌≡◌, Bool, true, false, List, [], ◌∷◌, map, ℕ, ◌+◌, ◌<◌, ◌≤◌, eqb, ltb, length, get_or}
 use Rattle.limits.specs.Limits.{first_variable, arena_width}
-use Rattle.terms.specs.Base.{if◌then◌else◌}
+use Rattle.std.specs.Prelude.{if◌then◌else◌}
 use Rattle.terms.specs.Term.{Term, Terms, subst_terms}
 use Rattle.terms.specs.Scan.{owes}
 use Rattle.classes.specs.Arena.{Arena, SpellsAll, same, NodesSpell, Joins, Classes, Agree, ClosedAt, AllClosed, Never}

@@ -8,7 +8,7 @@ use native.Mathlib.Omega.{arith}
 use lib.ListN.{length, length-append}
 use lib.Seq.{append_snoc}
 use Rattle.limits.specs.Limits.{most_variables}
-use Rattle.terms.specs.Base.{if◌then◌else◌}
+use Rattle.std.specs.Prelude.{if◌then◌else◌}
 use Rattle.terms.proofs.Flats.{widen}
 use Rattle.rewriting.specs.Overlap.{Rule}
 use Rattle.normaliser.specs.Settled.{Reducible}
@@ -40,19 +40,19 @@ module _ (tab new slots : List ℕ) (i count : ℕ) (t : List ℕ) (r : Bool) (q
 
 -- the first of the rules that are left to look at
 kept_one : (x old : Rule) (rest : List Rule) → rewrites x old ≡ false → kept x (old ∷ rest) ≡ old ∷ kept x rest
-unfolding kept if◌then◌else◌
+unfolding kept
 kept_one x old rest e = rw e
 
 kept_none : (x old : Rule) (rest : List Rule) → rewrites x old ≡ true → kept x (old ∷ rest) ≡ kept x rest
-unfolding kept if◌then◌else◌
+unfolding kept
 kept_none x old rest e = rw e
 
 removed_one : (x old : Rule) (rest : List Rule) → rewrites x old ≡ true → removed x (old ∷ rest) ≡ as_removed old ∷ removed x rest
-unfolding removed if◌then◌else◌ as_removed
+unfolding removed as_removed
 removed_one x old rest e = rw e
 
 removed_none : (x old : Rule) (rest : List Rule) → rewrites x old ≡ false → removed x (old ∷ rest) ≡ removed x rest
-unfolding removed if◌then◌else◌
+unfolding removed
 removed_none x old rest e = rw e
 
 -- of the older rules ks stay, rm went behind all that waited, and the rest is still to look at

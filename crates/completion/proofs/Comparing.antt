@@ -4,7 +4,7 @@ use mathlib.Core.Path.{◌≡◌, refl, sym, ap}
 use mathlib.Core.Bool.{Bool, true, false}
 use Prim.Native.Nat.{ℕ}
 use Rattle.rewriting.proofs.Holds.{stop≢done}
-use Rattle.terms.specs.Base.{if◌then◌else◌}
+use Rattle.std.specs.Prelude.{if◌then◌else◌}
 use Rattle.terms.specs.Term.{Pair, same}
 use Rattle.rewriting.specs.Rewrite.{End, complete, Paid, done, stop, Paying, return, and_then}
 use Rattle.completion.specs.Turn.{Origin, Candidate, if_different}
@@ -33,7 +33,7 @@ module _ (o : Origin) where
     pub candidate : c ≡ record { origin = o; sides = forms }
 
   pub found_forms : (p : Paid Pair) (c : Candidate) (left : ℕ) → ((next : Paying Candidate) → compared p next ≡ done c left) → Found p c left
-  unfolding and_then if_different if◌then◌else◌ return
+  unfolding and_then if_different return
   found_forms (stop e l) c left h = absurd (done≢stop (sym (h (λ n. stop complete n))))
   found_forms (done f l) c left h = go (same f.left f.right) refl h
     where
@@ -50,7 +50,7 @@ module _ (o : Origin) where
     pub equal : same forms.left forms.right ≡ true
 
   pub equal_forms : (p : Paid Pair) (left : ℕ) (c : Candidate) → ((next : Paying Candidate) → compared p next ≡ next left) → Equal p left
-  unfolding and_then if_different if◌then◌else◌ return
+  unfolding and_then if_different return
   equal_forms (stop e l) left c h = absurd (done≢stop (sym (h (λ n. done c n))))
   equal_forms (done f l) left c h = go (same f.left f.right) refl h
     where
@@ -60,7 +60,7 @@ module _ (o : Origin) where
 
   -- normalising stopped
   pub stop_forms : (p : Paid Pair) (e : End) (left : ℕ) (c : Candidate) → ((next : Paying Candidate) → compared p next ≡ stop e left) → p ≡ stop e left
-  unfolding and_then if_different if◌then◌else◌ return
+  unfolding and_then if_different return
   stop_forms (stop f l) e left c h = let q : ◌≡◌ {A = Paid Candidate} (stop f l) (stop e left) = h (λ n. done c n) in cc
   stop_forms (done f l) e left c h = go (same f.left f.right) h
     where

@@ -6,7 +6,8 @@ use mathlib.Core.Bool.{Bool, true, false}
 use mathlib.Core.List.{List, [], ◌∷◌, ◌++◌, append_assoc, append-nil, map, map-append, Memᴰ}
 use mathlib.Core.Option.{some}
 use Prim.Native.Nat.{ℕ, suc}
-use Rattle.terms.specs.Base.{if◌then◌else◌, Every, of_none, of_cons}
+use Rattle.std.specs.Prelude.{if◌then◌else◌}
+use Rattle.terms.specs.Base.{Every, of_none, of_cons}
 use Rattle.terms.specs.Term.{Term, Pair, renamed}
 use Rattle.terms.proofs.Below.{renaming}
 use Rattle.terms.proofs.Rename.{renamed_back}
@@ -49,7 +50,6 @@ abbrev pub waiting_sides : List Candidate → List Pair
 waiting_sides cs = map candidate_sides cs
 
 if_map : {A B : Type 0} (f : A → B) (b : Bool) (x y : A) → (if b then f x else f y) ≡ f (if b then x else y)
-unfolding if◌then◌else◌
 if_map f true x y = refl
 if_map f false x y = refl
 
@@ -71,12 +71,12 @@ module _ (rank : ℕ → ℕ) where
 
   -- equations alone, or rules alone, also behind others
   all_equations : {cs : List Candidate} → Every (IsEquation rank) cs → (waiting_equations rank cs ≡ waiting_sides cs) × (waiting_rules rank cs ≡ [])
-  unfolding waiting_equations waiting_rules if◌then◌else◌
+  unfolding waiting_equations waiting_rules
   all_equations of_none = (refl, refl)
   all_equations (of_cons {x = c} e h) = let k = all_equations h in rw e (ap (λ l. c.sides ∷ l) k.0, k.1)
 
   all_rules : {cs : List Candidate} → Every (IsRule rank) cs → (waiting_equations rank cs ≡ []) × (waiting_rules rank cs ≡ waiting_sides cs)
-  unfolding waiting_equations waiting_rules if◌then◌else◌
+  unfolding waiting_equations waiting_rules
   all_rules of_none = (refl, refl)
   all_rules (of_cons {x = c} e h) = let k = all_rules h in rw e (k.0, ap (λ l. c.sides ∷ l) k.1)
 
@@ -100,7 +100,7 @@ module _ (rank : ℕ → ℕ) where
 
 -- Step 6: the removed rules stand behind,
 pub kept_removed : (new : Rule) (rules : List Rule) → Reordered (sides_of rules) (sides_of (kept new rules) ++ waiting_sides (removed new rules))
-unfolding kept removed if◌then◌else◌
+unfolding kept removed
 kept_removed new [] = unmoved
 kept_removed new (old ∷ rules) = go (rewrites new old) (kept_removed new rules)
   where
@@ -151,7 +151,7 @@ module _ (rank : ℕ → ℕ) where
 
     pub waiting_derives : (c : Candidate) (f : Pair) → ReducesRemoved rank rules c → FreeRemoved rank rules c → Forms rules c.sides f →
         Derivation rank Properly (together rank rules (c ∷ cs)) (f ∷ equations ⨾ live)
-    unfolding together waiting_equations waiting_rules if◌then◌else◌
+    unfolding together waiting_equations waiting_rules
     waiting_derives c f h proper k = go (still_rule rank c) refl
       where
         go : (b : Bool) → still_rule rank c ≡ b →

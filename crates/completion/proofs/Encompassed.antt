@@ -7,7 +7,8 @@ use mathlib.Core.List.Memᴰ
 use mathlib.Core.List.{List, [], ◌∷◌, ◌++◌, append_assoc, append-nil, map, map-append}
 use mathlib.Core.Option.{Option, none, some}
 use Prim.Native.Nat.{ℕ}
-use Rattle.terms.specs.Base.{if◌then◌else◌, is_some, Every, of_none, of_cons}
+use Rattle.std.specs.Prelude.{if◌then◌else◌}
+use Rattle.terms.specs.Base.{is_some, Every, of_none, of_cons}
 use Rattle.terms.specs.Term.{Term, Pair, subst_term}
 use Rattle.terms.proofs.Below.{swapped}
 use Rattle.terms.proofs.Rename.{renamed_back}
@@ -67,7 +68,7 @@ apart_more l (one_apart a b h) (of_cons p f) (of_cons q g) = one_apart (every_ap
 
 -- Step 6: some are kept,
 kept_lefts : {Q : Term → Type 0} (new : Rule) (rules : List Rule) → Every Q (lefts rules) → Every Q (lefts (kept new rules))
-unfolding kept if◌then◌else◌
+unfolding kept
 kept_lefts new [] of_none = of_none
 kept_lefts {Q} new (old ∷ rules) (of_cons q h) = go (rewrites new old) (kept_lefts new rules h)
   where
@@ -76,7 +77,7 @@ kept_lefts {Q} new (old ∷ rules) (of_cons q h) = go (rewrites new old) (kept_l
     go false k = of_cons q k
 
 kept_apart : (new : Rule) (rules : List Rule) → Apart (lefts rules) → Apart (lefts (kept new rules))
-unfolding kept if◌then◌else◌
+unfolding kept
 kept_apart new [] none_apart = none_apart
 kept_apart new (old ∷ rules) (one_apart a b h) = go (rewrites new old) (kept_apart new rules h)
   where
@@ -86,7 +87,7 @@ kept_apart new (old ∷ rules) (one_apart a b h) = go (rewrites new old) (kept_a
 
 -- the new rule does not rewrite those,
 kept_normal : (new : Rule) (rules : List Rule) → Every (Normal (StepBy (new ∷ []))) (lefts (kept new rules))
-unfolding kept if◌then◌else◌ rewrites is_some
+unfolding kept rewrites is_some
 kept_normal new [] = of_none
 kept_normal new (old ∷ rules) = go (step (new ∷ []) old.sides.left) refl (kept_normal new rules)
   where
@@ -100,7 +101,7 @@ FreeTo : List Term → Candidate → Type 0
 FreeTo ls c = Every (Free c.sides.left) ls
 
 removed_lefts : {Q : Term → Type 0} (new : Rule) (rules : List Rule) → Every Q (lefts rules) → Every (λ (c : Candidate). Q c.sides.left) (removed new rules)
-unfolding removed if◌then◌else◌
+unfolding removed
 removed_lefts new [] of_none = of_none
 removed_lefts {Q} new (old ∷ rules) (of_cons q h) = go (rewrites new old) (removed_lefts new rules h)
   where
@@ -111,7 +112,7 @@ removed_lefts {Q} new (old ∷ rules) (of_cons q h) = go (rewrites new old) (rem
     go false k = k
 
 removed_free : (new : Rule) (rules : List Rule) → Apart (lefts rules) → Every (FreeTo (lefts (kept new rules))) (removed new rules)
-unfolding kept removed if◌then◌else◌ FreeTo
+unfolding kept removed FreeTo
 removed_free new [] none_apart = of_none
 removed_free new (old ∷ rules) (one_apart a b h) = go (rewrites new old) (removed_free new rules h)
   where

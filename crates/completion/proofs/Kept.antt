@@ -9,7 +9,8 @@ use Prim.Native.Nat.{ℕ, suc, ◌+◌, ◌≤◌, ◌<◌}
 use native.Mathlib.Omega.{arith}
 use lib.ListN.{length, length-append, length-map}
 use Rattle.completion.proofs.Sentences.{MayTake, new_rule, next_state}
-use Rattle.terms.specs.Base.{if◌then◌else◌, Every, of_none, of_cons}
+use Rattle.std.specs.Prelude.{if◌then◌else◌}
+use Rattle.terms.specs.Base.{Every, of_none, of_cons}
 use Rattle.terms.specs.Term.{Term, Pair, size, pair_variables, renamed}
 use Rattle.terms.proofs.Every.{every_head, every_tail, every_one, every_in, every_append, every_map, every_both, every_mapped, mapped_every}
 use Rattle.rewriting.specs.Overlap.{Rule, Overlap, overlap, Place, all_places}
@@ -50,7 +51,6 @@ removed_fit new h = removed_every new (λ old q. record { from = (q.first, q.las
 module _ (new : Rule) where
   split_count : (b : Bool) (old : Rule) (c : Candidate) (rules : List Rule) (cs : List Candidate) (k : ℕ) → length rules + length cs ≡ k →
       length (if b then rules else (old ∷ rules)) + length (if b then (c ∷ cs) else cs) ≡ suc k
-  unfolding if◌then◌else◌
   split_count true old c rules cs k h = omega arith
   split_count false old c rules cs k h = omega arith
 
@@ -66,7 +66,7 @@ ascending_from a b l (k ∷ ks) h = (omega arith, h.1)
 
 ascending_keep : (b : Bool) (lo : ℕ) (old : Rule) (rules : List Rule) → lo < old.number → Ascending old.number (numbers rules) →
     Ascending lo (numbers (if b then rules else (old ∷ rules)))
-unfolding if◌then◌else◌ Ascending
+unfolding Ascending
 ascending_keep true lo old rules l h = ascending_from lo old.number (omega arith) (numbers rules) h
 ascending_keep false lo old rules l h = (l, h)
 

@@ -7,7 +7,7 @@ use Prim.Native.Nat.{ℕ}
 use lib.Dec.{ltb, leb}
 use lib.ListN.{length}
 use Rattle.terms.proofs.Shape.{either_has}
-use Rattle.terms.specs.Base.{if◌then◌else◌}
+use Rattle.std.specs.Prelude.{if◌then◌else◌}
 use Rattle.terms.specs.Term.{Term, Pair, same, size, renamed}
 use Rattle.rewriting.specs.Overlap.{Rule, Overlap, Place}
 use Rattle.rewriting.specs.Rewrite.{End, complete, neither_above, spent, too_large, rules_full, log_full, Paying, return, end_with, ◌>>=◌, end_if}

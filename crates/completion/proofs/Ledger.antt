@@ -9,7 +9,8 @@ use Prim.Native.Nat.{ℕ, zero, suc, ◌+◌, ◌≤◌, ◌<◌, min}
 use native.Mathlib.Omega.{arith}
 use lib.Dec.{ltb, leb}
 use lib.ListN.{length, length-append}
-use Rattle.terms.specs.Base.{if◌then◌else◌, Every, of_none, of_cons}
+use Rattle.std.specs.Prelude.{if◌then◌else◌}
+use Rattle.terms.specs.Base.{Every, of_none, of_cons}
 use Rattle.terms.specs.Term.{Term, Pair, same, size, pair_variables, renamed}
 use Rattle.terms.proofs.Every.{every_append}
 use Rattle.rewriting.specs.Overlap.{Rule, Overlap, overlap, Place, all_places}
@@ -171,13 +172,12 @@ end_if_books true e = end_books (Unit {0}) e
 end_if_books false e = return_books tt
 
 if_books : {A : Type 0} (b : Bool) (m n : Paying A) (f g : Ledger) → Books m f → Books n g → Books {A = A} (if b then m else n) (if b then f else g)
-unfolding if◌then◌else◌
 if_books true m n f g h k = h
 if_books false m n f g h k = k
 
 step_books : (rules : List Rule) (t u : Term) (left : ℕ) (b : Bool) (p : Paid Term) (events : List Event) → step rules t ≡ some u →
     Booked left (left_of p) events → Booked (suc left) (left_of (if b then stop too_large left else p)) (rewrote rules t u ∷ (if b then [] else events))
-unfolding if◌then◌else◌ left_of Valid
+unfolding left_of Valid
 step_books rules t u left true p events e h = record { counted = omega arith; valid = of_cons e (of_none) }
 step_books rules t u left false p events e h =
     let x : length events + left_of p ≡ left = h.counted in

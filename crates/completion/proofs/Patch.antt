@@ -6,7 +6,7 @@ use mathlib.Core.Bool.{Bool, true, false, ◌&&◌}
 use mathlib.Core.List.{List}
 use Prim.Native.Nat.{ℕ, suc}
 use lib.Dec.{eqb}
-use Rattle.terms.specs.Base.{if◌then◌else◌}
+use Rattle.std.specs.Prelude.{if◌then◌else◌}
 use Rattle.terms.specs.Term.{Term, Terms, var, node, nil, cons, subst_term, subst_terms, count}
 use Rattle.terms.proofs.Shape.{Says, Decides, dec_says, dec_and, eqb_dec}
 use Rattle.terms.proofs.Subst.{Subst, count_subst}
@@ -36,7 +36,7 @@ module _ (Σ : List Symbol) where
     patches (cons t ts) = cons (patch t) (patches ts)
 
   shape_is : (f n : ℕ) (ts : Terms) → Has Σ f → n ≡ arity_of Σ f → shape f n ts ≡ node f ts
-  unfolding shape if◌then◌else◌
+  unfolding shape
   shape_is f n ts h e = rw ((proper_dec Σ f n).1 (h, e)) refl
 
   count_patches : (ts : Terms) → count (patches ts) ≡ count ts
@@ -46,7 +46,7 @@ module _ (Σ : List Symbol) where
 
   shape_over : (f n : ℕ) (ts : Terms) → count ts ≡ n → OverAll Σ ts → (b : Bool) → Says (Has Σ f × (n ≡ arity_of Σ f)) b →
       Over Σ (if b then node f ts else var 0)
-  unfolding Over if◌then◌else◌
+  unfolding Over
   shape_over f n ts c h true k = (k.0, c ∙ k.1, h)
   shape_over f n ts c h false k = tt
 
@@ -96,7 +96,7 @@ module _ (Σ : List Symbol) where
     lost_in : ((a b : Term) → patches (plugs cs a) ≡ patches (plugs cs b)) → PatchedIn cs
 
   at_beneath : (f : ℕ) (cs : Ctxs) (b : Bool) → proper Σ f (count (plugs cs (var 0))) ≡ b → PatchedIn cs → PatchedAt (beneath f cs)
-  unfolding patch plug shape if◌then◌else◌
+  unfolding patch plug shape
   at_beneath f cs b e (lost_in h) = lost (λ x y. ap₂ (shape f) (count_plugs cs x y) (h x y))
   at_beneath f cs true e (kept_in ds h) = kept (beneath f ds) (λ a. ap₂ (shape f) (count_plugs cs a (var 0)) (h a) ∙ rw e refl)
   at_beneath f cs false e (kept_in ds h) =

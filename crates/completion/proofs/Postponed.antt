@@ -7,7 +7,8 @@ use mathlib.Core.Logic.{◌⊎◌, inl, inr, ⊎_elim}
 use mathlib.Core.List.Memᴰ
 use mathlib.Core.List.{List, [], ◌∷◌, ◌++◌, Memᴰ}
 use Prim.Native.Nat.{ℕ, suc}
-use Rattle.terms.specs.Base.{if◌then◌else◌, Every, of_none, of_cons}
+use Rattle.std.specs.Prelude.{if◌then◌else◌}
+use Rattle.terms.specs.Base.{Every, of_none, of_cons}
 use Rattle.terms.specs.Term.{Term, Pair, renamed, subst_term}
 use Rattle.terms.proofs.Shape.{some_of}
 use Rattle.terms.proofs.Every.{every_one, every_append, every_map, every_tail}
@@ -55,7 +56,7 @@ rewrites_reduces new old e =
     (s.0, step_sound (new ∷ []) old.sides.left s.0 s.1)
 
 kept_or : (new : Rule) (rules : List Rule) (old : Rule) → Memᴰ old rules → Memᴰ old (kept new rules) ⊎ Reduces (new ∷ []) old.sides.left
-unfolding kept if◌then◌else◌
+unfolding kept
 kept_or new [] old i = absurd (Memᴰ.not-nil i)
 kept_or new (r ∷ rules) old i = go (rewrites new r) refl (λ j. kept_or new rules old j)
   where
@@ -146,7 +147,7 @@ abbrev pub ReducesRemoved : (ℕ → ℕ) → List Rule → Candidate → Type 0
 ReducesRemoved rank rules c = IsRule rank c → LeftReduces rules c
 
 removed_reduce : (new : Rule) (rules : List Rule) → Every (LeftReduces (new ∷ [])) (removed new rules)
-unfolding removed if◌then◌else◌
+unfolding removed
 removed_reduce new [] = of_none
 removed_reduce new (old ∷ rules) = go (rewrites new old) refl (removed_reduce new rules)
   where

@@ -11,7 +11,8 @@ use native.Mathlib.Omega.{arith}
 use lib.Dec.{eqb}
 use lib.ListN.{length}
 use Rattle.terms.proofs.Shape.{zero≢one}
-use Rattle.terms.specs.Base.{if◌then◌else◌, number_bytes, Field, Every, of_none, of_cons}
+use Rattle.std.specs.Prelude.{if◌then◌else◌}
+use Rattle.terms.specs.Base.{number_bytes, Field, Every, of_none, of_cons}
 use Rattle.terms.proofs.Every.{every_one, every_append, every_map, every_both}
 use Rattle.rewriting.specs.Overlap.{Rule}
 use Rattle.rewriting.specs.Rewrite.{End, complete, neither_above, spent, too_large, rules_full, log_full, end_number}
@@ -91,12 +92,12 @@ module _ (T : Theory) (accepted : Accepted T) (budget : ℕ) (f : Finished) (h :
 
   -- "which is so exactly when the turns defined above end with 0 for that problem"
   pub end_read : (end_in (result_fields f) ≡ some 0) ↔ (f.end ≡ complete)
-  unfolding result_fields end_in one_byte if◌then◌else◌ number_bytes
+  unfolding result_fields end_in one_byte number_bytes
   end_read = end_zero f.end
 
   -- the rules read back are the live rules: the same numbers, in the same order
   pub rules_read : rules_in T.symbols (result_fields f) ≡ ok f.state.rules
-  unfolding result_fields rules_in if◌then◌else◌
+  unfolding result_fields rules_in
   rules_read =
       let forms : List Field = forms_field f.end f.state.waiting in
       rw (append_assoc (map rule_field f.state.rules) (map entry_field f.state.log) forms)

@@ -7,7 +7,8 @@ use Prim.Native.Nat.{ℕ, zero, suc, ◌+◌, ◌/◌, ◌%◌, ◌≤◌, ◌<�
 use native.Mathlib.Omega.{arith}
 use lib.Dec.{eqb}
 use lib.ListN.{length, length-append}
-use Rattle.terms.specs.Base.{if◌then◌else◌, number_bytes, number_from, Field, field_bytes, Every, of_cons}
+use Rattle.std.specs.Prelude.{if◌then◌else◌}
+use Rattle.terms.specs.Base.{number_bytes, number_from, Field, field_bytes, Every, of_cons}
 use Rattle.terms.specs.Term.{Term, size, term_bytes}
 use Rattle.terms.proofs.Bytes.{length_bytes}
 use Rattle.terms.proofs.Limits.{Made}
@@ -83,12 +84,12 @@ module _ (Σ : List Symbol) (few : length Σ ≤ 16) where
 
   -- fields of other tags hold no rule
   pub no_rules : (fs : List Field) → Every (λ f. eqb f.tag 0x12 ≡ false) fs → rules_in Σ fs ≡ ok []
-  unfolding rules_in if◌then◌else◌
+  unfolding rules_in
   no_rules [] h = refl
   no_rules (f ∷ fs) (of_cons q h) = rw q (no_rules fs h)
 
   -- The rules that were written are the rules that are read.
   pub rules_back : (rules : List Rule) (fs : List Field) → Every Fits rules → rules_in Σ fs ≡ ok [] → rules_in Σ (map rule_field rules ++ fs) ≡ ok rules
-  unfolding rules_in if◌then◌else◌ rule_field ◌>>=◌
+  unfolding rules_in rule_field ◌>>=◌
   rules_back [] fs h e = e
   rules_back (r ∷ rules) fs (of_cons q h) e = rw (rule_back r q) (rw (rules_back rules fs h e) refl)

@@ -11,7 +11,8 @@ use lib.Dec.{ltb}
 use lib.ListN.{length, take, drop, length-take, length-drop}
 use borrow.Author.Tests.{ltb-false}
 use Rattle.limits.specs.Limits.{most_nodes, most_problem, most_result, field_head}
-use Rattle.terms.specs.Base.{if◌then◌else◌, field_bytes}
+use Rattle.std.specs.Prelude.{if◌then◌else◌}
+use Rattle.terms.specs.Base.{field_bytes}
 use Rattle.terms.specs.Term.{Term, Pair, size, renamed, term_bytes, subterm_at, same}
 use Rattle.terms.proofs.Bytes.{length_bytes, subterm_run}
 use Rattle.terms.proofs.Limits.{length_field_bytes, renamed_left_size}
@@ -53,7 +54,7 @@ complete_within bytes buffer = within_also (complete_refuses bytes buffer) λ r 
 
 -- compare's answers are 1 to 4
 pub comparison_range : (r : ℕ → ℕ) (s t : Term) → (1 ≤ comparison r s t) × (comparison r s t ≤ 4)
-unfolding comparison if◌then◌else◌
+unfolding comparison
 comparison_range r s t = go (above r s t) (above r t s) (same s t)
   where
     go : (a b d : Bool) → (1 ≤ (if a then 1 else if b then 2 else if d then 3 else 4)) × ((if a then 1 else if b then 2 else if d then 3 else 4) ≤ 4)
@@ -73,7 +74,7 @@ InstanceFew no_instance = Unit {0}
 InstanceFew instance_too_large = Unit {0}
 
 unified_few : (s : Term) (m : Option (List Binding)) → InstanceFew (unified s m)
-unfolding unified if◌then◌else◌
+unfolding unified
 unified_few s none = tt
 unified_few s (some m) = go (under m s) (ltb most_nodes (size (under m s))) refl
   where

@@ -11,7 +11,7 @@ use native.Mathlib.Omega.{arith}
 use lib.Dec.{leb}
 use lib.ListN.{length}
 use borrow.Author.Tests.{le-leb, lt-leb, lt-ltb, le-ltb}
-use Rattle.terms.specs.Base.{if◌then◌else◌}
+use Rattle.std.specs.Prelude.{if◌then◌else◌}
 use Rattle.terms.specs.Term.{Pair, same, pair_variables}
 use Rattle.order.specs.Order.{above}
 use Rattle.rewriting.specs.Overlap.{Rule}
@@ -41,7 +41,7 @@ scan_pays_input rules c cs forms units left h d = pays
 pub scan_takes_input : (rules : List Rule) (c : Candidate) (cs : List Candidate) (forms : Pair) (units left : ℕ) →
     normalise_pair rules c.sides units ≡ done forms left →
     same forms.left forms.right ≡ false → scan rules (c ∷ cs) [] units ≡ done (record { origin = c.origin; sides = forms }) left
-unfolding scan scan_inputs ◌>>=◌ and_then if_different if◌then◌else◌ return
+unfolding scan scan_inputs ◌>>=◌ and_then if_different return
 scan_takes_input rules c cs forms units left h d = rw (h, d) refl
 
 -- An end that is due is given, one that is not due is not,
@@ -110,7 +110,7 @@ turn_log_full T s units t left h full = turn_takes T s units ∙ ap (λ p. and_t
 -- 4. "An equation with neither side above now goes to the end of the waiting list"
 pub orient_neither : (T : Theory) (e : Pair) → above (rank_of T.symbols) e.left e.right ≡ false →
     above (rank_of T.symbols) e.right e.left ≡ false → orient T e ≡ none
-unfolding orient if◌then◌else◌
+unfolding orient
 orient_neither T e a b = rw (a, b) refl
 
 -- the new rule, and the state that it leads to

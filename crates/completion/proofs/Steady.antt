@@ -8,7 +8,7 @@ use mathlib.Core.Option.{Option, none, some}
 use Prim.Native.Nat.{ℕ, zero, suc, ◌+◌}
 use native.Mathlib.Omega.{arith}
 use lib.Dec.{ltb}
-use Rattle.terms.specs.Base.{if◌then◌else◌}
+use Rattle.std.specs.Prelude.{if◌then◌else◌}
 use Rattle.terms.specs.Term.{Term, size}
 use Rattle.problem.specs.Problem.{Theory}
 use Rattle.rewriting.specs.Overlap.{Rule}
@@ -66,7 +66,6 @@ pay_steady (suc left) k (suc more) e = ap (done tt) (omega arith)
 
 if_grown : {A : Type 0} (b : Bool) (p q p' q' : Paid A) (k : ℕ) → WithMore p k p' → WithMore q k q' →
     WithMore {A = A} (if b then p else q) k (if b then p' else q')
-unfolding if◌then◌else◌
 if_grown true p q p' q' k h l = h
 if_grown false p q p' q' k h l = l
 

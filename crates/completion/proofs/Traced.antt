@@ -12,7 +12,8 @@ use borrow.Author.Tests.{ltb-true, ltb-false, leb-true, leb-false}
 use Rattle.completion.proofs.Sentences.{MayTake, new_rule, next_state}
 use Rattle.terms.specs.Term.{Pair, same, pair_variables, renamed}
 use Rattle.terms.proofs.Shape.{none≢some, some_inj, same_dec}
-use Rattle.terms.specs.Base.{if◌then◌else◌, Every, of_none, of_cons}
+use Rattle.std.specs.Prelude.{if◌then◌else◌}
+use Rattle.terms.specs.Base.{Every, of_none, of_cons}
 use Rattle.terms.proofs.Below.{swapped}
 use Rattle.terms.proofs.Every.{every_of}
 use Rattle.order.specs.Order.{above}

@@ -10,7 +10,7 @@ use native.Mathlib.Omega.{arith}
 use lib.Dec.{leb}
 use lib.ListN.{length}
 use borrow.Author.Tests.{lt-leb, le-ltb}
-use Rattle.terms.specs.Base.{if◌then◌else◌}
+use Rattle.std.specs.Prelude.{if◌then◌else◌}
 use Rattle.terms.specs.Term.{Pair, same, pair_variables}
 use Rattle.rewriting.specs.Overlap.{Rule, all_places}
 use Rattle.rewriting.specs.Rewrite.{End, rules_full, log_full, done, stop, Paying, return, and_then, ◌>>=◌, end_if}
@@ -42,11 +42,10 @@ module _ (T : Theory) (s : State) (units : ℕ) where
     past_log few = rest ∙ ap (λ b. and_then (end_if b log_full left) later) (lt-leb 512 (length s.log) few)
 
     pub turn_settles : length s.log < 512 → same t.pair.sides.left t.pair.sides.right ≡ true → turn T s (suc units) ≡ done (settled s t) left
-    unfolding if◌then◌else◌ return
+    unfolding return
     turn_settles few e = past_log few ∙ ap (λ b. (if b then return (settled s t) else make_rule T s t) left) e
 
     pub turn_makes : length s.log < 512 → same t.pair.sides.left t.pair.sides.right ≡ false → turn T s (suc units) ≡ make_rule T s t left
-    unfolding if◌then◌else◌
     turn_makes few e = past_log few ∙ ap (λ b. (if b then return (settled s t) else make_rule T s t) left) e
 
 -- Steps 5 to 7, of a pair that was oriented

@@ -6,7 +6,7 @@ use mathlib.Core.List.{List}
 use mathlib.Core.Option.{Option, none, some}
 use Prim.Native.Nat.{ℕ, zero, suc, ◌≤◌}
 use native.Mathlib.Omega.{arith}
-use Rattle.terms.specs.Base.{if◌then◌else◌}
+use Rattle.std.specs.Prelude.{if◌then◌else◌}
 use Rattle.terms.specs.Term.{Term}
 use Rattle.problem.specs.Problem.{Theory}
 use Rattle.rewriting.specs.Overlap.{Rule}
@@ -45,7 +45,6 @@ pay_fair zero = omega arith
 pay_fair (suc left) = omega arith
 
 if_left : {A : Type 0} (b : Bool) (p q : Paid A) (n : ℕ) → left_of p ≤ n → left_of q ≤ n → left_of (if b then p else q) ≤ n
-unfolding if◌then◌else◌
 if_left true p q n f g = f
 if_left false p q n f g = g
 

@@ -7,7 +7,8 @@ use mathlib.Core.Logic.{⊎_elim}
 use mathlib.Core.List.Memᴰ
 use mathlib.Core.List.{List, [], ◌∷◌, map, Memᴰ}
 use Prim.Native.Nat.{ℕ}
-use Rattle.terms.specs.Base.{if◌then◌else◌, member}
+use Rattle.std.specs.Prelude.{if◌then◌else◌}
+use Rattle.terms.specs.Base.{member}
 use Rattle.terms.specs.Term.{Term, Terms, var, node, nil, cons, variables, variables_of, subst_term, subst_terms, Pair, subterm_at, replace_at}
 use Rattle.terms.proofs.Shape.{Says}
 use Rattle.terms.proofs.Subst.{Subst, In, VarsIn, subst_agree}
@@ -118,12 +119,11 @@ module _ (Σ : List Symbol) where
 
   only_over : (σ : Subst) (l : Term) (x : ℕ) → (In x (variables l) → Over Σ (σ x)) → (b : Bool) → Says (In x (variables l)) b →
       Over Σ (if b then σ x else var x)
-  unfolding Over if◌then◌else◌
+  unfolding Over
   only_over σ l x h true i = h i
   only_over σ l x h false n = tt
 
   only_is : (σ : Subst) (l : Term) (x : ℕ) → In x (variables l) → (b : Bool) → Says (In x (variables l)) b → σ x ≡ (if b then σ x else var x)
-  unfolding if◌then◌else◌
   only_is σ l x i true k = refl
   only_is σ l x i false n = absurd (n i)
 

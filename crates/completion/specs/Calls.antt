@@ -4,7 +4,8 @@ use Rattle.std.specs.Prelude.{◌≡◌, ℕ, ◌+◌, ltb, length, take, drop}
 use mathlib.Core.List.{List, [], ◌∷◌, ◌++◌, map, flat_map}
 use Rattle.std.proofs.Math.Option.{Option, none, some}
 use Rattle.limits.specs.Limits.{most_nodes, least_buffer}
-use Rattle.terms.specs.Base.{if◌then◌else◌, number_bytes, Field, field_bytes}
+use Rattle.std.specs.Prelude.{if◌then◌else◌}
+use Rattle.terms.specs.Base.{number_bytes, Field, field_bytes}
 use Rattle.terms.specs.Term.{Term, Pair, term_bytes, size, subterm_at, renamed}
 use Rattle.problem.specs.Problem.{Reading, ok, refused, ◌>>=◌, refuse_if, Symbol, rank_of, Equation, parse, only_equation}
 use Rattle.problem.specs.Stops.{short_buffer}

@@ -3,7 +3,8 @@
 -- nothing of the run. Section 14 of docs/DEFINITION.md. Assumes nothing.
 use Rattle.std.specs.Prelude.{◌≡◌, List, [], ◌∷◌, ◌↔◌, ℕ, zero, suc, eqb, ltb, length}
 use Rattle.std.proofs.Math.Option.{Option, none, some}
-use Rattle.terms.specs.Base.{if◌then◌else◌, number_from, Field}
+use Rattle.std.specs.Prelude.{if◌then◌else◌}
+use Rattle.terms.specs.Base.{number_from, Field}
 use Rattle.problem.specs.Problem.{Reading, ok, refused, ◌>>=◌, refuse_if, read_field, read_term, Symbol, rank_of, Theory, Problem, theory, parse}
 use Rattle.problem.specs.Stops.{cut_field, wrong_term}
 use Rattle.rewriting.specs.Overlap.{Rule, sides_of}

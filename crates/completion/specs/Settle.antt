@@ -4,7 +4,8 @@ use mathlib.Core.List.{List, [], ◌∷◌, ◌++◌, flat_map}
 use Rattle.std.specs.Prelude.{ℕ, zero, suc, ◌+◌, ◌/◌, ◌%◌, ltb, length}
 use Prim.Native.Char.{code}
 use Prim.Native.String.{String}
-use Rattle.terms.specs.Base.{if◌then◌else◌, Field}
+use Rattle.std.specs.Prelude.{if◌then◌else◌}
+use Rattle.terms.specs.Base.{Field}
 use Rattle.problem.specs.Problem.{ok, refused, parse}
 use Rattle.completion.specs.Turn.{run}
 use Rattle.completion.specs.Calls.{result_fields}

@@ -5,7 +5,7 @@
 -- A pair of kind 3, an input at the scan, is no Deduce; none is ever taken (proofs/Published: `scan_takes_overlap`).
 -- Read first: specs/Turn, specs/Transitions.
 use Rattle.std.specs.Prelude.{Bool, true, false, ◌&&◌, List, [], ◌∷◌, ◌++◌, ℕ}
-use Rattle.terms.specs.Base.{if◌then◌else◌}
+use Rattle.std.specs.Prelude.{if◌then◌else◌}
 use Rattle.terms.specs.Term.{Pair}
 use Rattle.order.specs.Order.{above}
 use Rattle.problem.specs.Problem.{Theory}

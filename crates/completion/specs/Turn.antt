@@ -3,7 +3,8 @@
 use Rattle.std.specs.Prelude.{Bool, List, [], ◌∷◌, ◌++◌, ℕ, zero, suc, ◌-◌, ltb, leb, length}
 use Rattle.std.proofs.Math.Option.{Option, none, some}
 use Rattle.limits.specs.Limits.{most_variables, most_rules, most_entries}
-use Rattle.terms.specs.Base.{if◌then◌else◌, is_some}
+use Rattle.std.specs.Prelude.{if◌then◌else◌}
+use Rattle.terms.specs.Base.{is_some}
 use Rattle.terms.specs.Term.{Pair, same, pair_variables, renamed}
 use Rattle.problem.specs.Problem.{rank_of, Theory, Problem, theory}
 use Rattle.order.specs.Order.{above}

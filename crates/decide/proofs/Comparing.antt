@@ -4,7 +4,7 @@ use mathlib.Core.Path.{◌≡◌, refl}
 use mathlib.Core.Bool.{Bool, true, false}
 use mathlib.Core.List.{List}
 use Prim.Native.Nat.{ℕ, ◌-◌}
-use Rattle.terms.specs.Base.{if◌then◌else◌}
+use Rattle.std.specs.Prelude.{if◌then◌else◌}
 use Rattle.terms.specs.Term.{Pair, same}
 use Rattle.problem.specs.Problem.{ok}
 use Rattle.rewriting.specs.Rewrite.{End, complete, neither_above, spent, too_large, rules_full, log_full, end_number, Paid, done, stop}
@@ -40,7 +40,7 @@ decided (Ends end) paid = stopped_by end paid
 module _ (tab one : List ℕ) (f : Found) (paid : ℕ) where
   lasts_told : (p : Pair) (b : Bool) → LastsAre tab one f p b →
       decided_told (decided f paid) ≡ ok (record { answer = if b then are_same else are_different; units = paid })
-  unfolding if◌then◌else◌ decided_told
+  unfolding decided_told
   lasts_told p true h = rw h refl
   lasts_told p false h = rw h.0 refl
 

@@ -7,7 +7,7 @@ use mathlib.Core.List.{List}
 use mathlib.Core.Logic.{◌⊎◌, inl, inr}
 use mathlib.Core.Option.{Option}
 use Prim.Native.Nat.{ℕ}
-use Rattle.terms.specs.Base.{if◌then◌else◌}
+use Rattle.std.specs.Prelude.{if◌then◌else◌}
 use Rattle.terms.specs.Term.{Term, Pair, same}
 use Rattle.terms.proofs.Shape.{Says, same_says}
 use Rattle.problem.specs.Problem.{Reading, ok, refused, ◌>>=◌, Symbol}
@@ -63,7 +63,7 @@ module _ (q : Question) where
   end_told log_full h = absurd h
 
   lasts_told : (f : Pair) → Lasts f → (b : Bool) → Says (f.left ≡ f.right) b → Told q (if b then are_same else are_different)
-  unfolding if◌then◌else◌ Told
+  unfolding Told
   lasts_told f h true e =
       record { term = f.left; left_last = h.left; right_last = subst (Last q.symbols q.rules q.sides.right) (sym e) h.right }
   lasts_told f h false n = record { left_term = f.left; right_term = f.right; left_last = h.left; right_last = h.right; differ = n }

@@ -9,7 +9,7 @@ use mathlib.Core.Option.{Option, none, some}
 use Prim.Native.Nat.{ℕ, ◌+◌, ◌-◌, ◌<◌}
 use native.Mathlib.Omega.{arith}
 use Rattle.limits.specs.Limits.{most_nodes}
-use Rattle.terms.specs.Base.{if◌then◌else◌}
+use Rattle.std.specs.Prelude.{if◌then◌else◌}
 use Rattle.terms.specs.Term.{Term, Pair, same, size}
 use Rattle.terms.proofs.Shape.{Says, same_says}
 use Rattle.reading.proofs.Reading.{bind_ok}
@@ -66,7 +66,6 @@ module _ (next : Term → Option Term) where
 
     compared : (rest : ℕ) (f : Pair) → LastBoth f → (b : Bool) → Says (f.left ≡ f.right) b →
         EndsAt budget (budget - rest) f (if b then are_same else are_different)
-    unfolding if◌then◌else◌
     compared rest f h true s = (h, s)
     compared rest f h false s = (h, s)
 

@@ -3,7 +3,7 @@
 -- Read first: record/specs/Record, rewriting/specs/Rewrite (normalise_by, both_by), rewriting/specs/Outermost.
 use Rattle.std.specs.Prelude.{not, List, [], ◌∷◌, ℕ, ◌-◌, eqb}
 use Rattle.std.proofs.Math.Option.{Option}
-use Rattle.terms.specs.Base.{if◌then◌else◌}
+use Rattle.std.specs.Prelude.{if◌then◌else◌}
 use Rattle.terms.specs.Term.{Term, Pair, same}
 use Rattle.order.specs.Order.{above}
 use Rattle.reading.specs.Stops.{not_complete, not_above}

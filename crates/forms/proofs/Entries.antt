@@ -6,7 +6,7 @@ use Prim.Native.Nat.{ℕ, ◌<◌, ◌≤◌}
 use lib.Dec.{leb}
 use borrow.Author.Tests.{leb-true, leb-false, le-leb, lt-leb}
 use Rattle.limits.specs.Limits.{most_entries}
-use Rattle.terms.specs.Base.{if◌then◌else◌}
+use Rattle.std.specs.Prelude.{if◌then◌else◌}
 use Rattle.terms.proofs.Shape.{zero≢one}
 use Rattle.rewriting.specs.declared.End.{End as Ending}
 use Rattle.rewriting.specs.declared.End.TheVariants.{Complete, LogFull}
@@ -22,7 +22,7 @@ pub data Room (n : ℕ) (due d : Due) : Type 0 where
   some_left : n < most_entries → d ≡ due → Room n due d
 
 pub room : (n : ℕ) (due : Due) → Room n due (with_room n due)
-unfolding with_room if◌then◌else◌
+unfolding with_room
 room n due = go (leb most_entries n) refl
   where
     go : (b : Bool) → leb most_entries n ≡ b → Room n due (if b then Stop LogFull else due)
@@ -31,11 +31,11 @@ room n due = go (leb most_entries n) refl
 
 -- `with_room`
 pub no_room : (n : ℕ) (due : Due) → most_entries ≤ n → Stop LogFull ≡ with_room n due
-unfolding with_room if◌then◌else◌
+unfolding with_room
 no_room n due h = sym (ap (λ b. if b then Stop LogFull else due) (le-leb most_entries n h))
 
 pub has_room : (n : ℕ) (due : Due) → n < most_entries → due ≡ with_room n due
-unfolding with_room if◌then◌else◌
+unfolding with_room
 has_room n due h = sym (ap (λ b. if b then Stop LogFull else due) (lt-leb most_entries n h))
 
 -- `due_after`

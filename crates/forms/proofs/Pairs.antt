@@ -5,7 +5,7 @@ use mathlib.Core.Bool.{Bool, true, false}
 use mathlib.Core.List.{List}
 use Prim.Native.Nat.{ℕ}
 use native.Mathlib.Omega.{arith}
-use Rattle.terms.specs.Base.{if◌then◌else◌}
+use Rattle.std.specs.Prelude.{if◌then◌else◌}
 use Rattle.terms.specs.Term.{Pair, same}
 use Rattle.terms.proofs.Flats.{widen}
 use Rattle.rewriting.specs.Overlap.{Rule}
@@ -30,11 +30,11 @@ module _ (rs : List Rule) (o : Origin) (e : Pair) (u : ℕ) where
 
   module _ {f : Pair} {v : ℕ} (q : normalise_pair rs e u ≡ done f v) where
     forms_agree : same f.left f.right ≡ true → (next : Paying Candidate) → compared rs o e next u ≡ next v
-    unfolding compared ◌>>=◌ and_then if_different if◌then◌else◌
+    unfolding compared ◌>>=◌ and_then if_different
     forms_agree s next = rw (q, s) refl
 
     forms_differ : same f.left f.right ≡ false → (next : Paying Candidate) → compared rs o e next u ≡ done (record { origin = o; sides = f }) v
-    unfolding compared ◌>>=◌ and_then return if_different if◌then◌else◌
+    unfolding compared ◌>>=◌ and_then return if_different
     forms_differ s next = rw (q, s) refl
 
   -- what is answered then

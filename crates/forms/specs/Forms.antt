@@ -1,7 +1,7 @@
 -- A part of the scan, what comparing a pair's two normal forms answers of it, and what is due then. Assumes nothing.
 use Rattle.std.specs.Prelude.{◌≡◌, Bool, true, false, List, ℕ, ◌≤◌, leb, length}
 use Rattle.limits.specs.Limits.{most_variables, most_apart, most_entries}
-use Rattle.terms.specs.Base.{if◌then◌else◌}
+use Rattle.std.specs.Prelude.{if◌then◌else◌}
 use Rattle.terms.specs.Term.{Pair}
 use Rattle.rewriting.specs.Overlap.{Rule, sides_of}
 use Rattle.rewriting.specs.Rewrite.{spent, too_large, done, stop, Paying, ◌>>=◌, normalise_pair}

@@ -10,7 +10,8 @@ use native.Mathlib.Omega.{arith}
 use lib.ListN.{length, length-append}
 use borrow.Author.Tests.{lt-ltb, le-ltb}
 use Rattle.limits.specs.Limits.{most_nodes, most_pair}
-use Rattle.terms.specs.Base.{if◌then◌else◌, is_some, field_bytes}
+use Rattle.std.specs.Prelude.{if◌then◌else◌}
+use Rattle.terms.specs.Base.{is_some, field_bytes}
 use Rattle.terms.specs.Term.{Term, nil, cons, size, term_bytes, terms_bytes, subterm_in, subst_term}
 use Rattle.terms.specs.Flat.{Wf}
 use Rattle.terms.proofs.Bytes.{length_bytes}
@@ -90,11 +91,11 @@ module _ (l tab : List ℕ) (b : ℕ) (ends cs zs : List ℕ) (h : Solved l tab 
     sizes_agree = solved_sizes l tab 0 b ends cs zs h s t spelt (sides_spell l tab s t k b ends cs zs h e).1 m f s
 
     large_found : most_nodes < at zs 0 → unified s (some m) ≡ instance_too_large
-    unfolding unified if◌then◌else◌
+    unfolding unified
     large_found z = rw (lt-ltb most_nodes (size (under m s)) (omega (arith, sizes_agree, large_size l tab 0 b ends cs zs h 0 s spelt z))) refl
 
     field_found : at zs 0 ≤ most_nodes → unified s (some m) ≡ instance (instance_field found)
-    unfolding unified if◌then◌else◌ instance_field
+    unfolding unified instance_field
     field_found z =
         rw (le-ltb most_nodes (size (under m s)) (omega (arith, sizes_agree, small_size l tab 0 b ends cs zs h 0 s spelt z)))
         (ap (λ (x : List ℕ). instance (field_bytes (record { tag = 0x15; contents = x })))

@@ -7,7 +7,7 @@ use mathlib.Core.Option.{Option, none, some}
 use Prim.Native.Nat.{ℕ, zero, suc, ◌+◌, ◌≤◌}
 use lib.Dec.{eqb}
 use lib.ListN.{length, drop}
-use Rattle.terms.specs.Base.{if◌then◌else◌}
+use Rattle.std.specs.Prelude.{if◌then◌else◌}
 use Rattle.reading.specs.Answers.{field_at}
 use Rattle.reading.proofs.Reading.{from_bind, ok_injective}
 use Rattle.reading.proofs.Fields.{due_at}
@@ -60,7 +60,7 @@ module _ {A : Type 0} (tag : ℕ) (read : ReadField → Reading A) (l : List ℕ
 
   fields_each : (n more : ℕ) (before : Option A) (at : ℕ) (m : List ℕ) → drop at l ≡ m → (p : ReadPart (List A)) →
       fields_there n tag (λ _ f. read f) more before at m ≡ ok p → ReadEach at p.part
-  unfolding fields_there if◌then◌else◌
+  unfolding fields_there
   fields_each n zero before at m d p h = none_each at m p h
   fields_each n (suc more) before at [] d p h = none_each at [] p h
   fields_each n (suc more) before at (b ∷ m) d p h = go (eqb b tag) refl (λ before at m d p h. fields_each n more before at m d p h)

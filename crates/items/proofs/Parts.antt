@@ -10,7 +10,8 @@ use native.Mathlib.Omega.{arith}
 use lib.Dec.{eqb, ltb, leb}
 use lib.ListN.{length, take, drop, length-drop, length-append}
 use borrow.Author.Tests.{ltb-true, leb-true}
-use Rattle.terms.specs.Base.{if◌then◌else◌, number_from, Field, Every, of_none, of_cons}
+use Rattle.std.specs.Prelude.{if◌then◌else◌}
+use Rattle.terms.specs.Base.{number_from, Field, Every, of_none, of_cons}
 use Rattle.terms.specs.Term.{Pair, renamed, Term, term_bytes}
 use Rattle.terms.proofs.Shape.{Decides, dec_map, dec_and, same_dec, both_true}
 use Rattle.problem.specs.Problem.{Reading, ok, refused, ◌>>=◌, refuse_if, ReadField, read_field, ReadPart, Symbol, rank_of}
@@ -114,7 +115,7 @@ module _ {A : Type 0} (n tag : ℕ) (read : Option A → ReadField → Reading A
 
   pub there_read : (more : ℕ) (before : Option A) (at : ℕ) (bytes : List ℕ) (p : ReadPart (List A)) →
       fields_there n tag read more before at bytes ≡ ok p → ThereRead tag read before at bytes p
-  unfolding fields_there if◌then◌else◌
+  unfolding fields_there
   there_read zero before at bytes p e = none_read before at bytes p e
   there_read (suc more) before at [] p e = none_read before at [] p e
   there_read (suc more) before at (c ∷ bytes) p e = go (eqb c tag) refl (λ before at bytes p e. there_read more before at bytes p e)
@@ -201,7 +202,7 @@ module _ (Σ : List Symbol) (few : length Σ ≤ 16) where
     pub rules_again : {before : Option RuleAt} {fs : List ReadField} {rules : List RuleAt} → ReadFrom 0x12 (read_rule_at Σ ordered most) before fs rules →
         (gs : List Field) → rules_in Σ gs ≡ ok [] →
         (rules_in Σ (map plain fs ++ gs) ≡ ok (rules_of rules)) × Every (λ r. RuleRead Σ ordered most 0 r.rule) rules
-    unfolding rules_in if◌then◌else◌ ◌>>=◌ read_rule_at
+    unfolding rules_in ◌>>=◌ read_rule_at
     rules_again none_from gs e = (e, of_none)
     rules_again (one_from {before = before} {f = f} {fs = fs} {a = a} {l = l} t h k) gs e =
         from_bind _ _ a h λ r d h.

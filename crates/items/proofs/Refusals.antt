@@ -8,7 +8,8 @@ use Prim.Native.Nat.{ℕ, zero, suc, ◌+◌, ◌≤◌}
 use native.Mathlib.Omega.{arith}
 use lib.Dec.{eqb}
 use lib.ListN.{length}
-use Rattle.terms.specs.Base.{if◌then◌else◌, Every, of_none, of_cons}
+use Rattle.std.specs.Prelude.{if◌then◌else◌}
+use Rattle.terms.specs.Base.{Every, of_none, of_cons}
 use Rattle.reading.proofs.Refusals.{is_refusal, Within, reads, refuses, within_bind, was_read, FieldWithin, Behind, due_within}
 use Rattle.problem.specs.Problem.{Reading, ok, refused, ◌>>=◌, ReadField, Symbol, ReadPart}
 use Rattle.problem.proofs.Reading.{from_bind, ok_injective}
@@ -44,7 +45,7 @@ module _ {A : Type 0} (R : A → Type 0) (most e n : ℕ) (p : is_refusal most n
         (before : Option A) (at : ℕ) (bytes : List ℕ) → at + length bytes ≤ e → Within most e (Items at bytes) (fields_there n tag read more before at bytes)
 
     pub there_within : (more : ℕ) → TheRest more
-    unfolding fields_there if◌then◌else◌
+    unfolding fields_there
     there_within zero before at bytes h = reads (refl, of_none)
     there_within (suc more) before at [] h = reads (refl, of_none)
     there_within (suc more) before at (b ∷ bytes) h = go (eqb b tag) (λ before at bytes h. there_within more before at bytes h)

@@ -11,7 +11,7 @@ use lib.Dec.{eqb}
 use lib.ListN.{length, drop, get_or, length-append, drop_of_length-le}
 use lib.Seq.{drop-cons}
 use borrow.Author.Tests.{eq-eqb, ne_eqb}
-use Rattle.terms.specs.Base.{if◌then◌else◌}
+use Rattle.std.specs.Prelude.{if◌then◌else◌}
 use Rattle.reading.proofs.Reading.{bind_ok, bind_refused}
 use Rattle.problem.specs.Problem.{Reading, ok, refused, ◌>>=◌, ReadField, ReadPart}
 use Rattle.items.specs.Fields.{one_field, fields_there}
@@ -41,7 +41,7 @@ OtherTag tag (b ∷ bytes) = eqb b tag ≡ false
 module _ {A : Type 0} (tag : ℕ) (read : Option A → ReadField → Reading A) where
   pub none_there : (n more : ℕ) (before : Option A) (i : ℕ) (m : List ℕ) → OtherTag tag m →
       fields_there n tag read more before i m ≡ ok (record { part = []; end = i; rest = m })
-  unfolding fields_there if◌then◌else◌
+  unfolding fields_there
   none_there n zero before i m h = refl
   none_there n (suc more) before i [] h = refl
   none_there n (suc more) before i (b ∷ m) h = rw h refl
@@ -50,7 +50,7 @@ module _ {A : Type 0} (tag : ℕ) (read : Option A → ReadField → Reading A) 
       fields_there n tag read (suc more) before i (b ∷ m) ≡ (one_field n tag (read before) i (b ∷ m) >>= λ a.
       fields_there n tag read more (some a.part) a.end a.rest >>= λ later.
       ok (record { part = a.part ∷ later.part; end = later.end; rest = later.rest }))
-  unfolding fields_there if◌then◌else◌
+  unfolding fields_there
   one_there n more before i b m t = rw (eq-eqb b tag t) refl
 
 -- The fields from `at` on, at most so many: these were read, the last of them is what the next one is told, and the next one stands at i.

@@ -3,7 +3,8 @@
 -- Read first: reading/specs/Forms, problem/specs/Problem (due).
 use Rattle.std.specs.Prelude.{Bool, not, ◌&&◌, ◌||◌, List, [], ◌∷◌, map, ℕ, zero, suc, ◌+◌, eqb, ltb, leb, length, take, drop, get_or}
 use Rattle.std.proofs.Math.Option.{Option, none, some}
-use Rattle.terms.specs.Base.{if◌then◌else◌, number_from}
+use Rattle.std.specs.Prelude.{if◌then◌else◌}
+use Rattle.terms.specs.Base.{number_from}
 use Rattle.terms.specs.Term.{Pair, same, renamed}
 use Rattle.order.specs.Order.{above}
 use Rattle.problem.specs.Problem.{Reading, ok, refused, ◌>>=◌, refuse_if, ReadField, due, Symbol, rank_of, read_pair, ReadPart}
