@@ -11,7 +11,8 @@ use lib.Dec.{eqb}
 use lib.ListN.{length}
 use denote.Ref.{Bor}
 use borrow.Author.Tests.{ne_eqb}
-use Rattle.terms.specs.Base.{if◌then◌else◌, is_some}
+use Rattle.std.specs.Prelude.{if◌then◌else◌}
+use Rattle.terms.specs.Base.{is_some}
 use Rattle.terms.specs.Term.{Term}
 use Rattle.terms.proofs.Shape.{not_some, some_of, either_has, dec_agree, dec_false}
 use Rattle.order.specs.Order.{above}
@@ -55,11 +56,9 @@ module _ (tab : List ℕ) (T : Table tab) where
         rw (x.1, y.1, z) refl
 
     pub second_lower : IsAbove tab f g true → Second ≡ lower_over (symbols_of tab) f g
-    unfolding if◌then◌else◌
     second_lower a = both true a
 
     pub first_lower : IsAbove tab f g false → First ≡ lower_over (symbols_of tab) f g
-    unfolding if◌then◌else◌
     first_lower a = both false a
 
 -- "the lower": the one that is handed back is not above the other
@@ -69,7 +68,7 @@ NotAbove Σ s t Second = above (rank_of Σ) t s ≡ false
 NotAbove Σ s t Neither = ⊥
 
 pub not_above : (Σ : List Symbol) (s t : Term) → NotAbove Σ s t (lower_of Σ (some s) (some t))
-unfolding lower_of if◌then◌else◌
+unfolding lower_of
 not_above Σ s t = go (above (rank_of Σ) s t) refl
   where
     go : (b : Bool) → above (rank_of Σ) s t ≡ b → NotAbove Σ s t (lower_of Σ (some s) (some t))
@@ -95,7 +94,7 @@ module _ (first second : List ℕ) where
   RefusedOver Σ = not (is_some (whole_term Σ first)) || not (is_some (whole_term Σ second))
 
   choice_over : (Σ : List Symbol) → Choice first second (lower_over Σ first second) (RefusedOver Σ)
-  unfolding lower_of is_some if◌then◌else◌
+  unfolding lower_of is_some
   choice_over Σ = go (whole_term Σ first) refl (whole_term Σ second) refl
     where
       go : (o : Option Term) → whole_term Σ first ≡ o → (p : Option Term) → whole_term Σ second ≡ p →

@@ -3,7 +3,8 @@
 use Rattle.std.specs.Prelude.{Bool, true, not, ◌||◌, List, [], ◌∷◌, ℕ}
 use Rattle.std.proofs.Math.Option.{Option, none, some}
 use Rattle.std.specs.Borrow.{Bor}
-use Rattle.terms.specs.Base.{if◌then◌else◌, is_some}
+use Rattle.std.specs.Prelude.{if◌then◌else◌}
+use Rattle.terms.specs.Base.{is_some}
 use Rattle.terms.specs.Term.{Term}
 use Rattle.order.specs.Order.{above}
 use Rattle.problem.specs.Problem.{Reading, ok, refused, ◌>>=◌, ReadPart, Symbol, rank_of, due, symbol_field, read_side}

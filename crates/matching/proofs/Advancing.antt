@@ -11,7 +11,7 @@ use native.Mathlib.Numerals.{add-one}
 use lib.Dec.{eqb}
 use lib.ListN.{length, get_or, drop, take, set, length-set, take-append-drop}
 use lib.Seq.{get_or-set_same, get_or-set_other, take-suc, take_all}
-use Rattle.terms.specs.Base.{if◌then◌else◌}
+use Rattle.std.specs.Prelude.{if◌then◌else◌}
 use Rattle.terms.specs.Term.{Term, size, same}
 use Rattle.terms.proofs.Places.{size_pos}
 use Rattle.terms.proofs.Shape.{none≢some, Says, eqb_says, Decides, same_says}
@@ -128,7 +128,6 @@ module _ (T : List ℕ) (b j : ℕ) (B : List ℕ) (w : Within T B) (l : j < len
       bound_go : (r : ℕ) (tab : List ℕ) (n a : ℕ) (u v : Term) (bs : List Binding) → Again T a j r → Stands tab T n j u → Stands tab T n a v →
           Rep tab T n B bs → (c : Bool) → Says (v ≡ u) c →
           BoundTo tab T n j u r B (if c then some bs else none)
-      unfolding if◌then◌else◌
       bound_go r tab n a u v bs g s o rep true y = (g.equal tab n u v s o y, rep)
       bound_go r tab n a u v bs g s o rep false y = g.other tab n u v s o y
 
@@ -170,7 +169,6 @@ module _ (T : List ℕ) (b j : ℕ) (B : List ℕ) (w : Within T B) (l : j < len
           free_go : (tab : List ℕ) (m : ℕ) (u : Term) (bs : List Binding) → Stands tab T m j u → Rep tab T m B bs → (y : ℕ) → y < 16 → (c : Bool) →
               Says (y ≡ x) c →
               Slot tab T m (get_or (set B x (j + 1)) y 0) (if c then some u else bound bs y)
-          unfolding if◌then◌else◌
           free_go tab m u bs s r y g true e = rw (e, get_or-set_same B x (j + 1) 0 (omega arith), add-one j) s
           free_go tab m u bs s r y g false e = rw (get_or-set_other B x y (j + 1) 0 e) (r y g)
 

@@ -10,7 +10,7 @@ use lib.Dec.{ltb}
 use borrow.Author.Tests.{lt-ltb, le-ltb, ltb-true}
 use lib.ListN.{length, get_or, drop, take, set, length-set, length-append, drop_of_length-le}
 use lib.Seq.{drop-cons, take-suc-set, length-take-le, take-length, paste, paste-zero, paste-suc, length-paste, take-paste}
-use Rattle.terms.specs.Base.{if◌then◌else◌}
+use Rattle.std.specs.Prelude.{if◌then◌else◌}
 use Rattle.terms.proofs.Starts.{from_drop}
 use Rattle.matching.specs.Held.{Spot, Within}
 use Rattle.matching.specs.Pieces.{slot_of, first_cell, piece_at, piece, pieces, Put}
@@ -18,20 +18,20 @@ use Rattle.matching.proofs.Clearing.{free_spot}
 
 -- `slot`
 pub slot_symbol : (B : List ℕ) (b : ℕ) → b < 128 → slot_of B b ≡ 0
-unfolding slot_of if◌then◌else◌
+unfolding slot_of
 slot_symbol B b h = rw (lt-ltb b 128 h)
 
 pub slot_high : (B : List ℕ) (b x : ℕ) → 128 ≤ b → x ≡ b - 128 → 16 ≤ x → slot_of B b ≡ 0
-unfolding slot_of if◌then◌else◌
+unfolding slot_of
 slot_high B b x h e k = rw (le-ltb b 128 h, ← e, le-ltb x 16 k)
 
 pub slot_variable : (B : List ℕ) (b x : ℕ) → 128 ≤ b → x ≡ b - 128 → x < 16 → slot_of B b ≡ get_or B x 0
-unfolding slot_of if◌then◌else◌
+unfolding slot_of
 slot_variable B b x h e k = rw (le-ltb b 128 h, ← e, lt-ltb x 16 k)
 
 -- a byte's place is one of those that B holds, or 0
 pub slot_spot : (T B : List ℕ) (b k : ℕ) → Within T B → k ≡ slot_of B b → Spot T k
-unfolding slot_of if◌then◌else◌
+unfolding slot_of
 slot_spot T B b k w e = go (ltb b 128) (ltb (b - 128) 16) refl e
   where
     go : (p q : Bool) → ltb (b - 128) 16 ≡ q → k ≡ (if p then 0 else if q then get_or B (b - 128) 0 else 0) → Spot T k

@@ -10,7 +10,7 @@ use native.Mathlib.Numerals.{add-one}
 use lib.Dec.{eqb}
 use lib.ListN.{length, get_or, drop, length-append, length-drop, drop_of_length-le}
 use lib.Seq.{drop-cons, drop-drop, drop_at}
-use Rattle.terms.specs.Base.{if◌then◌else◌}
+use Rattle.std.specs.Prelude.{if◌then◌else◌}
 use Rattle.terms.specs.Term.{Term, Terms, var, node, nil, cons, term_bytes, terms_bytes, size, sizes, count}
 use Rattle.terms.specs.Flat.{Wf, Wfs}
 use Rattle.terms.specs.Scan.{arity}
@@ -160,7 +160,7 @@ module _ (tab left T : List ℕ) (n i j : ℕ) (B : List ℕ) (r : ℕ) (B' : Li
       get_or left i 0 ≡ f → drop (suc i) left ≡ terms_bytes ps ++ terms_bytes ls → get_or T j 0 % 256 ≡ g →
       drop (suc j) T ≡ cells_all ys ++ (cells_all xs ++ rest) → Rep tab T n B bs →
       (c : Bool) → Says (f ≡ g) c → after (if c then matching_all ps ys bs else none) (λ q. matching_all ls xs q) ≡ m → Turned tab left T n i r B' m
-  unfolding if◌then◌else◌ Wf
+  unfolding Wf
   node_go f g ps ys ls xs bs wf wg w v c e p d s o false ne q = (
     λ z. sym q,
     λ z. absurd (ne (sym e ∙ sym (a.symbol (let l : f < 16 = wf.0 in omega arith) z).0 ∙ d)),

@@ -1,7 +1,7 @@
 -- A right side's instance in cells: what stands for each byte, and cells put into a buffer. Assumes nothing.
 use Rattle.std.specs.Prelude.{◌≡◌, List, [], ◌∷◌, ◌++◌, ℕ, zero, suc, ◌+◌, ◌-◌, ◌/◌, ◌%◌, ◌<◌, ◌≤◌, ltb, length, get_or, drop, take}
 use Rattle.limits.specs.Limits.{most_variables, first_variable, cell_base}
-use Rattle.terms.specs.Base.{if◌then◌else◌}
+use Rattle.std.specs.Prelude.{if◌then◌else◌}
 
 -- the place plus one of a variable's term, or 0
 unfoldable pub slot_of : List ℕ → ℕ → ℕ

@@ -10,7 +10,8 @@ use native.Mathlib.Decide.{dec_lt, ℕ_discrete}
 use lib.Dec.{eqb, ltb}
 use lib.ListN.{length}
 use borrow.Author.Tests.{lt-ltb, le-ltb}
-use Rattle.terms.specs.Base.{if◌then◌else◌, without, distinct, place_in}
+use Rattle.std.specs.Prelude.{if◌then◌else◌}
+use Rattle.terms.specs.Base.{without, distinct, place_in}
 use Rattle.terms.proofs.Shape.{Says, eqb_says}
 use Rattle.terms.proofs.Subst.{In}
 use Rattle.terms.proofs.Below.{place_in_below}
@@ -18,12 +19,10 @@ use Rattle.naming.specs.Names.{added, collect}
 
 -- what a test chooses, by what it says
 yes_if : {A : Type 0} {P : Type 0} (a b : A) (c : Bool) → Says P c → P → (if c then a else b) ≡ a
-unfolding if◌then◌else◌
 yes_if a b true h p = refl
 yes_if a b false h p = absurd (h p)
 
 no_if : {A : Type 0} {P : Type 0} (a b : A) (c : Bool) → Says P c → (P → ⊥) → (if c then a else b) ≡ b
-unfolding if◌then◌else◌
 no_if a b true h p = absurd (p h)
 no_if a b false h p = refl
 
@@ -128,23 +127,23 @@ unfolding variable_bytes
 vb_none = refl
 
 pub vb_symbol : (b : ℕ) (l : List ℕ) → b < 128 → variable_bytes (b ∷ l) ≡ variable_bytes l
-unfolding variable_bytes if◌then◌else◌
+unfolding variable_bytes
 vb_symbol b l h = rw (lt-ltb b 128 h) refl
 
 pub vb_variable : (b : ℕ) (l : List ℕ) → 128 ≤ b → variable_bytes (b ∷ l) ≡ b ∷ variable_bytes l
-unfolding variable_bytes if◌then◌else◌
+unfolding variable_bytes
 vb_variable b l h = rw (le-ltb b 128 h) refl
 
 pub added_symbol : (b : ℕ) (ns : List ℕ) → b < 128 → added b ns ≡ ns
-unfolding added if◌then◌else◌
+unfolding added
 added_symbol b ns h = rw (lt-ltb b 128 h) refl
 
 pub added_old : (b : ℕ) (ns : List ℕ) → 128 ≤ b → place_in b ns < length ns → added b ns ≡ ns
-unfolding added if◌then◌else◌
+unfolding added
 added_old b ns h k = rw (le-ltb b 128 h, lt-ltb (place_in b ns) (length ns) k) refl
 
 pub added_new : (b : ℕ) (ns : List ℕ) → 128 ≤ b → length ns ≤ place_in b ns → added b ns ≡ ns ++ (b ∷ [])
-unfolding added if◌then◌else◌
+unfolding added
 added_new b ns h k = rw (le-ltb b 128 h, le-ltb (place_in b ns) (length ns) k) refl
 
 -- what is collected is the list of first occurrences

@@ -9,7 +9,8 @@ use Prim.Native.Nat.{ℕ, ◌+◌, ◌-◌, ◌≤◌, ◌<◌}
 use native.Mathlib.Omega.{arith}
 use native.Mathlib.Decide.{dec_lt}
 use lib.ListN.{length, length-append, length-map}
-use Rattle.terms.specs.Base.{if◌then◌else◌, distinct}
+use Rattle.std.specs.Prelude.{if◌then◌else◌}
+use Rattle.terms.specs.Base.{distinct}
 use Rattle.terms.specs.Term.{Terms, variables_of, terms_bytes}
 use Rattle.terms.proofs.Subst.{In}
 use Rattle.terms.proofs.Numbers.{in_distinct, distinct_distinct}
@@ -54,7 +55,6 @@ terms_few n ts w h = few (record { numbers = variables_of ts; bytes = vb_terms t
 
 -- a byte adds at most one
 add_few : (p q : Bool) (b : ℕ) (ns : List ℕ) → length (if p then ns else (if q then ns else (ns ++ (b ∷ [])))) ≤ length ns + 1
-unfolding if◌then◌else◌
 add_few true q b ns = omega arith
 add_few false true b ns = omega arith
 add_few false false b ns = omega (arith, length-append ns (b ∷ []))

@@ -7,7 +7,8 @@ use native.Mathlib.Omega.{arith}
 use native.Mathlib.Decide.{dec_lt}
 use lib.ListN.{length, length-map}
 use borrow.Author.Tests.{lt-ltb, le-ltb}
-use Rattle.terms.specs.Base.{if◌then◌else◌, distinct, place_in}
+use Rattle.std.specs.Prelude.{if◌then◌else◌}
+use Rattle.terms.specs.Base.{distinct, place_in}
 use Rattle.terms.specs.Term.{Term, var, node, Terms, nil, cons, variables, variables_of, subst_term, subst_terms, term_bytes, terms_bytes}
 use Rattle.terms.proofs.Subst.{In}
 use Rattle.terms.proofs.Rename.{renames, distinct_map, place_in_map}
@@ -52,11 +53,11 @@ pub up_inj : (l : List ℕ) (x y : ℕ) → In x l → In y l → 128 + x ≡ 12
 up_inj l x y i j e = omega arith
 
 pub named_symbol : (ns : List ℕ) (b : ℕ) → b < 128 → named ns b ≡ b
-unfolding named if◌then◌else◌
+unfolding named
 named_symbol ns b h = rw (lt-ltb b 128 h) refl
 
 pub named_variable : (ns : List ℕ) (b : ℕ) → 128 ≤ b → named ns b ≡ 128 + place_in b ns
-unfolding named if◌then◌else◌
+unfolding named
 named_variable ns b h = rw (le-ltb b 128 h) refl
 
 module _ (ds : List ℕ) where

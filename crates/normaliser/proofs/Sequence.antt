@@ -8,7 +8,8 @@ use Prim.Native.Nat.{ℕ, zero, suc, ◌+◌}
 use native.Mathlib.Omega.{arith}
 use lib.Dec.{ltb}
 use Rattle.limits.specs.Limits.{most_nodes}
-use Rattle.terms.specs.Base.{if◌then◌else◌, mapped, or_else}
+use Rattle.std.specs.Prelude.{if◌then◌else◌}
+use Rattle.terms.specs.Base.{mapped, or_else}
 use Rattle.terms.specs.Term.{Term, Terms, var, node, nil, cons, size, sizes}
 use Rattle.rewriting.specs.Overlap.{Rule}
 use Rattle.rewriting.specs.Rewrite.{step, step_in, root_step, Paid, done, stop, spent, too_large, Paying, and_then, normalise, normalise_by}
@@ -38,7 +39,6 @@ module _ {A : Type 0} (one : A → Option A) (big : A → Bool) where
 -- what comes to its end has no step
 module _ {A : Type 0} (one : A → Option A) (big : A → Bool) where
   if_done : (b : Bool) (m : ℕ) (rest : Paid A) (u : A) (n : ℕ) → (if b then stop too_large m else rest) ≡ done u n → rest ≡ done u n
-  unfolding if◌then◌else◌
   if_done true m rest u n e = absurd (stop≢done e)
   if_done false m rest u n e = e
 
@@ -57,7 +57,7 @@ module _ {A : Type 0} (one : A → Option A) (big : A → Bool) where
 
 and_then_if : {A B : Type 0} (b : Bool) (n : ℕ) (p : Paid A) (k : A → Paying B) (q : Paid B) → q ≡ and_then p k →
     (if b then stop too_large n else q) ≡ and_then (if b then stop too_large n else p) k
-unfolding if◌then◌else◌ and_then
+unfolding and_then
 and_then_if true n p k q e = refl
 and_then_if false n p k q e = e
 

@@ -13,7 +13,7 @@ use borrow.Author.Tests.{lt-ltb, le-ltb, ltb-true, ltb-false}
 use lib.ListN.{length, get_or, drop, take, length-append, length-take}
 use lib.Seq.{take-take}
 use Rattle.limits.specs.Limits.{most_nodes, most_apart}
-use Rattle.terms.specs.Base.{if◌then◌else◌}
+use Rattle.std.specs.Prelude.{if◌then◌else◌}
 use Rattle.terms.specs.Term.{Term, Terms, var, node, nil, cons, size, sizes, count}
 use Rattle.terms.specs.Flat.{Wf, Wfs}
 use Rattle.terms.specs.Scan.{owes}
@@ -287,7 +287,6 @@ module _
 
     tested_go : (rs : List Rule) (big : ℕ → Bool) (post : List ℕ) (v : Term) (k : ℕ) (b : Bool) → StepTested tab rs t' post k s v b →
         Next rs big post (if b then stop too_large k else normalise_in rs big v k)
-    unfolding if◌then◌else◌
     tested_go rs big post v k true e = (λ z. e, λ z. absurd (let d : s.step ≡ TooLarge = e.0 in zero≢one (cc)))
     tested_go rs big post v k false e = (λ z. absurd (z e.0), λ z. (v, e.2, ap (normalise_in rs big v) (sym e.1)))
 

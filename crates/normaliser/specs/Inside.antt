@@ -1,7 +1,7 @@
 -- Normalising a part of a term: the same steps, with a test of its own for what is too large. Assumes nothing.
 use Rattle.std.specs.Prelude.{Bool, List, ℕ, zero, suc}
 use Rattle.std.proofs.Math.Option.{Option, none, some}
-use Rattle.terms.specs.Base.{if◌then◌else◌}
+use Rattle.std.specs.Prelude.{if◌then◌else◌}
 use Rattle.terms.specs.Term.{Term, Terms, size, sizes}
 use Rattle.rewriting.specs.Overlap.{Rule}
 use Rattle.rewriting.specs.Rewrite.{step, step_in, Paid, done, stop, spent, too_large, Paying}

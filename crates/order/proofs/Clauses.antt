@@ -7,7 +7,7 @@ use Prim.Native.Nat.{ℕ}
 use native.Mathlib.Omega.{arith}
 use lib.Dec.{eqb, ltb}
 use borrow.Author.Tests.{le-ltb, ne_eqb}
-use Rattle.terms.specs.Base.{if◌then◌else◌}
+use Rattle.std.specs.Prelude.{if◌then◌else◌}
 use Rattle.terms.specs.Term.{Terms, var, node, nil, cons, same, count}
 use Rattle.order.specs.Order.{by_clauses, by_clauses_all, above, some_reaches, first_above}
 use Rattle.order.specs.Walk.{all_above}

@@ -7,7 +7,7 @@ use Prim.Native.Nat.{ℕ, ◌<◌}
 use Rattle.terms.specs.Term.{Term, Terms, var, node, nil, cons}
 use Rattle.order.proofs.PathOrder.{SameLen, len_nil, len_cons, Above, by_arg, by_rank, by_lex, Within, here, by_above, later, AboveAll}
 use Rattle.order.proofs.PathOrder.{all_nil, all_cons, Lex, first, next, var_above, lex_nil}
-use Rattle.terms.specs.Base.{if◌then◌else◌}
+use Rattle.std.specs.Prelude.{if◌then◌else◌}
 use Rattle.terms.proofs.Shape.{Decides, dec_map, dec_and, dec_or, dec_false, dec_true, eqb_dec, ltb_dec, same_dec}
 use Rattle.order.specs.Order.{same_length, by_clauses, by_clauses_all, above, some_reaches, first_above}
 use Rattle.order.proofs.WellFounded.{above_irrefl}
@@ -29,7 +29,6 @@ len_dec (cons s ss) nil = dec_false len_cons_nil
 len_dec (cons s ss) (cons t ts) = dec_map len_cons len_tail (len_dec ss ts)
 
 pub dec_if : {A C : Type 0} {c x y : Bool} → Decides c C → (C → Decides x A) → ((C → ⊥) → Decides y A) → Decides (if c then x else y) A
-unfolding if◌then◌else◌
 dec_if {c = true} d p q = p (d.0 refl)
 dec_if {c = false} d p q = q (λ k. false≢true (d.1 k))
 

@@ -14,7 +14,7 @@ use Rattle.order.proofs.Closure.{◌∈◌, in_here, in_later, above_arg, all_ar
 use Rattle.order.proofs.Trans.{above_trans}
 use Rattle.terms.proofs.Shape.{Decides, dec_map, dec_and, dec_or, dec_false, dec_true, dec_agree, eqb_dec, ltb_dec, same_dec}
 use Rattle.order.specs.Order.{same_length, above}
-use Rattle.terms.specs.Base.{if◌then◌else◌}
+use Rattle.std.specs.Prelude.{if◌then◌else◌}
 use Rattle.order.proofs.Decide.{dec_if, above_node, above_var, within_nil, within_cons, cons_within, all_parts, lex_cons_nil, lex_parts}
 use Rattle.order.proofs.Decide.{len_dec, above_dec}
 

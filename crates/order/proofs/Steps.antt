@@ -7,7 +7,7 @@ use Prim.Native.Nat.{ℕ, ◌+◌, ◌-◌, ◌<◌, ◌≤◌}
 use native.Mathlib.Omega.{arith}
 use lib.ListN.{length, get_or, get_or-eq_default}
 use borrow.Author.Tests.{lt-ltb, le-ltb, eq-eqb, ne_eqb}
-use Rattle.terms.specs.Base.{if◌then◌else◌}
+use Rattle.std.specs.Prelude.{if◌then◌else◌}
 use Rattle.terms.specs.Term.{Term, node, Terms, nil, cons, size, same, count}
 use Rattle.terms.specs.Scan.{owes}
 use Rattle.terms.specs.Flat.{Starts, StartAll, IsSame}
@@ -40,7 +40,7 @@ length_is (cons x xs) nil h = absurd (omega arith)
 length_is (cons x xs) (cons y ys) h = length_is xs ys (omega arith)
 
 walk_is : (tab : List ℕ) (x t : Term) (xs ys : Terms) → count xs ≡ count ys → walk? (above (rank tab)) x t xs ys ≡ walked tab x t xs ys
-unfolding count walk? walked if◌then◌else◌
+unfolding count walk? walked
 walk_is tab x t nil ys h = refl
 walk_is tab x t (cons s xs) nil h = absurd (omega arith)
 walk_is tab x t (cons s xs) (cons y ys) h =
@@ -49,17 +49,17 @@ walk_is tab x t (cons s xs) (cons y ys) h =
 
 module _ (tab : List ℕ) (f : ℕ) (ss : Terms) (g : ℕ) (ts : Terms) where
   fast_greater : rank tab g < rank tab f → above (rank tab) (node f ss) (node g ts) ≡ all_above (rank tab) (node f ss) ts
-  unfolding step? if◌then◌else◌
+  unfolding step?
   fast_greater h =
       let ne : f ≡ g → ⊥ = λ e. let k : rank tab f ≡ rank tab g = ap (rank tab) e in omega arith in
       sym (step_agrees (rank tab) (node f ss) (node g ts)) ∙ rw (ne_eqb f g ne, lt-ltb _ _ h) (all_is tab (node f ss) ts)
 
   fast_less : rank tab f ≤ rank tab g → (f ≡ g → ⊥) → above (rank tab) (node f ss) (node g ts) ≡ some_reaches (rank tab) ss (node g ts)
-  unfolding step? if◌then◌else◌
+  unfolding step?
   fast_less h ne = sym (step_agrees (rank tab) (node f ss) (node g ts)) ∙ rw (ne_eqb f g ne, le-ltb _ _ h) (some_is (rank tab) ss (node g ts))
 
   fast_same : f ≡ g → count ss ≡ count ts → above (rank tab) (node f ss) (node g ts) ≡ walked tab (node f ss) (node g ts) ss ts
-  unfolding step? if◌then◌else◌
+  unfolding step?
   fast_same e n = sym (step_agrees (rank tab) (node f ss) (node g ts)) ∙ rw (eq-eqb f g e) (walk_is tab (node f ss) (node g ts) ss ts n)
 
 -- `above` returns
@@ -150,7 +150,6 @@ module _ (tab s t a b : List ℕ) (n : ℕ) where
 
       pub walk_equal : q ≡ true → (d e : ℕ) → IsEnd tab a d → IsEnd tab b e → (p : Bool) → IsWalk tab s t (from a d) (from b e) (n - 1) p →
           IsWalk tab s t a b n p
-      unfolding if◌then◌else◌
       walk_equal m d e dd ee p o x y xs ys i j k l =
           let (v, us, c, f, g) = first tab a n xs k h in
           let (w, ws, c', f', g') = first tab b n ys l h in
@@ -158,7 +157,6 @@ module _ (tab s t a b : List ℕ) (n : ℕ) where
           ∙ sym (ap₂ (walked tab x y) c c' ∙ step true m x y v w us ws f f')
 
       pub walk_equal_last : q ≡ true → n ≡ 1 → IsWalk tab s t a b n false
-      unfolding if◌then◌else◌
       walk_equal_last m o x y xs ys i j k l =
           let (v, c, f) = only tab a n xs k o in
           let (w, c', f') = only tab b n ys l o in
@@ -167,33 +165,28 @@ module _ (tab s t a b : List ℕ) (n : ℕ) where
       module _ (m : q ≡ false) (r : Bool) (z : IsAbove tab a b r) where
         differ : (c : Bool) → r ≡ c → (x y v w : Term) (us ws : Terms) → Starts tab a v → Starts tab b w →
             walked tab x y (cons v us) (cons w ws) ≡ (if c then all_above (rank tab) x ws else some_reaches (rank tab) us y)
-        unfolding if◌then◌else◌
         differ c o x y v w us ws f g =
             step false m x y v w us ws f g ∙ ap (λ (i : Bool). if i then all_above (rank tab) x ws else some_reaches (rank tab) us y) (sym (z v w f g) ∙ o)
 
         pub walk_above : r ≡ true → (e : ℕ) → IsEnd tab b e → (p : Bool) → IsAll tab s (from b e) (n - 1) p → IsWalk tab s t a b n p
-        unfolding if◌then◌else◌
         walk_above o e ee p q x y xs ys i j k l =
             let (v, us, c, f, g) = first tab a n xs k h in
             let (w, ws, c', f', g') = first tab b n ys l h in
             q x ws i (g' e (ended tab b e w ee f')) ∙ sym (ap₂ (walked tab x y) c c' ∙ differ true o x y v w us ws f f')
 
         pub walk_above_last : r ≡ true → n ≡ 1 → IsWalk tab s t a b n true
-        unfolding if◌then◌else◌
         walk_above_last o p x y xs ys i j k l =
             let (v, c, f) = only tab a n xs k p in
             let (w, c', f') = only tab b n ys l p in
             sym (ap₂ (walked tab x y) c c' ∙ differ true o x y v w nil nil f f' ∙ all_nil tab x)
 
         pub walk_not_above : r ≡ false → (d : ℕ) → IsEnd tab a d → (p : Bool) → IsSome tab (from a d) (n - 1) t p → IsWalk tab s t a b n p
-        unfolding if◌then◌else◌
         walk_not_above o d dd p q x y xs ys i j k l =
             let (v, us, c, f, g) = first tab a n xs k h in
             let (w, ws, c', f', g') = first tab b n ys l h in
             q us y (g d (ended tab a d v dd f)) j ∙ sym (ap₂ (walked tab x y) c c' ∙ differ false o x y v w us ws f f')
 
         pub walk_not_above_last : r ≡ false → n ≡ 1 → IsWalk tab s t a b n false
-        unfolding if◌then◌else◌
         walk_not_above_last o p x y xs ys i j k l =
             let (v, c, f) = only tab a n xs k p in
             let (w, c', f') = only tab b n ys l p in
@@ -276,19 +269,19 @@ module _ (tab s t : List ℕ) (n : ℕ) where
 -- `comparison` returns
 module _ (tab s t : List ℕ) (p : Bool) (a : IsAbove tab s t p) where
   pub compared_left : p ≡ true → IsCompared tab s t 1
-  unfolding comparison if◌then◌else◌
+  unfolding comparison
   compared_left h x y b d = rw (sym (a x y b d) ∙ h) refl
 
   module _ (h : p ≡ false) (q : Bool) (c : IsAbove tab t s q) where
     pub compared_right : q ≡ true → IsCompared tab s t 2
-    unfolding comparison if◌then◌else◌
+    unfolding comparison
     compared_right k x y b d = rw (sym (a x y b d) ∙ h, sym (c y x d b) ∙ k) refl
 
     module _ (k : q ≡ false) (r : Bool) (u : IsSame tab s t r) where
       pub compared_same : r ≡ true → IsCompared tab s t 3
-      unfolding comparison if◌then◌else◌
+      unfolding comparison
       compared_same l x y b d = rw (sym (a x y b d) ∙ h, sym (c y x d b) ∙ k, sym (u x y b d) ∙ l) refl
 
       pub compared_neither : r ≡ false → IsCompared tab s t 4
-      unfolding comparison if◌then◌else◌
+      unfolding comparison
       compared_neither l x y b d = rw (sym (a x y b d) ∙ h, sym (c y x d b) ∙ k, sym (u x y b d) ∙ l) refl

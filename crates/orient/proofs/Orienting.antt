@@ -10,7 +10,7 @@ use Prim.Native.Nat.{ℕ, ◌<◌, ◌≤◌}
 use native.Mathlib.Omega.{arith}
 use lib.ListN.{length, replicate}
 use Rattle.limits.specs.Limits.{most_apart}
-use Rattle.terms.specs.Base.{if◌then◌else◌}
+use Rattle.std.specs.Prelude.{if◌then◌else◌}
 use Rattle.terms.specs.Term.{Term, Pair, term_bytes, pair_variables}
 use Rattle.terms.specs.Flat.{Wf, Starts}
 use Rattle.terms.proofs.Shape.{zero≢one}
@@ -53,12 +53,12 @@ module _ (tab left right : List ℕ) (r : ℕ) (c : Counted left right r) where
     few_of e s = omega (arith, counted e s)
 
     pub upper_left : (t : Bool) → t ≡ true → IsAbove tab left right t → IsUpper tab left right Left
-    unfolding orient if◌then◌else◌
+    unfolding orient
     upper_left t z h = record { low = c.low (omega arith); answer = λ T q e s. (few_of e s, rw (above_is tab left right T q e s t h ∙ z) refl) }
 
     module _ (t u : Bool) (y : t ≡ false) (g : IsAbove tab left right t) (h : IsAbove tab right left u) where
       pub upper_right : u ≡ true → IsUpper tab left right Right
-      unfolding orient if◌then◌else◌
+      unfolding orient
       upper_right z = record {
         low = c.low (omega arith);
         answer = λ T q e s.

@@ -12,7 +12,7 @@ use borrow.Author.Tests.{lt-ltb, le-ltb}
 use lib.ListN.{length, get_or, take, drop, set, length-append, length-set}
 use lib.Seq.{drop_at, drop-drop, drop-set-lt, take-add, take-append-le, take_at, take-suc-set, take-take, get_or-take, get_or-drop}
 use Rattle.limits.specs.Limits.{most_apart, cell_base}
-use Rattle.terms.specs.Base.{if◌then◌else◌}
+use Rattle.std.specs.Prelude.{if◌then◌else◌}
 use Rattle.terms.specs.Term.{Term, Terms, var, node, nil, cons, size, sizes}
 use Rattle.terms.specs.Flat.{Wf, Wfs}
 use Rattle.terms.proofs.Context.{Ctx, Ctxs, hole, beneath, first, later, plug, plugs}
@@ -32,7 +32,7 @@ opened_zero (var y) = refl
 opened_zero (node f ts) = refl
 
 opened_none : (ts : Terms) → opened_in ts 0 ≡ []
-unfolding opened_in if◌then◌else◌
+unfolding opened_in
 opened_none nil = refl
 opened_none (cons t ts) = rw (lt-ltb 0 (size t) (size_pos t)) (opened_zero t)
 
@@ -53,7 +53,7 @@ pub record Opening (t₀ : List ℕ) (at : ℕ) (t : List ℕ) (i : ℕ) : Type 
   pub is : (tab : List ℕ) (x : Term) → Wf most_apart tab x → at < size x → take at t₀ ≡ take at (cells x) → Left tab x at t₀ t i
 
 pub open_start : (t : List ℕ) (at : ℕ) → Opening t at t 0
-unfolding Wfs sizes cells_all opened_in if◌then◌else◌
+unfolding Wfs sizes cells_all opened_in
 open_start t at = record {
   same = refl;
   within = omega arith;
@@ -110,7 +110,7 @@ module _ {t₀ : List ℕ} {at : ℕ} {t : List ℕ} {i : ℕ} (h : Opening t₀
   -- a term that ends before the node is passed
   skip_left : (tab : List ℕ) (x : Term) (n : ℕ) → (n ≡ 0 → ⊥) → Skipped (get_or t i 0) i at n → (ts : Terms) → Wfs most_apart tab ts → (p : ℕ) → i + p ≡ at →
       p < sizes ts → take p (drop i t₀) ≡ take p (cells_all ts) → take i t ++ opened_in ts p ≡ opened_to x at → Left tab x at t₀ t (i + n)
-  unfolding Wfs sizes cells_all opened_in if◌then◌else◌
+  unfolding Wfs sizes cells_all opened_in
   skip_left tab x n z S nil w p sum low text whole = absurd (omega arith)
   skip_left tab x n z S (cons y ys) w p sum low text whole =
       let s = S.passes z in
@@ -152,7 +152,7 @@ module _ {t₀ : List ℕ} {at : ℕ} {t : List ℕ} {i : ℕ} (h : Opening t₀
   node_left : (tab : List ℕ) (x : Term) (c n : ℕ) → c ≡ get_or t i 0 % cell_base + cell_base * 0 → Skipped (get_or t i 0) i at n → n ≡ 0 → (ts : Terms) →
       Wfs most_apart tab ts → (p : ℕ) → i + p ≡ at → p < sizes ts → take p (drop i t₀) ≡ take p (cells_all ts) →
       take i t ++ opened_in ts p ≡ opened_to x at → Left tab x at t₀ (set t i c) (i + 1)
-  unfolding Wf Wfs size sizes cells cells_all root_byte opened_to opened_in if◌then◌else◌
+  unfolding Wf Wfs size sizes cells cells_all root_byte opened_to opened_in
   node_left tab x c n e S z nil w p sum low text whole = absurd (omega arith)
   node_left tab x c n e S z (cons (var v) ys) w p sum low text whole =
       let m = size_there tab (var v) ys w.0 p sum text in
@@ -190,7 +190,7 @@ module _ {t₀ : List ℕ} {at : ℕ} {t : List ℕ} {i : ℕ} (h : Opening t₀
 
 module _ (y v : Term) (l : List ℕ) (m : Marked [] l v) where
   mutual
-    unfolding plug plugs number numbers behind behinds opened_to opened_in cells_all if◌then◌else◌
+    unfolding plug plugs number numbers behind behinds opened_to opened_in cells_all
 
     -- what is put for y behind the opened cells
     pub opened_marked : (c : Ctx) → Marked [] (opened_to (plug c y) (number c) ++ (l ++ behind c)) (plug c v)
@@ -210,7 +210,7 @@ module _ (y v : Term) (l : List ℕ) (m : Marked [] l v) where
 
 -- there are as many opened cells as places before the node
 mutual
-  unfolding opened_to opened_in if◌then◌else◌ size sizes
+  unfolding opened_to opened_in size sizes
 
   pub opened_length : (x : Term) (p : ℕ) → p < size x → length (opened_to x p) ≡ p
   opened_length (var y) p h = omega arith

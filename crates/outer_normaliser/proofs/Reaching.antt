@@ -10,7 +10,7 @@ use lib.Dec.{ltb}
 use lib.ListN.{length, take, drop, length-append, length-drop}
 use lib.Seq.{take_at}
 use Rattle.limits.specs.Limits.{most_apart, most_nodes}
-use Rattle.terms.specs.Base.{if◌then◌else◌}
+use Rattle.std.specs.Prelude.{if◌then◌else◌}
 use Rattle.terms.specs.Term.{Term, size, term_bytes}
 use Rattle.terms.specs.Flat.{Wf}
 use Rattle.terms.proofs.Shape.{zero≢one}
@@ -51,7 +51,6 @@ module _ (tab : List ℕ) (rs : List Rule) (t : List ℕ) (r : Out) where
   After p = ((r.step ≡ Rewritten → ⊥) → WholeEnds tab t r p) × (r.step ≡ Rewritten → GoesOn tab rs t r.len r.end r.units p)
 
   after_test : (y : Term) (u : ℕ) (b : Bool) → OuterTested tab rs t u r y b → After (if b then stop too_large u else normalise_outer rs y u)
-  unfolding if◌then◌else◌
   after_test y u true h = (λ n. (h.0, h.1), λ d. absurd (zero≢one (let z : TooLarge ≡ Rewritten = sym h.0 ∙ d in cc)))
   after_test y u false h = (λ n. absurd (n h.0), λ d. record { term = y; holds = h.2; same = ap (normalise_outer rs y) h.1 })
 

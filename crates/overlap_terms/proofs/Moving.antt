@@ -9,19 +9,19 @@ use native.Mathlib.Numerals.{add-one}
 use lib.ListN.{length, get_or, take, set, length-set}
 use lib.Seq.{take-suc, take_all, take-suc-set}
 use borrow.Author.Tests.{lt-ltb, le-ltb}
-use Rattle.terms.specs.Base.{if◌then◌else◌}
+use Rattle.std.specs.Prelude.{if◌then◌else◌}
 use Rattle.overlap_terms.specs.Layout.{moved, Lays}
 
 pub moved_symbol : (up b : ℕ) → b < 128 → b ≡ moved up b
-unfolding moved if◌then◌else◌
+unfolding moved
 moved_symbol up b h = rw (lt-ltb b 128 h) refl
 
 pub moved_variable : (up b : ℕ) → 128 ≤ b → b < 240 → b + up ≡ moved up b
-unfolding moved if◌then◌else◌
+unfolding moved
 moved_variable up b h k = rw (le-ltb b 128 h, lt-ltb b 240 k) refl
 
 pub moved_high : (up b : ℕ) → 128 ≤ b → 240 ≤ b → b ≡ moved up b
-unfolding moved if◌then◌else◌
+unfolding moved
 moved_high up b h k = rw (le-ltb b 128 h, le-ltb b 240 k) refl
 
 moved_none : (b : ℕ) → Dec (b < 128) → Dec (b < 240) → moved 0 b ≡ b

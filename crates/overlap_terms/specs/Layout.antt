@@ -1,7 +1,7 @@
 -- Four terms of an overlap, one after the other, as bytes. Assumes nothing.
 use Rattle.std.specs.Prelude.{◌≡◌, List, ◌++◌, map, ℕ, ◌+◌, ◌-◌, ◌≤◌, ltb, length, take, drop}
 use Rattle.limits.specs.Limits.{most_variables, first_variable, byte_values, arena_width}
-use Rattle.terms.specs.Base.{if◌then◌else◌}
+use Rattle.std.specs.Prelude.{if◌then◌else◌}
 use Rattle.terms.specs.Scan.{skip}
 
 -- from here on a byte moved up would be none: 240

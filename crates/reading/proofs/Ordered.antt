@@ -12,7 +12,8 @@ use lib.ListN.{length, take, get_or, length-append, length-take, drop_of_length-
 use lib.Seq.{drop-cons, get_or-take}
 use borrow.Author.Tests.{lt-ltb, le-ltb, ltb-true, ltb-false, eqb-true, eqb-false, eq-eqb, ne_eqb}
 use Rattle.limits.specs.Limits.{byte_values}
-use Rattle.terms.specs.Base.{if◌then◌else◌, place_in, Every, of_none, of_cons}
+use Rattle.std.specs.Prelude.{if◌then◌else◌}
+use Rattle.terms.specs.Base.{place_in, Every, of_none, of_cons}
 use Rattle.terms.specs.Term.{term_bytes, Pair, renamed}
 use Rattle.terms.specs.Flat.{Wf}
 use Rattle.terms.proofs.Shape.{Says}
@@ -64,7 +65,7 @@ place_up (suc n) b more l h = rw (append_assoc (ups n) ((128 + n) ∷ []) more) 
 
 -- names are only added
 added_more : (b : ℕ) (ns : List ℕ) → (m : List ℕ) × (added b ns ≡ ns ++ m)
-unfolding added if◌then◌else◌
+unfolding added
 added_more b ns = go (ltb b 128) (ltb (place_in b ns) (length ns))
   where
     go : (p q : Bool) → (m : List ℕ) × ((if p then ns else (if q then ns else (ns ++ (b ∷ [])))) ≡ ns ++ m)
@@ -128,7 +129,7 @@ module _ (n b : ℕ) (l : List ℕ) where
         subst (Known r) (sym (added_old b (ups n) s (omega (arith, p, length_ups n)))) (cons_says _ b l r v h)
 
 ordered_says : (n : ℕ) (l : List ℕ) → Says (map (named (collect (ups n) l)) l ≡ l) (ordered (128 + n) l)
-unfolding ordered collect next_after if◌then◌else◌
+unfolding ordered collect next_after
 ordered_says n [] = refl
 ordered_says n (b ∷ l) = go (ltb (128 + n) b) (eqb b (128 + n)) refl refl (ordered_says n l) (ordered_says (suc n) l)
   where
@@ -176,11 +177,11 @@ renamed_or_not n tab l p v w e r q = (λ t. forth (rw (sym q ∙ t) at says), λ
 
 -- `next_after` returns
 pub after_same : (next b : ℕ) → b ≡ next → next + 1 ≡ next_after next b
-unfolding next_after if◌then◌else◌
+unfolding next_after
 after_same next b e = rw (eq-eqb b next e, add-one next) refl
 
 pub after_other : (next b : ℕ) → (b ≡ next → ⊥) → next ≡ next_after next b
-unfolding next_after if◌then◌else◌
+unfolding next_after
 after_other next b e = rw (ne_eqb b next e) refl
 
 -- the walk is at i
@@ -199,13 +200,13 @@ module _ (l : List ℕ) (at end next i : ℕ) (inside : end ≤ length l) (W : W
     rest_is = drop-cons (take end l) i 0 (omega (arith, length-take end l)) ∙ ap (λ z. z ∷ between l (suc i) end) (get_or-take end l i 0 h ∙ sym e)
 
     pub walk_wrong : next < b → IsRenamed l at end false
-    unfolding ordered if◌then◌else◌
+    unfolding ordered
     walk_wrong k n tab p v w f =
         renamed_or_not n tab (between l at end) p v w f false (sym (sym W.same ∙ rw (rest_is, lt-ltb next b k) refl))
 
     -- the next variable's byte grows only where a byte equals it
     after_small : b < byte_values → next_after next b ≤ byte_values
-    unfolding next_after if◌then◌else◌
+    unfolding next_after
     after_small s = go (eqb b next) refl
       where
         go : (t : Bool) → eqb b next ≡ t → (if t then suc next else next) ≤ byte_values
@@ -213,7 +214,7 @@ module _ (l : List ℕ) (at end next i : ℕ) (inside : end ≤ length l) (W : W
         go false q = W.small
 
     pub walk_more : b < byte_values → b ≤ next → (m : ℕ) → m ≡ next_after next b → Walked l at end m (i + 1)
-    unfolding ordered if◌then◌else◌
+    unfolding ordered
     walk_more s k m q = record {
       low = omega (arith, W.low);
       high = omega arith;

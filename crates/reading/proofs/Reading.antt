@@ -9,7 +9,7 @@ use lib.Dec.{leb}
 use lib.ListN.{length}
 use borrow.Author.Tests.{ltb-true, ltb-false, leb-true, lt-ltb, le-ltb, le-leb}
 use Rattle.terms.proofs.Shape.{zero≢one, both_true}
-use Rattle.terms.specs.Base.{if◌then◌else◌}
+use Rattle.std.specs.Prelude.{if◌then◌else◌}
 use Rattle.terms.specs.Term.{Term, var, node, Terms, nil, cons, size, sizes, term_bytes, terms_bytes, count}
 use Rattle.terms.proofs.Limits.{Made, MadeAll}
 use Rattle.reading.specs.Forms.{Reading, ok, refused, ◌>>=◌, refuse_if, Symbol, has, Has, arity_of, Byte, symbol, variable, neither, byte_of, ReadPart}
@@ -72,7 +72,7 @@ ByteIs Σ b (variable x) = (b ≡ 0x80 + x) × (x < 16)
 ByteIs Σ b neither = Unit {0}
 
 pub byte_is : (Σ : List Symbol) (b : ℕ) → ByteIs Σ b (byte_of Σ b)
-unfolding ByteIs byte_of if◌then◌else◌
+unfolding ByteIs byte_of
 byte_is Σ b = go (has Σ b) (leb 0x80 b && leb b 0x8f) refl refl
   where
     go : (p q : Bool) → has Σ b ≡ p → (leb 0x80 b && leb b 0x8f) ≡ q →
@@ -156,11 +156,11 @@ module _ (Σ : List Symbol) where
 
 module _ (Σ : List Symbol) (few : length Σ ≤ 16) where
   byte_symbol : (f : ℕ) → Has Σ f → byte_of Σ f ≡ symbol f
-  unfolding byte_of if◌then◌else◌
+  unfolding byte_of
   byte_symbol f h = rw h
 
   byte_variable : (x : ℕ) → x < 16 → byte_of Σ (0x80 + x) ≡ variable x
-  unfolding byte_of if◌then◌else◌
+  unfolding byte_of
   byte_variable x h =
       let lo : leb 0x80 (0x80 + x) ≡ true = le-leb 0x80 (0x80 + x) (omega arith) in
       let hi : leb (0x80 + x) 0x8f ≡ true = le-leb (0x80 + x) 0x8f (omega arith) in

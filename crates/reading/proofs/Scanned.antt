@@ -12,7 +12,7 @@ use lib.ListN.{length, take, drop, get_or, length-take, length-drop, length-appe
 use lib.Seq.{drop_at, drop-drop}
 use borrow.Author.Tests.{lt-ltb, le-ltb, leb-true}
 use Rattle.terms.proofs.Shape.{both_true}
-use Rattle.terms.specs.Base.{if◌then◌else◌}
+use Rattle.std.specs.Prelude.{if◌then◌else◌}
 use Rattle.terms.specs.Term.{Term, node, Terms, cons, size, term_bytes, Pair}
 use Rattle.terms.specs.Scan.{owes, is_node, scan}
 use Rattle.terms.specs.declared.Ends.{Ends}
@@ -63,7 +63,7 @@ module _ (tab : List ℕ) (T : Table tab) where
   is_neither b h k = rw (le-ltb (b + b) (length tab) h, k) refl
 
   byte_node : (b : ℕ) → ByteNode b (byte_of (symbols_of tab) b)
-  unfolding ByteNode byte_of if◌then◌else◌ is_node
+  unfolding ByteNode byte_of is_node
   byte_node b = go (has (symbols_of tab) b) (leb 0x80 b && leb b 0x8f) refl refl
     where
       go : (p q : Bool) → has (symbols_of tab) b ≡ p → (leb 0x80 b && leb b 0x8f) ≡ q → ByteNode b (byte_of (symbols_of tab) b)
@@ -108,11 +108,11 @@ module _ (tab : List ℕ) (T : Table tab) where
   rest_shorter d at bytes p e = omega (arith, ap length (reads (symbols_of tab) d at bytes p e).front ∙ length-append (term_bytes p.part) p.rest)
 
   scan_node : (b : ℕ) (bytes : List ℕ) (at m : ℕ) → is_node tab b ≡ true → scan tab (b ∷ bytes) at (suc m) ≡ scan tab bytes (at + 1) (owes tab b + m)
-  unfolding scan if◌then◌else◌
+  unfolding scan
   scan_node b bytes at m h = rw h refl
 
   scan_stop : (b : ℕ) (bytes : List ℕ) (at m : ℕ) → is_node tab b ≡ false → scan tab (b ∷ bytes) at (suc m) ≡ Bad at
-  unfolding scan if◌then◌else◌
+  unfolding scan
   scan_stop b bytes at m h = rw h refl
 
   scan_empty : (at m : ℕ) → scan tab [] at (suc m) ≡ Bad at

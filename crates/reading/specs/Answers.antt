@@ -1,7 +1,7 @@
 -- What each reader answers, said by the definitions of Forms. Assumes nothing.
 use Rattle.std.specs.Prelude.{◌≡◌, Bool, true, false, ◌||◌, List, [], ◌∷◌, ◌++◌, ℕ, suc, ◌+◌, ◌*◌, ◌%◌, ◌≤◌, ◌<◌, eqb, ltb, length, take, drop}
 use Rattle.limits.specs.Limits.{most_symbols, most_arity, most_rank, two_byte_values}
-use Rattle.terms.specs.Base.{if◌then◌else◌}
+use Rattle.std.specs.Prelude.{if◌then◌else◌}
 use Rattle.terms.specs.Term.{Term, size, term_bytes, Pair, renamed}
 use Rattle.terms.specs.Flat.{Wf}
 use Rattle.terms.specs.declared.Ends.{Ends}

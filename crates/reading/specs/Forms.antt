@@ -2,7 +2,8 @@
 -- pair. A refusal has its number of "Stops and what they leave" and its place. Assumes nothing.
 use Rattle.std.specs.Prelude.{◌≡◌, Bool, true, false, not, ◌&&◌, List, [], ◌∷◌, ℕ, zero, suc, ◌+◌, ◌-◌, eqb, ltb, leb, length, take, drop, get_or}
 use Rattle.limits.specs.Limits.{most_arity, most_rank, most_nodes}
-use Rattle.terms.specs.Base.{if◌then◌else◌, number_from}
+use Rattle.std.specs.Prelude.{if◌then◌else◌}
+use Rattle.terms.specs.Base.{number_from}
 use Rattle.terms.specs.Term.{Term, var, node, Terms, nil, cons, size, Pair}
 use Rattle.reading.specs.Stops.{cut_field, wrong_tag, wrong_arity_or_rank, wrong_term, large_side}
 

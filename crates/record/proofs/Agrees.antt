@@ -11,7 +11,8 @@ use lib.Dec.{eqb}
 use lib.ListN.{length}
 use borrow.Author.Tests.{eqb-true, ltb-false}
 use Rattle.limits.specs.Limits.{most_rules, most_entries, most_number}
-use Rattle.terms.specs.Base.{if◌then◌else◌, number_from, Field, Every, of_none}
+use Rattle.std.specs.Prelude.{if◌then◌else◌}
+use Rattle.terms.specs.Base.{number_from, Field, Every, of_none}
 use Rattle.terms.proofs.Every.{every_one, every_append}
 use Rattle.reading.specs.Stops.{wrong_record}
 use Rattle.problem.specs.Problem.{ok, ReadField, Symbol}
@@ -51,7 +52,7 @@ module _ (Σ : List Symbol) (few : length Σ ≤ 16) where
     no_rule : Every NoRule fields
 
   last_read : (end at : ℕ) (bytes : List ℕ) (u : Unit {0}) → last_field Σ end at bytes ≡ ok u → LastRead at bytes
-  unfolding last_field if◌then◌else◌
+  unfolding last_field
   last_read end at bytes u e = go (eqb end 20) refl
     where
       go : (b : Bool) → eqb end 20 ≡ b → LastRead at bytes
@@ -74,7 +75,7 @@ module _ (Σ : List Symbol) (few : length Σ ≤ 16) where
     pub rules_read : Every (λ a. RuleRead Σ false most_number 0 a.rule) r.rules
 
   pub agrees : (bytes : List ℕ) (r : Record) → read_record Σ bytes ≡ ok r → Agrees bytes r
-  unfolding read_record fields_of end_in rules_in if◌then◌else◌
+  unfolding read_record fields_of end_in rules_in
   agrees bytes r e =
       from_bind _ _ r e λ _ _ e.
       from_bind _ _ r e λ end a e.

@@ -11,7 +11,8 @@ use lib.Dec.{eqb, ltb}
 use lib.ListN.{length}
 use borrow.Author.Tests.{ltb-false}
 use Rattle.limits.specs.Limits.{most_rules, most_number, most_entries, most_record}
-use Rattle.terms.specs.Base.{if◌then◌else◌, Every}
+use Rattle.std.specs.Prelude.{if◌then◌else◌}
+use Rattle.terms.specs.Base.{Every}
 use Rattle.reading.specs.Stops.{wrong_record}
 use Rattle.reading.proofs.Refusals.{Within, reads, within_bind, within_also, within_test, Behind}
 use Rattle.problem.specs.Problem.{Reading, ◌>>=◌, ReadField, Symbol, ReadPart}
@@ -34,7 +35,7 @@ nothing_within at bytes h = within_also (within_test _ wrong_record at refl h) �
 
 module _ (Σ : List Symbol) where
   last_within : {e : ℕ} (end at : ℕ) (bytes : List ℕ) → at + length bytes ≤ e → RecordWithin e (λ _. Unit {0}) (last_field Σ end at bytes)
-  unfolding last_field if◌then◌else◌
+  unfolding last_field
   last_within {e} end at bytes h = go (eqb end 20)
     where
       go : (t : Bool) → RecordWithin e (λ _. Unit {0})

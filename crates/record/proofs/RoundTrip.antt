@@ -11,7 +11,8 @@ use lib.Dec.{eqb}
 use lib.ListN.{length, get_or, length-map}
 use borrow.Author.Tests.{le-ltb, le-leb}
 use Rattle.limits.specs.Limits.{most_symbols, most_rules, most_entries, most_number, most_record, most_budget}
-use Rattle.terms.specs.Base.{if◌then◌else◌, number_bytes, field_bytes, member, Field}
+use Rattle.std.specs.Prelude.{if◌then◌else◌}
+use Rattle.terms.specs.Base.{number_bytes, field_bytes, member, Field}
 use Rattle.terms.proofs.Lists.{flat_map_append}
 use Rattle.terms.proofs.Limits.{length_number_bytes}
 use Rattle.reading.specs.Stops.{wrong_record}
@@ -79,11 +80,11 @@ log_tag (d ∷ log) e waiting = refl
 
 module _ (Σ : List Symbol) (few : length Σ ≤ most_symbols) where
   last_none : (end at : ℕ) → eqb end 20 ≡ false → last_field Σ end at [] ≡ ok tt
-  unfolding last_field nothing_behind if◌then◌else◌ refuse_if
+  unfolding last_field nothing_behind refuse_if
   last_none end at h = rw h refl
 
   last_oldest : (waiting : List Candidate) (at : ℕ) → OldestKeeps Σ waiting → last_field Σ 20 at (flat (oldest_field waiting)) ≡ ok tt
-  unfolding OldestKeeps oldest_field flat_map last_field nothing_behind if◌then◌else◌ ◌>>=◌ refuse_if
+  unfolding OldestKeeps oldest_field flat_map last_field nothing_behind ◌>>=◌ refuse_if
   last_oldest [] at h = absurd h
   last_oldest (c ∷ waiting) at h = rw (forms_back Σ few wrong_record c.sides at [] h) refl
 

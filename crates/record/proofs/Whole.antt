@@ -10,7 +10,8 @@ use lib.ListN.{length, drop, length-drop}
 use borrow.Author.Tests.{lt-ltb, le-ltb, eq-eqb, ne_eqb, leb-true, leb-false}
 use lib.Dec.{leb}
 use Rattle.limits.specs.Limits.{most_rules, most_number, most_entries}
-use Rattle.terms.specs.Base.{if◌then◌else◌, member, Every, of_none, of_cons}
+use Rattle.std.specs.Prelude.{if◌then◌else◌}
+use Rattle.terms.specs.Base.{member, Every, of_none, of_cons}
 use Rattle.terms.specs.Term.{Pair}
 use Rattle.reading.specs.Answers.{symbols_of}
 use Rattle.reading.proofs.Reading.{bind_ok, bind_refused}
@@ -80,13 +81,13 @@ module _ (tab l : List ℕ) (end at : ℕ) where
   as_nothing e q (Bad p) h = q ∙ h
 
   pub last_without : (end ≡ 20 → ⊥) → (r : Outcome) → IsNothing l at r → IsLast tab l end at r
-  unfolding last_field if◌then◌else◌
+  unfolding last_field
   last_without h = as_nothing at (rw (ne_eqb end 20 h) refl)
 
   module _ (h : end ≡ 20) where
     last_is : last_field (symbols_of tab) end at (drop at l) ≡ (one_field 13 0x14 (read_forms (symbols_of tab)) at (drop at l) >>= λ f.
         nothing_behind f.end f.rest)
-    unfolding last_field if◌then◌else◌
+    unfolding last_field
     last_is = rw (eq-eqb end 20 h) refl
 
     pub last_bad : (p : ℕ) → OneBad 0x14 (read_forms (symbols_of tab)) l at p → last_field (symbols_of tab) end at (drop at l) ≡ refused 13 p

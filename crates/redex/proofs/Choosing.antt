@@ -10,7 +10,8 @@ use native.Mathlib.Numerals.{add-one}
 use lib.Dec.{eqb}
 use lib.ListN.{length, get_or}
 use Rattle.limits.specs.Limits.{first_variable, cell_base}
-use Rattle.terms.specs.Base.{if◌then◌else◌, mapped, or_else}
+use Rattle.std.specs.Prelude.{if◌then◌else◌}
+use Rattle.terms.specs.Base.{mapped, or_else}
 use Rattle.terms.specs.Term.{Term, var, node, term_bytes, terms_bytes, size}
 use Rattle.terms.proofs.Shape.{Says, eqb_says}
 use Rattle.unify.specs.Unify.{Binding}
@@ -26,7 +27,7 @@ use Rattle.redex.proofs.Parts.{head_of}
 -- a left side in the slot s whose first byte b is a symbol other than the term's does not match
 root_none : (s : List ℕ) (b : ℕ) → b ≡ get_or s left_at 0 → b < first_variable → (l x : Term) → left_of s ≡ term_bytes l → (root_byte x ≡ b → ⊥) →
     matching l x [] ≡ none
-unfolding left_of term_bytes matching if◌then◌else◌ root_byte
+unfolding left_of term_bytes matching root_byte
 root_none s b eb h (var y) x e z = absurd (omega (arith, head_of s (left_length s) left_at (first_variable + y) [] e))
 root_none s b eb h (node f ps) (var y) e z = refl
 root_none s b eb h (node f ps) (node g ys) e z = go (eqb f g) (eqb_says f g)

@@ -6,7 +6,8 @@ use Prim.Native.Nat.{ℕ}
 use native.Mathlib.Omega.{arith}
 use lib.ListN.{length}
 use borrow.Author.Tests.{lt-ltb, le-ltb}
-use Rattle.terms.specs.Base.{if◌then◌else◌, number_bytes, Field, field_bytes}
+use Rattle.std.specs.Prelude.{if◌then◌else◌}
+use Rattle.terms.specs.Base.{number_bytes, Field, field_bytes}
 use Rattle.terms.proofs.Lists.{flat_map_append}
 use Rattle.rewriting.specs.Overlap.{Rule}
 use Rattle.rewriting.specs.Rewrite.{End, complete, neither_above, spent, too_large, rules_full, log_full, end_number}
@@ -34,7 +35,7 @@ module _ (tab slots : List ℕ) where
   -- what waits stands behind the rules
   oldest_are : (rs : List Rule) (ws : List Candidate) (live count : ℕ) → live ≡ length rs → count ≡ length (held rs ws) →
       Holds tab slots 0 (map marked (held rs ws)) → oldest_if NeitherAbove slots live count ≡ flat_map field_bytes (oldest_field ws)
-  unfolding oldest_if oldest_field flat_map if◌then◌else◌
+  unfolding oldest_if oldest_field flat_map
   oldest_are rs [] live count l n h = rw (le-ltb live count (omega (arith, length_held rs []))) refl
   oldest_are rs (c ∷ ws) live count l n h =
       let m : MarkedAt tab slots live (marked c) =

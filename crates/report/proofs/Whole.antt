@@ -7,7 +7,8 @@ use native.Mathlib.Omega.{arith}
 use lib.ListN.{length}
 use borrow.Author.Tests.{lt-ltb, le-ltb}
 use Rattle.limits.specs.Limits.{most_pair, most_rules, most_entries, field_head, rule_width, entry_width, forms_width, most_result}
-use Rattle.terms.specs.Base.{if◌then◌else◌, number_bytes, Field, field_bytes}
+use Rattle.std.specs.Prelude.{if◌then◌else◌}
+use Rattle.terms.specs.Base.{number_bytes, Field, field_bytes}
 use Rattle.rewriting.specs.declared.End.{End as Ending}
 use Rattle.rewriting.specs.declared.End.TheVariants.{Complete, NeitherAbove, Spent, TooLarge, RulesFull, LogFull}
 use Rattle.completion.specs.Calls.{written, Writes}
@@ -41,7 +42,7 @@ module _ (out : List ℕ) (at : ℕ) where
     pub oldest_put : {out' : List ℕ} {r : ℕ} → live < count →
         PutsSome (field_head + 0 + most_pair) out at 1 (field_bytes (pair_field 0x14 [] slots live)) out' r →
         PutsSome forms_width out at 1 (oldest_if end slots live count) out' r
-    unfolding oldest_if if◌then◌else◌
+    unfolding oldest_if
     oldest_put h p = rw (neither, lt-ltb live count h) (record { puts = p.puts; room = let m = p.room in omega arith })
 
 -- all fields

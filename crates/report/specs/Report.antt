@@ -2,7 +2,8 @@
 -- Read first: items/specs/Written (pair_field), completion/specs/Calls (result_bytes).
 use Rattle.std.specs.Prelude.{List, [], ℕ, ◌≤◌, ltb}
 use Rattle.limits.specs.Limits.{most_result}
-use Rattle.terms.specs.Base.{if◌then◌else◌, field_bytes}
+use Rattle.std.specs.Prelude.{if◌then◌else◌}
+use Rattle.terms.specs.Base.{field_bytes}
 use Rattle.completion.specs.Turn.{Finished}
 use Rattle.completion.specs.Calls.{result_bytes, Writes}
 use Rattle.rewriting.specs.declared.End.{End as Ending}

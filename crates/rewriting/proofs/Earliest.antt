@@ -10,7 +10,8 @@ use native.Mathlib.Decide.{dec_lt}
 use lib.Dec.{ltb}
 use lib.ListN.{length, length-append}
 use borrow.Author.Tests.{lt-ltb, le-ltb}
-use Rattle.terms.specs.Base.{if◌then◌else◌, mapped, or_else, Every, of_none, of_cons}
+use Rattle.std.specs.Prelude.{if◌then◌else◌}
+use Rattle.terms.specs.Base.{mapped, or_else, Every, of_none, of_cons}
 use Rattle.terms.specs.Term.{Term, Terms, var, node, nil, cons, size, sizes, term_bytes, subterm_at, subterm_in, replace_at, replace_in}
 use Rattle.terms.proofs.Shape.{none≢some, some_inj}
 use Rattle.terms.proofs.Context.{hole, plug}
@@ -71,11 +72,11 @@ unfolding plug number
 replace_root t v = replace_plug hole t v
 
 pub replace_first : (t : Term) (ts : Terms) (p : ℕ) (v : Term) → p < size t → replace_in (cons t ts) p v ≡ cons (replace_at t p v) ts
-unfolding replace_in if◌then◌else◌
+unfolding replace_in
 replace_first t ts p v h = rw (lt-ltb p (size t) h) refl
 
 pub replace_later : (t : Term) (ts : Terms) (p : ℕ) (v : Term) → replace_in (cons t ts) (size t + p) v ≡ cons t (replace_in ts p v)
-unfolding replace_in if◌then◌else◌
+unfolding replace_in
 replace_later t ts p v =
     let z : size t + p - size t ≡ p = omega arith in
     rw (le-ltb (size t + p) (size t) (omega arith), z) refl
@@ -361,7 +362,7 @@ unfolded rules t (some u) = do
   normalise rules u
 
 pub normalise_unfolds : (rules : List Rule) (t : Term) (left : ℕ) → normalise rules t left ≡ unfolded rules t (step rules t) left
-unfolding normalise_by return end_with and_then ◌>>=◌ end_if pay hold if◌then◌else◌
+unfolding normalise_by return end_with and_then ◌>>=◌ end_if pay hold
 normalise_unfolds rules t zero = go (step rules t) refl
   where
     go : (o : Option Term) → step rules t ≡ o → normalise rules t zero ≡ unfolded rules t o zero

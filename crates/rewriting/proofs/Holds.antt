@@ -7,7 +7,7 @@ use mathlib.Core.List.{List}
 use Prim.Native.Nat.{ℕ, suc, zero, ◌≤◌, ◌<◌}
 use lib.Dec.{ltb}
 use borrow.Author.Tests.{ltb-true, ltb-false}
-use Rattle.terms.specs.Base.{if◌then◌else◌}
+use Rattle.std.specs.Prelude.{if◌then◌else◌}
 use Rattle.terms.proofs.Shape.{zero≢one}
 use Rattle.terms.specs.Term.{Term, Pair, size}
 use Rattle.rewriting.specs.Overlap.{Rule}
@@ -47,7 +47,6 @@ weaker Q R E f (stop e left) h = h
 
 choose_holds : {A : Type 0} (Q : A → Type 0) (E : End → ℕ → Type 0) (b : Bool) (p q : Paid A) → (b ≡ true → Holds Q E p) → (b ≡ false → Holds Q E q) →
     Holds Q E (if b then p else q)
-unfolding if◌then◌else◌
 choose_holds Q E true p q f g = f refl
 choose_holds Q E false p q f g = g refl
 
@@ -74,7 +73,6 @@ module _ {E : End → ℕ → Type 0} where
   end_if_holds false e h = return_holds tt refl
 
   pub if_holds : {A : Type 0} {Q : A → Type 0} (b : Bool) (m n : Paying A) → (b ≡ true → Pays Q E m) → (b ≡ false → Pays Q E n) → Pays Q E (if b then m else n)
-  unfolding if◌then◌else◌
   if_holds true m n f g = f refl
   if_holds false m n f g = g refl
 

@@ -3,7 +3,7 @@
 use mathlib.Core.Path.{◌≡◌, refl, sym, ap, ◌∙◌}
 use Prim.Native.Nat.{ℕ}
 use lib.Dec.{eqb}
-use Rattle.terms.specs.Base.{if◌then◌else◌}
+use Rattle.std.specs.Prelude.{if◌then◌else◌}
 use Rattle.terms.proofs.Shape.{zero≢one}
 use Rattle.rewriting.specs.Ends.{number_of}
 use Rattle.rewriting.specs.declared.End.{End as Ending}
@@ -19,7 +19,7 @@ same_end p q = cc
 
 -- "Say which store was full": no two ends have one number, so that field 10 of a result tells why the run ended.
 pub numbers_apart : (d e : Ending) → number_of d ≡ number_of e → d ≡ e
-unfolding number_of if◌then◌else◌
+unfolding number_of
 numbers_apart d e h = sym (said d) ∙ ap told h ∙ said e
   where
     told : ℕ → Ending

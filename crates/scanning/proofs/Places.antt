@@ -11,7 +11,8 @@ use lib.Dec.{ltb}
 use lib.ListN.{length, take, drop, drop_of_length-le}
 use lib.Seq.{length-take-le, take-suc, drop-cons, get_or-take}
 use borrow.Author.Tests.{ltb-true, ltb-false, lt-ltb, le-ltb}
-use Rattle.terms.specs.Base.{count_from, if◌then◌else◌}
+use Rattle.std.specs.Prelude.{if◌then◌else◌}
+use Rattle.terms.specs.Base.{count_from}
 use Rattle.terms.specs.Term.{size}
 use Rattle.rewriting.specs.Overlap.{Rule, Place, places, positions, places_with, places_self, all_places}
 use Rattle.rewriting.specs.Rewrite.{Paying}
@@ -115,23 +116,23 @@ module _ (rs : List Rule) where
 
   -- what is to come
   come_in : (i o p : ℕ) (next : Paying Candidate) → o < length rs → to_come (spot i o p) rs next ≡ at_positions i o p rs (behind i o rs next)
-  unfolding to_come if◌then◌else◌
+  unfolding to_come
   come_in i o p next l = rw (lt-ltb o (length rs) l)
 
   pub come_out : (at : Spot) (next : Paying Candidate) → length rs ≤ at.outer → to_come at rs next ≡ next
-  unfolding to_come if◌then◌else◌
+  unfolding to_come
   come_out at next l = rw (le-ltb at.outer (length rs) l)
 
   behind_earlier : (i o : ℕ) (next : Paying Candidate) → i < o → behind i o rs next ≡ at_positions o i 0 rs (with_earlier (i + 1) o rs next)
-  unfolding behind if◌then◌else◌
+  unfolding behind
   behind_earlier i o next l = rw (lt-ltb i o l)
 
   behind_later : (i o : ℕ) (next : Paying Candidate) → o < i → behind i o rs next ≡ with_earlier (o + 1) i rs next
-  unfolding behind if◌then◌else◌
+  unfolding behind
   behind_later i o next l = rw (le-ltb i o (omega arith), lt-ltb o i l)
 
   behind_itself : (b : ℕ) (next : Paying Candidate) → behind b b rs next ≡ of_rules (b + 1) rs next
-  unfolding behind if◌then◌else◌
+  unfolding behind
   behind_itself b next = rw (le-ltb b b (omega arith))
 
   -- past the last position, what is to come from the next place

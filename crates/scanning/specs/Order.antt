@@ -1,6 +1,7 @@
 -- The order of the places: what is to come from a place on, and what `next` answers. Assumes nothing.
 use Rattle.std.specs.Prelude.{◌≡◌, List, ℕ, ◌+◌, ◌-◌, ◌*◌, ◌<◌, ltb, length, drop, take}
-use Rattle.terms.specs.Base.{count_from, if◌then◌else◌}
+use Rattle.std.specs.Prelude.{if◌then◌else◌}
+use Rattle.terms.specs.Base.{count_from}
 use Rattle.terms.specs.Term.{size}
 use Rattle.rewriting.specs.Overlap.{Rule, places, places_with}
 use Rattle.rewriting.specs.Rewrite.{Paying}

@@ -10,17 +10,17 @@ use native.Mathlib.Nat.{pow-suc}
 use lib.Dec.{ltb}
 use lib.ListN.{length, set, length-set, length-append}
 use borrow.Author.Tests.{lt-ltb, le-ltb, ltb-false}
-use Rattle.terms.specs.Base.{if◌then◌else◌}
+use Rattle.std.specs.Prelude.{if◌then◌else◌}
 use Rattle.completion.specs.Settle.{decimal_in, decimal}
 use Rattle.fields.specs.Puts.{patched, Puts}
 use Rattle.fields.proofs.Appending.{patched_before, patched_one}
 
 in_small : (k n : ℕ) → n < 10 → decimal_in (suc k) n ≡ (48 + n) ∷ []
-unfolding decimal_in if◌then◌else◌
+unfolding decimal_in
 in_small k n h = rw (lt-ltb n 10 h) refl
 
 in_more : (k n : ℕ) → 10 ≤ n → decimal_in (suc k) n ≡ decimal_in k (n / 10) ++ ((48 + n % 10) ∷ [])
-unfolding decimal_in if◌then◌else◌
+unfolding decimal_in
 in_more k n h = rw (le-ltb n 10 h) refl
 
 -- more digits than the number has are not asked for

@@ -8,7 +8,7 @@ use native.Mathlib.Numerals.{add-one}
 use lib.ListN.{length, get_or, drop, drop_of_length-le}
 use lib.Seq.{drop-cons}
 use borrow.Author.Tests.{lt-ltb, le-ltb}
-use Rattle.terms.specs.Base.{if◌then◌else◌}
+use Rattle.std.specs.Prelude.{if◌then◌else◌}
 use Rattle.completion.specs.Calls.{written}
 use Rattle.completion.specs.Settle.{ascii, hex_digit, hex_byte, decimal, line}
 use Rattle.fields.specs.Puts.{patched, Puts, PutsSome, tagged}
@@ -19,11 +19,11 @@ use Rattle.settle_text.proofs.Decimal.{few_digits, twenty_digits}
 
 -- `digit`
 pub digit_low : (n : ℕ) → n < 10 → 48 + n ≡ hex_digit n
-unfolding hex_digit if◌then◌else◌
+unfolding hex_digit
 digit_low n h = rw (lt-ltb n 10 h) refl
 
 pub digit_high : (n : ℕ) → 10 ≤ n → 87 + n ≡ hex_digit n
-unfolding hex_digit if◌then◌else◌
+unfolding hex_digit
 digit_high n h = rw (le-ltb n 10 h) refl
 
 -- `put_hex`

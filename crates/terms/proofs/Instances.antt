@@ -5,7 +5,8 @@ use mathlib.Core.Logic.{inl}
 use mathlib.Core.List.{List, [], ◌∷◌}
 use Prim.Native.Nat.{ℕ}
 use native.Mathlib.Omega.{arith}
-use Rattle.terms.specs.Base.{if◌then◌else◌, of_none, of_cons}
+use Rattle.std.specs.Prelude.{if◌then◌else◌}
+use Rattle.terms.specs.Base.{of_none, of_cons}
 use Rattle.terms.specs.Term.{var, nil, cons, count}
 use Rattle.terms.specs.Scan.{owes}
 use Rattle.terms.specs.Flat.{Wfs}
@@ -27,7 +28,7 @@ pub counts :
     × Counted group bytes 4 2
     × Counted group bytes 5 1
     × Counted group bytes 6 0
-unfolding owes if◌then◌else◌
+unfolding owes
 counts =
     let c₀ = counted_start group bytes in
     let c₁ : Counted group bytes 1 2 = counted_turn group bytes 0 1 2 (omega arith) (λ z. omega arith) refl c₀ in

@@ -11,18 +11,18 @@ use lib.Dec.{leb, ltb}
 use lib.ListN.{length, get_or, drop, drop_of_length-le, get_or-eq_default}
 use lib.Seq.{drop-cons}
 use borrow.Author.Tests.{lt-ltb, le-ltb, le-leb, lt-leb, ltb-true, ltb-false}
-use Rattle.terms.specs.Base.{if◌then◌else◌}
+use Rattle.std.specs.Prelude.{if◌then◌else◌}
 use Rattle.terms.specs.Term.{Term, var, node, Terms, nil, cons, term_bytes, terms_bytes, size, sizes, count}
 use Rattle.terms.specs.Scan.{arity, owes, skip, is_node, scan}
 use Rattle.terms.specs.Flat.{Wf, Wfs}
 use Rattle.terms.specs.declared.Ends.TheVariants.{At, Bad}
 
 pub owes_symbol : (tab : List ℕ) (f : ℕ) → f < 16 → owes tab f ≡ arity tab f
-unfolding owes if◌then◌else◌
+unfolding owes
 owes_symbol tab f h = rw (lt-ltb f 16 h) refl
 
 pub owes_other : (tab : List ℕ) (b : ℕ) → 16 ≤ b → owes tab b ≡ 0
-unfolding owes if◌then◌else◌
+unfolding owes
 owes_other tab b h = rw (le-ltb b 16 h) refl
 
 pub owes_past : (tab : List ℕ) (b : ℕ) → length tab ≤ b + b → b < 16 → owes tab b ≡ 0
@@ -95,14 +95,14 @@ scan_none tab (b ∷ l) i = refl
 
 pub scan_turn : (tab t : List ℕ) (i n k : ℕ) → i < length t → (n ≡ 0 → ⊥) → is_node tab (get_or t i 0) ≡ true → k ≡ owes tab (get_or t i 0) →
     scan tab (drop (i + 1) t) (i + 1) (n - 1 + k) ≡ scan tab (drop i t) i n
-unfolding scan if◌then◌else◌
+unfolding scan
 scan_turn tab t i zero k h z y e = absurd (z refl)
 scan_turn tab t i (suc n) k h z y e =
     let m : suc n - 1 + k ≡ owes tab (get_or t i 0) + n = omega arith in
     rw (drop-cons t i 0 h, y, m, add-one i)
 
 pub scan_bad : (tab t : List ℕ) (i n : ℕ) → i < length t → (n ≡ 0 → ⊥) → is_node tab (get_or t i 0) ≡ false → Bad i ≡ scan tab (drop i t) i n
-unfolding scan if◌then◌else◌
+unfolding scan
 scan_bad tab t i zero h z y = absurd (z refl)
 scan_bad tab t i (suc n) h z y = rw (drop-cons t i 0 h, y)
 

@@ -1,7 +1,7 @@
 -- Terms on their bytes: the walk that counts the subterms still owed, as a function of lists. Assumes nothing.
 use Rattle.std.specs.Prelude.{Bool, ◌&&◌, ◌||◌, List, [], ◌∷◌, ℕ, zero, suc, ◌+◌, ltb, leb, length, get_or}
 use Rattle.limits.specs.Limits.{most_symbols, first_variable, last_variable}
-use Rattle.terms.specs.Base.{if◌then◌else◌}
+use Rattle.std.specs.Prelude.{if◌then◌else◌}
 use Rattle.terms.specs.declared.Ends.{Ends}
 use Rattle.terms.specs.declared.Ends.TheVariants.{At, Bad}
 
