@@ -6,12 +6,11 @@ use Rattle.std.proofs.Common.{rules}
 use Rattle.orient.proofs.placed.Goals as goal
 
 pub rename_front-requires : goal.rename_front-requires
-rename_front-requires c =
-    (
-      search rules,
-      search rules,
-      few_names c.args.left.now c.args.right.now _ _ _ c.paste.ensures c.paste-2.ensures c.requires.left_len_bound.2,
-    )
+rename_front-requires c = (
+  search rules,
+  search rules,
+  few_names c.args.left.now c.args.right.now _ _ _ c.paste.ensures c.paste-2.ensures c.requires.left_len_bound.2,
+)
 
 pub returns : goal.returns
 returns c =

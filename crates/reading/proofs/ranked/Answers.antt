@@ -25,11 +25,10 @@ returns-then-table-k-gt-RANK c =
     )
 
 pub loop-k-preserved : goal.loop-k-preserved
-loop-k-preserved c =
-    (
-      search rules,
-      λ at. table_turn _ _ c.loop-k-test.true c.if-table-k-gt-ARITY.false c.if-table-k-gt-RANK.false at ∙ c.loop-k.invariant.1 at,
-    )
+loop-k-preserved c = (
+  search rules,
+  λ at. table_turn _ _ c.loop-k-test.true c.if-table-k-gt-ARITY.false c.if-table-k-gt-RANK.false at ∙ c.loop-k.invariant.1 at,
+)
 
 pub returns : goal.returns
 returns c = λ at. sym (c.loop-k.invariant.1 at) ∙ table_end _ _ _ c.loop-k-test.false
