@@ -30,6 +30,6 @@ returns-in-Written c =
 pub returns-in-Refused : goal.returns-in-Refused
 returns-in-Refused c =
     record {
-      writes = prints_refused _ _ _ _ _ _ _ _ _ c.in-Refused.is c.complete.ensures.answer c.wide.ensures.0 (search rules) c.Put-refused.ensures.1;
-      upper_bound = (let p = c.Put-refused.ensures.0 in let q = c.requires in omega arith);
+      writes = prints_refused _ _ _ _ _ _ _ _ _ c.in-Refused.is c.complete.ensures.answer c.wide.ensures.0 (search rules) c.put_refused.ensures.1;
+      upper_bound = (let p = c.put_refused.ensures.0 in let q = c.requires in omega arith);
     }
