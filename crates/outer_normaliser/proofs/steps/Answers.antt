@@ -1,16 +1,10 @@
 -- `steps`: the invariant is that the definition goes on from the term in the cells. Assumes nothing.
 -- Read first: specs/Outer (ReachedOuter), proofs/Reaching (Going).
 use native.Mathlib.Omega.{arith}
-use types.Run.{OneOf, miss}
 use mathlib.Core.Path.{sym, ◌∙◌}
-use mathlib.Core.List.{[], ◌∷◌}
 use Rattle.outer_normaliser.proofs.Returning.{sized_back}
 use Rattle.outer_normaliser.proofs.Reaching.{going_start, going_more, going_ends}
 use Rattle.outer_normaliser.proofs.steps.Goals as goal
-
--- the tags of the other variants
-not-rewritten : OneOf (0 ∷ 2 ∷ 3 ∷ 4 ∷ []) 1 → ⊥
-not-rewritten = miss (0 ∷ 2 ∷ 3 ∷ 4 ∷ []) 1 tt
 
 pub loop-r-init : goal.loop-r-init
 loop-r-init c =

@@ -13,12 +13,11 @@ pub shape_of-out-in-Cut : goal.shape_of-out-in-Cut
 shape_of-out-in-Cut c = c.loop-i.invariant.same
 
 pub returns-in-Cut : goal.returns-in-Cut
-returns-in-Cut c =
-    (
-      printing_room _ _ c.requires _ _ _ c.loop-i.invariant,
-      no_field _ _ c.requires _ _ _ c.loop-i.invariant c.loop-i-test.true
-          c.in-Cut.ensures _,
-    )
+returns-in-Cut c = (
+  printing_room _ _ c.requires _ _ _ c.loop-i.invariant,
+  no_field _ _ c.requires _ _ _ c.loop-i.invariant c.loop-i-test.true
+      c.in-Cut.ensures _,
+)
 
 pub slice_bounds-put_line-count : goal.slice_bounds-put_line-count
 slice_bounds-put_line-count c = let F = c.in-At.ensures in F.low
@@ -48,8 +47,7 @@ pub shape_of-out : goal.shape_of-out
 shape_of-out c = c.loop-i.invariant.same
 
 pub returns : goal.returns
-returns c =
-    (
-      printing_room _ _ c.requires _ _ _ c.loop-i.invariant,
-      printing_end _ _ c.requires _ _ _ c.loop-i.invariant c.loop-i-test.false,
-    )
+returns c = (
+  printing_room _ _ c.requires _ _ _ c.loop-i.invariant,
+  printing_end _ _ c.requires _ _ _ c.loop-i.invariant c.loop-i-test.false,
+)
