@@ -1,5 +1,6 @@
 -- With enough units a turn ends other than with 21: normalising ends because rules go down in the path order. Assumes nothing.
 -- Read first: completion/specs/Turn, completion/proofs/Steady, rewriting/proofs/Order.
+use Rattle.std.specs.Prelude.{if◌then◌else◌}
 use mathlib.Core.Path.{◌≡◌, refl, subst}
 use mathlib.Core.Bool.{Bool, true, false}
 use mathlib.Core.List.{List, [], ◌∷◌, ◌++◌}
@@ -8,7 +9,6 @@ use mathlib.Core.WellFounded.{Acc}
 use Prim.Native.Nat.{ℕ, suc, ◌+◌}
 use native.Mathlib.Nat.{add_comm}
 use lib.Dec.{ltb}
-use Rattle.std.specs.Prelude.{if◌then◌else◌}
 use Rattle.terms.specs.Base.{Every, of_none, of_cons}
 use Rattle.terms.specs.Term.{Term, Pair, size, renamed}
 use Rattle.terms.proofs.Every.{every_one, every_append}
@@ -202,9 +202,9 @@ module _ (T : Theory) where
     where
       go : (b c : Bool) → above rank e.left e.right ≡ b → above rank e.right e.left ≡ c →
           OrientDown (if b then some (renamed e) else if c then some (renamed (record { left = e.right; right = e.left })) else none)
-      go true c p q = unfold if◌then◌else◌ in renamed_down rank e p
-      go false true p q = unfold if◌then◌else◌ in renamed_down rank (record { left = e.right; right = e.left }) q
-      go false false p q = unfold if◌then◌else◌ in tt
+      go true c p q = renamed_down rank e p
+      go false true p q = renamed_down rank (record { left = e.right; right = e.left }) q
+      go false false p q = tt
 
   module _ (s : State) (d : DownRules rank s.rules) where
     oriented_ending : (t : Taken) (o : Option Pair) → OrientDown o → Ending (if_oriented s t o)

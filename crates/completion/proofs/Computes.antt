@@ -13,7 +13,7 @@ use Rattle.completion.specs.Settle
 use mathlib.Core.List.{flat_map}
 
 unfoldable pub computes : Unit {0}
-unfolding flat_map Base.if◌then◌else◌ Base.mapped Base.or_else Base.is_some Base.number_bytes Base.number_from Base.field_bytes Base.count_from
+unfolding flat_map Base.mapped Base.or_else Base.is_some Base.number_bytes Base.number_from Base.field_bytes Base.count_from
     Base.member Base.without Base.distinct Base.place_in Term.term_bytes Term.terms_bytes Term.size Term.sizes Term.variables Term.variables_of
     Term.same Term.sames Term.subst_term Term.subst_terms Term.subterm_at Term.subterm_in Term.replace_at Term.replace_in Term.pair_variables
     Term.renamed Problem.◌>>=◌ Problem.refuse_if Problem.read_field Problem.due Problem.has Problem.arity_of Problem.rank_of Problem.read_symbols

@@ -1,6 +1,7 @@
 -- The steps of a turn as document 01 and document 02, Six, say them: each law is one of their sentences, of what `turn` and its parts come to when the
 -- steps before have come to something. Assumes nothing.
 -- Read first: specs/Turn.
+use Rattle.std.specs.Prelude.{if◌then◌else◌}
 use mathlib.Core.Path.{◌≡◌, refl, sym, ap, ◌∙◌}
 use mathlib.Core.Bool.{Bool, true, false}
 use mathlib.Core.Logic.{◌⊎◌, inl, inr}
@@ -11,7 +12,6 @@ use native.Mathlib.Omega.{arith}
 use lib.Dec.{leb}
 use lib.ListN.{length}
 use borrow.Author.Tests.{le-leb, lt-leb, lt-ltb, le-ltb}
-use Rattle.std.specs.Prelude.{if◌then◌else◌}
 use Rattle.terms.specs.Term.{Pair, same, pair_variables}
 use Rattle.order.specs.Order.{above}
 use Rattle.rewriting.specs.Overlap.{Rule}
@@ -35,7 +35,7 @@ unfolding scan
 scan_pays_input rules c cs forms units left h d = pays
   where
     pays : scan_inputs rules (c ∷ cs) units ≡ scan_inputs rules cs left
-    pays = unfold scan_inputs ◌>>=◌ and_then if_different if◌then◌else◌ in rw (h, d) refl
+    pays = unfold scan_inputs ◌>>=◌ and_then if_different in rw (h, d) refl
 
 -- and "The first with two different normal forms is taken, as these forms."
 pub scan_takes_input : (rules : List Rule) (c : Candidate) (cs : List Candidate) (forms : Pair) (units left : ℕ) →

@@ -1,5 +1,6 @@
 -- A turn comes to a next state, or to an end for its cause: the one proof that follows a turn step by step. Assumes nothing.
 -- Read first: specs/Turn, proofs/Ends.
+use Rattle.std.specs.Prelude.{if◌then◌else◌}
 use mathlib.Core.Path.{◌≡◌, refl, sym, ap, subst, ◌∙◌}
 use mathlib.Core.Bool.{Bool, true, false}
 use mathlib.Core.Logic.{inl, inr}
@@ -12,7 +13,6 @@ use borrow.Author.Tests.{ltb-true, ltb-false, leb-true, leb-false}
 use Rattle.completion.proofs.Sentences.{MayTake, new_rule, next_state}
 use Rattle.terms.specs.Term.{Pair, same, pair_variables, renamed}
 use Rattle.terms.proofs.Shape.{none≢some, some_inj, same_dec}
-use Rattle.std.specs.Prelude.{if◌then◌else◌}
 use Rattle.terms.specs.Base.{Every, of_none, of_cons}
 use Rattle.terms.proofs.Below.{swapped}
 use Rattle.terms.proofs.Every.{every_of}
@@ -129,9 +129,9 @@ module _ (T : Theory) (s : State) where
     where
       go : (b c : Bool) → above (rank_of T.symbols) e.left e.right ≡ b → above (rank_of T.symbols) e.right e.left ≡ c →
           OrientedAs T e (if b then some (renamed e) else if c then some (renamed (swapped e)) else none)
-      go true c p q = unfold if◌then◌else◌ in as_taken p refl
-      go false true p q = unfold if◌then◌else◌ in other_way q refl
-      go false false p q = unfold if◌then◌else◌ in record { not_left = p; not_right = q }
+      go true c p q = as_taken p refl
+      go false true p q = other_way q refl
+      go false false p q = record { not_left = p; not_right = q }
 
   module _ (sides : Pair) (due : Due T s sides) (live : suc (length (older_rules s sides)) ≤ 32) where
     abbrev new : Rule

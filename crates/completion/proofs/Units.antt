@@ -6,11 +6,12 @@ use mathlib.Core.List.{List}
 use mathlib.Core.Option.{Option, none, some}
 use Prim.Native.Nat.{ℕ, zero, suc, ◌≤◌}
 use native.Mathlib.Omega.{arith}
-use Rattle.std.specs.Prelude.{if◌then◌else◌}
-use Rattle.terms.specs.Term.{Term}
+use Rattle.std.specs.Prelude.{if◌then◌else◌, ltb}
+use Rattle.limits.specs.Limits.{most_nodes}
+use Rattle.terms.specs.Term.{Term, size}
 use Rattle.problem.specs.Problem.{Theory}
 use Rattle.rewriting.specs.Overlap.{Rule}
-use Rattle.rewriting.specs.Rewrite.{step, End, Paid, done, stop, Paying, return, end_with, and_then, ◌>>=◌, pay, normalise, normalise_by}
+use Rattle.rewriting.specs.Rewrite.{step, too_large, End, Paid, done, stop, Paying, return, end_with, and_then, ◌>>=◌, pay, normalise, normalise_by}
 use Rattle.completion.proofs.Lawful.{Lawful, rest_lawful}
 use Rattle.completion.specs.Turn.{State, turn}
 
@@ -59,7 +60,8 @@ normalise_fair rules t (suc left) = go (step rules t) refl (λ u. normalise_fair
   where
     go : (o : Option Term) → step rules t ≡ o → ((u : Term) → left_of (normalise rules u left) ≤ left) → left_of (normalise rules t (suc left)) ≤ suc left
     go none e ih = rw (e, normalise_by) (omega arith)
-    go (some u) e ih = let h = ih u in rw (e, normalise_by) (if_left _ _ _ (suc left) (omega arith) (omega arith))
+    go (some u) e ih = let h = ih u in rw (e, normalise_by)
+        (if_left (ltb most_nodes (size u)) (stop too_large left) (normalise rules u left) (suc left) (omega arith) (omega arith))
 
 pub fair : Lawful (λ A m. Fair m)
 unfolding Fair

@@ -7,7 +7,6 @@ use native.Mathlib.Omega.{arith}
 use lib.ListN.{length}
 use borrow.Author.Tests.{lt-ltb, le-ltb}
 use Rattle.limits.specs.Limits.{most_pair, most_rules, most_entries, field_head, rule_width, entry_width, forms_width, most_result}
-use Rattle.std.specs.Prelude.{if◌then◌else◌}
 use Rattle.terms.specs.Base.{number_bytes, Field, field_bytes}
 use Rattle.rewriting.specs.declared.End.{End as Ending}
 use Rattle.rewriting.specs.declared.End.TheVariants.{Complete, NeitherAbove, Spent, TooLarge, RulesFull, LogFull}
@@ -37,7 +36,7 @@ module _ (out : List ℕ) (at : ℕ) where
 
   module _ (end : Ending) (slots : List ℕ) (live count : ℕ) (neither : end ≡ NeitherAbove) where
     pub none_oldest : count ≤ live → PutsSome forms_width out at 1 (oldest_if end slots live count) out at
-    none_oldest h = nothing _ (unfold oldest_if if◌then◌else◌ in rw (neither, le-ltb live count h) refl)
+    none_oldest h = nothing _ (unfold oldest_if in rw (neither, le-ltb live count h) refl)
 
     pub oldest_put : {out' : List ℕ} {r : ℕ} → live < count →
         PutsSome (field_head + 0 + most_pair) out at 1 (field_bytes (pair_field 0x14 [] slots live)) out' r →
