@@ -20,7 +20,7 @@ use Rattle.completion.specs.Promise.{Promise}
 use Rattle.completion.proofs.OverRules.{OverRules, above_brings}
 use Rattle.checkpoint.specs.Wrote.{EngineWrote}
 use Rattle.checkpoint.proofs.Delivers.{engine_kept}
-use Rattle.decide.specs.Decide.{Answer, are_same, are_different, Counted, question_call}
+use Rattle.decide.specs.Decide.{numbered, Answer, are_same, are_different, Counted, question_call}
 use Rattle.decide.specs.Answers.{without_units, AboutRules, WroteFor, AboutEquations, NotRefused, Compares, Agrees}
 use Rattle.decide.proofs.Right.{word_last, reply, about_rules}
 use Rattle.decide.proofs.Answering.{same_leads, different_leads, about_equations, not_refused}
@@ -53,6 +53,9 @@ last_terms kept T f wrote e t u v budget left budget' left' o inner outer =
 module _ (next other : List Rule → Term → Option Term) (R : (rules : List Rule) → Rewrites rules (next rules))
     (Q : (rules : List Rule) → Rewrites rules (other rules)) (problem kept : List ℕ) (w : WroteFor problem kept) where
   one_answer : (a b : Answer) → Compares a → Compares b → reply next problem kept ≡ ok a → reply other problem kept ≡ ok b → a ≡ b
+  one_answer are_same (numbered _) x y e d = elim y [ ]
+  one_answer are_different (numbered _) x y e d = elim y [ ]
+  one_answer (numbered _) b x y e d = elim x [ ]
   one_answer are_same are_same x y e d = refl
   one_answer are_same are_different x y e d = absurd (different_leads problem kept w other Q d (same_leads problem kept w next R e))
   one_answer are_different are_same x y e d = absurd (different_leads problem kept w next R e (same_leads problem kept w other Q d))

@@ -7,10 +7,10 @@ use mathlib.Core.Bool.{Bool, true, false}
 use mathlib.Core.List.{List, [], ◌∷◌}
 use mathlib.Core.Logic.{◌↔◌, ◌⊎◌, ⊎_elim}
 use mathlib.Core.Option.{Option}
-use Prim.Native.Nat.{ℕ}
+use Prim.Native.Nat.{ℕ, ◌+◌}
 use native.Mathlib.Omega.{arith}
 use lib.Dec.{eqb}
-use Rattle.terms.specs.Term.{Term, Pair}
+use Rattle.terms.specs.Term.{Term, Pair, size}
 use Rattle.terms.proofs.Shape.{zero≢one, Says}
 use Rattle.reading.specs.Stops.{wrong_record, not_complete, not_above}
 use Rattle.problem.specs.Problem.{Reading, ok, refused, ◌>>=◌, refuse_if, Symbol, Theory}
@@ -49,7 +49,8 @@ zero_end log_full = λ h. zero≢one (cc)
 keep_above : (Σ : List Symbol) (at before : ℕ) (rules : List Rule) → RulesKeep Σ before rules → all_above Σ (rules_at at rules) ≡ ok tt
 unfolding all_above rules_at RulesKeep ◌>>=◌ refuse_if
 keep_above Σ at before [] h = refl
-keep_above Σ at before (r ∷ rules) h = rw h.0.down (keep_above Σ _ r.number rules h.1)
+keep_above Σ at before (r ∷ rules) h =
+    rw h.0.down (keep_above Σ (at + 5 + size r.sides.left + size r.sides.right) r.number rules h.1)
 
 module _ (problem kept : List ℕ) (w : WroteFor problem kept) where
   abbrev T : Theory

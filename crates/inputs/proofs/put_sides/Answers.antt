@@ -6,12 +6,11 @@ use Rattle.std.proofs.Common.{rules}
 use Rattle.inputs.proofs.put_sides.Goals as goal
 
 pub rename_front-requires : goal.rename_front-requires
-rename_front-requires c =
-    (
-      search rules,
-      search rules,
-      few_names _ _ _ _ _ c.side_end-m.ensures c.side_end-e.ensures _ _ c.paste.ensures,
-    )
+rename_front-requires c = (
+  search rules,
+  search rules,
+  few_names _ _ _ _ _ c.side_end-m.ensures c.side_end-e.ensures _ _ c.paste.ensures,
+)
 
 pub returns : goal.returns
 returns c =

@@ -18,7 +18,7 @@ loop-k-init c =
 pub put_equation-i-requires : goal.put_equation-i-requires
 put_equation-i-requires c =
     record {
-      k_in_bounds = ( layout_room c.loop-k.invariant.2.layout c.loop-k-test.true, (let a = c.loop-k-test.true in let b = c.requires.1 in omega arith), );
+      k_in_bounds = (layout_room c.loop-k.invariant.2.layout c.loop-k-test.true, (let a = c.loop-k-test.true in let b = c.requires.1 in omega arith));
       source_len_bound = c.requires.0;
     }
 

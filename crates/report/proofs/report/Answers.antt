@@ -19,7 +19,7 @@ put_rules-c-requires c =
 
 pub put_oldest-requires : goal.put_oldest-requires
 put_oldest-requires c =
-    let state_fine : Fine c.args.self = c.requires.fine in
+    let state_fine : Fine c.args.state = c.requires.fine in
     (search rules, state_fine.layout)
 
 pub returns : goal.returns

@@ -8,7 +8,7 @@ use Rattle.saving.proofs.put_state.Goals as goal
 
 pub put_rules-b-requires : goal.put_rules-b-requires
 put_rules-b-requires c =
-    let fine = (entry-of-first (search depth 0)).requires.1 in
+    let fine = c.requires.fine in
     record {
       count_in_bounds = search rules;
       layout = layout_less fine.within fine.layout;
@@ -16,7 +16,7 @@ put_rules-b-requires c =
 
 pub put_waiting-c-requires : goal.put_waiting-c-requires
 put_waiting-c-requires c =
-    let fine = (entry-of-first (first-of-rules (search depth 0))).requires.1 in
+    let fine = c.requires.fine in
     record {
       count_in_bounds = search rules;
       layout = layout_less (omega (arith, fine.within)) fine.layout;

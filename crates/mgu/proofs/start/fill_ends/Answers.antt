@@ -10,7 +10,7 @@ loop-i-init c = ended_start _ _ _
 pub hop-requires : goal.hop-requires
 hop-requires c =
     record {
-      p_in_bounds = ( omega (arith, c.loop-i.invariant.within, c.loop-i-test.true), c.requires.0, omega (arith, c.loop-i.invariant.long, c.requires.1), );
+      p_in_bounds = (omega (arith, c.loop-i.invariant.within, c.loop-i-test.true), c.requires.0, omega (arith, c.loop-i.invariant.long, c.requires.1));
       ends_from = ended_later _ _ _ _ _ c.loop-i.invariant c.loop-i-test.true;
     }
 
