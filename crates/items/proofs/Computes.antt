@@ -5,6 +5,7 @@ use Rattle.completion.proofs.Computes.{computes}
 use Rattle.items.specs.Fields
 
 unfoldable pub items_compute : Unit {0}
-unfolding computes Fields.or_refuse Fields.demand Fields.one_field Fields.read_number Fields.fields_there Fields.is_renamed Fields.renamed_pair Fields.rule_sides
+unfolding computes Fields.or_refuse Fields.demand Fields.one_field Fields.read_number Fields.fields_there Fields.is_renamed Fields.renamed_pair
+    Fields.rule_sides
     Fields.read_rule Fields.number_before Fields.read_rule_at Fields.read_kind Fields.read_forms
 items_compute = tt

@@ -33,7 +33,8 @@ slot_bound tab T n (suc k) a none h e s = absurd s
 slot_bound tab T n (suc k) a (some u) h e s = let q : k ≡ a = omega arith in (u, refl, subst (λ z. Stands tab T n z u) q s)
 
 -- `same_cells`
-pub same_more : (a b : List ℕ) (i : ℕ) → i < length a → length a ≡ length b → take i a ≡ take i b → get_or a i 0 ≡ get_or b i 0 → take (i + 1) a ≡ take (i + 1) b
+pub same_more : (a b : List ℕ) (i : ℕ) → i < length a → length a ≡ length b → take i a ≡ take i b → get_or a i 0 ≡ get_or b i 0 → take (i + 1) a ≡ take
+    (i + 1) b
 same_more a b i h l e d = rw (add-one i) (take-suc a i 0 h ∙ ap₂ (λ x c. x ++ (c ∷ [])) e d ∙ sym (take-suc b i 0 (omega arith)))
 
 pub same_all : (a b : List ℕ) (i : ℕ) → length a ≤ i → length a ≡ length b → take i a ≡ take i b → a ≡ b

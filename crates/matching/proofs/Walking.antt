@@ -131,7 +131,8 @@ goes_over left T i j B₀ B h k s w g = record {
 abbrev Turned : List ℕ → List ℕ → List ℕ → ℕ → ℕ → ℕ → List ℕ → Option (List Binding) → Type 0
 Turned tab left T n i r B m = (r ≡ 0 → m ≡ none) × ((r ≡ 0 → ⊥) → Going tab left T n (i + 1) r B m)
 
-module _ (tab left T : List ℕ) (n i j : ℕ) (B : List ℕ) (r : ℕ) (B' : List ℕ) (h : i < length left) (k : j < length T) (a : Advanced T (get_or left i 0) j B r B')
+module _ (tab left T : List ℕ) (n i j : ℕ) (B : List ℕ) (r : ℕ) (B' : List ℕ) (h : i < length left) (k : j < length T)
+    (a : Advanced T (get_or left i 0) j B r B')
     (m : Option (List Binding)) (rest : List ℕ) (tail : n + length rest ≡ length T) where
   var_go : (x : Term) (ls xs : Terms) → Wfs 16 tab ls → Wfs 32 tab xs → count ls ≡ count xs → drop (suc i) left ≡ terms_bytes ls →
       drop j T ≡ cells x ++ (cells_all xs ++ rest) →

@@ -77,7 +77,8 @@ module _ (result out₀ : List ℕ) (big : 4 * length result ≤ length out₀) 
       a + length (line f ++ flat_map line rest) ≡ length (flat_map line fs) → C) → C
   with_next {C} fs h e l k = let q : Lining result out₀ fs i a out = p.lines fs h e in go q.rest q.short q.left q.to_do q.total
     where
-      go : (rest : List Field) → Short rest → drop i result ≡ flat_map field_bytes rest → patched a (flat_map line rest) out ≡ patched 0 (flat_map line fs) out₀ →
+      go : (rest : List Field) → Short rest → drop i result ≡ flat_map field_bytes rest → patched a (flat_map line rest) out ≡ patched 0
+          (flat_map line fs) out₀ →
           a + length (flat_map line rest) ≡ length (flat_map line fs) → C
       go [] s left to_do total = absurd (omega (arith, length-drop i result, ap length left ∙ none_left))
       go (f ∷ rest) (of_cons q s) left to_do total =

@@ -84,7 +84,8 @@ two (a ∷ (b ∷ (c ∷ l))) h = refl
 
 module _ (slots : List ℕ) (k : ℕ) (r : slot_width * (k + 1) ≤ length slots) where
   pub mark_bytes : (a : ℕ) → a ≡ slot_width * k →
-      get_or slots a 0 ∷ (get_or slots (a + 1) 0 ∷ (get_or slots (a + 2) 0 ∷ (get_or slots (a + 3) 0 ∷ (get_or slots (a + 4) 0 ∷ (get_or slots (a + 5) 0 ∷ [])))))
+      get_or slots a 0 ∷ (get_or slots (a + 1) 0 ∷
+      (get_or slots (a + 2) 0 ∷ (get_or slots (a + 3) 0 ∷ (get_or slots (a + 4) 0 ∷ (get_or slots (a + 5) 0 ∷ [])))))
       ≡ mark_of (slot slots k)
   unfolding mark_of
   mark_bytes a e =
@@ -108,7 +109,8 @@ module _ (slots : List ℕ) (k : ℕ) (r : slot_width * (k + 1) ≤ length slots
 pub overlapping_at : (rules : List ℕ) (inner outer position a b : ℕ) → slot_width * (inner + 1) ≤ length rules →
     slot_width * (outer + 1) ≤ length rules → position < 256 →
     a ≡ slot_width * inner + 1 → b ≡ slot_width * outer + 1 →
-    4 ∷ (get_or rules a 0 ∷ (get_or rules (a + 1) 0 ∷ (get_or rules b 0 ∷ (get_or rules (b + 1) 0 ∷ (position ∷ []))))) ≡ overlapping_bytes rules inner outer position
+    4 ∷ (get_or rules a 0 ∷ (get_or rules (a + 1) 0 ∷ (get_or rules b 0 ∷ (get_or rules (b + 1) 0 ∷ (position ∷ []))))) ≡ overlapping_bytes rules inner
+    outer position
 unfolding number_bytes
 overlapping_at rules inner outer position a b h k p e f =
     ap₂ (λ x y. 4 ∷ (x ++ y ++ (position ∷ []))) (number_bytes_at rules inner h a e) (number_bytes_at rules outer k b f)

@@ -45,7 +45,13 @@ hold_pair-requires c =
     let F = W.held in
     let room = c.requires.most_pairs_in_bounds in
     record {
-      at_le_middle = (omega (arith, F.middle), omega (arith, F.middle, F.left_small), omega (arith, F.ends), omega (arith, F.ends, F.right_small), W.one.within);
+      at_le_middle = (
+        omega (arith, F.middle),
+        omega (arith, F.middle, F.left_small),
+        omega (arith, F.ends),
+        omega (arith, F.ends, F.right_small),
+        W.one.within,
+      );
       mark_len = (search rules, omega (arith, room, s.0, s.1.few, c.if-k-eq-PAIRS.false));
     }
 

@@ -20,7 +20,8 @@ returns-then-nodes-r c =
 
 pub apart-requires : goal.apart-requires
 apart-requires c =
-    let all = ready_arguments _ _ _ _ c.requires.ready _ _ _ c.requires.i_in_bounds c.wide-r.ensures.0 c.if-f-ge-VARIABLE.false c.if-nodes-r.false c.owed_by-k.ensures.0 in
+    let all = ready_arguments _ _ _ _ c.requires.ready _ _ _ c.requires.i_in_bounds c.wide-r.ensures.0 c.if-f-ge-VARIABLE.false c.if-nodes-r.false
+    c.owed_by-k.ensures.0 in
     record {
       ready = all.0;
       spells_some = all.1;

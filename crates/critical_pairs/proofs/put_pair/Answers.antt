@@ -27,27 +27,37 @@ rename_front-requires c =
 
 pub slice_bounds-put_sides-end : goal.slice_bounds-put_sides-end
 slice_bounds-put_sides-end c =
-    let halves : Halves c.write-e.result c.write-f.result c.rename_front.new.out c.requires.both_small.0 c.requires.both_small.1 = pair_halves c.requires.ready.0 c.requires.ready.1 c.requires.both_small (omega (arith, length-replicate {A = ℕ} 240 0)) c.write-e.ensures c.write-f.ensures c.rename_front.ensures in
+    let halves : Halves c.write-e.result c.write-f.result c.rename_front.new.out c.requires.both_small.0 c.requires.both_small.1 =
+    pair_halves c.requires.ready.0 c.requires.ready.1 c.requires.both_small (omega (arith, length-replicate {A = ℕ} 240 0)) c.write-e.ensures
+    c.write-f.ensures c.rename_front.ensures in
     let h = halves in let a = h.order in let b = h.inside in omega arith
 
 pub slice_bounds-put_sides-count-2 : goal.slice_bounds-put_sides-count-2
 slice_bounds-put_sides-count-2 c =
-    let halves : Halves c.write-e.result c.write-f.result c.rename_front.new.out c.requires.both_small.0 c.requires.both_small.1 = pair_halves c.requires.ready.0 c.requires.ready.1 c.requires.both_small (omega (arith, length-replicate {A = ℕ} 240 0)) c.write-e.ensures c.write-f.ensures c.rename_front.ensures in
+    let halves : Halves c.write-e.result c.write-f.result c.rename_front.new.out c.requires.both_small.0 c.requires.both_small.1 =
+    pair_halves c.requires.ready.0 c.requires.ready.1 c.requires.both_small (omega (arith, length-replicate {A = ℕ} 240 0)) c.write-e.ensures
+    c.write-f.ensures c.rename_front.ensures in
     halves.order
 
 pub slice_bounds-put_sides-start-2 : goal.slice_bounds-put_sides-start-2
 slice_bounds-put_sides-start-2 c =
-    let halves : Halves c.write-e.result c.write-f.result c.rename_front.new.out c.requires.both_small.0 c.requires.both_small.1 = pair_halves c.requires.ready.0 c.requires.ready.1 c.requires.both_small (omega (arith, length-replicate {A = ℕ} 240 0)) c.write-e.ensures c.write-f.ensures c.rename_front.ensures in
+    let halves : Halves c.write-e.result c.write-f.result c.rename_front.new.out c.requires.both_small.0 c.requires.both_small.1 =
+    pair_halves c.requires.ready.0 c.requires.ready.1 c.requires.both_small (omega (arith, length-replicate {A = ℕ} 240 0)) c.write-e.ensures
+    c.write-f.ensures c.rename_front.ensures in
     halves.order
 
 pub slice_bounds-put_sides-end-2 : goal.slice_bounds-put_sides-end-2
 slice_bounds-put_sides-end-2 c =
-    let halves : Halves c.write-e.result c.write-f.result c.rename_front.new.out c.requires.both_small.0 c.requires.both_small.1 = pair_halves c.requires.ready.0 c.requires.ready.1 c.requires.both_small (omega (arith, length-replicate {A = ℕ} 240 0)) c.write-e.ensures c.write-f.ensures c.rename_front.ensures in
+    let halves : Halves c.write-e.result c.write-f.result c.rename_front.new.out c.requires.both_small.0 c.requires.both_small.1 =
+    pair_halves c.requires.ready.0 c.requires.ready.1 c.requires.both_small (omega (arith, length-replicate {A = ℕ} 240 0)) c.write-e.ensures
+    c.write-f.ensures c.rename_front.ensures in
     halves.inside
 
 pub put_sides-requires : goal.put_sides-requires
 put_sides-requires c =
-    let halves : Halves c.write-e.result c.write-f.result c.rename_front.new.out c.requires.both_small.0 c.requires.both_small.1 = pair_halves c.requires.ready.0 c.requires.ready.1 c.requires.both_small (omega (arith, length-replicate {A = ℕ} 240 0)) c.write-e.ensures c.write-f.ensures c.rename_front.ensures in
+    let halves : Halves c.write-e.result c.write-f.result c.rename_front.new.out c.requires.both_small.0 c.requires.both_small.1 =
+    pair_halves c.requires.ready.0 c.requires.ready.1 c.requires.both_small (omega (arith, length-replicate {A = ℕ} 240 0)) c.write-e.ensures
+    c.write-f.ensures c.rename_front.ensures in
     record {
       k_in_bounds = c.requires.layout.room;
       left_len_bound = halves.short;
@@ -55,5 +65,7 @@ put_sides-requires c =
 
 pub returns : goal.returns
 returns c =
-    let halves : Halves c.write-e.result c.write-f.result c.rename_front.new.out c.requires.both_small.0 c.requires.both_small.1 = pair_halves c.requires.ready.0 c.requires.ready.1 c.requires.both_small (omega (arith, length-replicate {A = ℕ} 240 0)) c.write-e.ensures c.write-f.ensures c.rename_front.ensures in
+    let halves : Halves c.write-e.result c.write-f.result c.rename_front.new.out c.requires.both_small.0 c.requires.both_small.1 =
+    pair_halves c.requires.ready.0 c.requires.ready.1 c.requires.both_small (omega (arith, length-replicate {A = ℕ} 240 0)) c.write-e.ensures
+    c.write-f.ensures c.rename_front.ensures in
     pair_put c.requires.ready.0 c.requires.ready.1 c.requires.both_small halves c.put_sides.ensures

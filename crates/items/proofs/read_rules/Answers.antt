@@ -44,7 +44,13 @@ hold_pair-requires c =
     let F = R.held in
     let room = c.requires.most_rules_in_bounds in
     record {
-      at_le_middle = (omega (arith, F.middle), omega (arith, F.middle, F.left_small), omega (arith, F.ends), omega (arith, F.ends, F.right_small), R.one.within);
+      at_le_middle = (
+        omega (arith, F.middle),
+        omega (arith, F.middle, F.left_small),
+        omega (arith, F.ends),
+        omega (arith, F.ends, F.right_small),
+        R.one.within,
+      );
       mark_len = (search rules, omega (arith, room, s.0, s.1.slotted.few, c.if-count-eq-RULES.false));
     }
 

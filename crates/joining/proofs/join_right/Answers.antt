@@ -12,7 +12,8 @@ use Rattle.joining.proofs.join_right.Goals as goal
 
 pub slice_bounds-eq-end : goal.slice_bounds-eq-end
 slice_bounds-eq-end c =
-    let inside : c.in-Normal.n ≤ length c.last_term-r.new.out = let a = few_bytes c.last_term-r.ensures c.in-Normal.is in let b = c.last_term-r.ensures.same in search rules in
+    let inside : c.in-Normal.n ≤ length c.last_term-r.new.out =
+    let a = few_bytes c.last_term-r.ensures c.in-Normal.is in let b = c.last_term-r.ensures.same in search rules in
     let h = inside in
     search rules
 
@@ -23,7 +24,8 @@ returns-then-eq c =
 
 pub slice_bounds-put_sides-end : goal.slice_bounds-put_sides-end
 slice_bounds-put_sides-end c =
-    let inside : c.in-Normal.n ≤ length c.last_term-r.new.out = let a = few_bytes c.last_term-r.ensures c.in-Normal.is in let b = c.last_term-r.ensures.same in search rules in
+    let inside : c.in-Normal.n ≤ length c.last_term-r.new.out =
+    let a = few_bytes c.last_term-r.ensures c.in-Normal.is in let b = c.last_term-r.ensures.same in search rules in
     let h = inside in
     search rules
 

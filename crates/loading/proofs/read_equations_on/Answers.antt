@@ -27,7 +27,17 @@ read_behind-requires c =
     let Q = found in
     let N = c.in-Value.ensures in
     record {
-      front_at = record { small = c.requires.saved_len_bound.0; table = c.requires.saved_len_bound.1; equations = Q.0; there = Q.1; number = Q.2; next = N.0; next_some = N.1; next_few = N.2 };
+      front_at = record {
+        small = c.requires.saved_len_bound.0;
+        table = c.requires.saved_len_bound.1;
+        equations = Q.0;
+        there = Q.1;
+        number = Q.2;
+        next =
+            N.0;
+        next_some = N.1;
+        next_few = N.2;
+      };
       most_pairs_in_bounds = c.requires.most_pairs_in_bounds;
     }
 

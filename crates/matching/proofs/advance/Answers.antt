@@ -23,7 +23,8 @@ again-requires c =
     let a = c.args in
     record {
       j_in_bounds = search rules;
-      a_in_bounds = held_at a.t.now a.binds.now (c.wide-x.result - 128) _ c.requires.most_variables_in_bounds.1 c.if-x-ge-VARIABLES.false c.wide-k.ensures.0 c.if-k-gt0.true;
+      a_in_bounds = held_at a.t.now a.binds.now (c.wide-x.result - 128) _ c.requires.most_variables_in_bounds.1 c.if-x-ge-VARIABLES.false
+          c.wide-k.ensures.0 c.if-k-gt0.true;
     }
 
 pub returns-then-k-gt0 : goal.returns-then-k-gt0

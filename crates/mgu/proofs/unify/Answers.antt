@@ -19,7 +19,8 @@ measure-requires c = (c.close.ensures.ready, c.requires.nodes_len_bound.3)
 
 pub returns-then-close : goal.returns-then-close
 returns-then-close c =
-    let all = begun_answer _ _ _ _ c.requires.laid_out.1 c.requires.laid_out.2 _ _ c.begin.ensures c.close.new.class c.close.result c.close.ensures.closed_to c.if-close.true _ c.measure.result c.measure.ensures in
+    let all = begun_answer _ _ _ _ c.requires.laid_out.1 c.requires.laid_out.2 _ _ c.begin.ensures c.close.new.class c.close.result
+    c.close.ensures.closed_to c.if-close.true _ c.measure.result c.measure.ensures in
     record {
       decided = all.0;
       solved_if = all.1;
@@ -27,7 +28,8 @@ returns-then-close c =
 
 pub returns : goal.returns
 returns c =
-    let all = begun_never _ _ _ _ c.requires.laid_out.1 c.requires.laid_out.2 _ _ c.begin.ensures c.close.new.class c.args.sizes.now c.close.result c.close.ensures.closed_to c.if-close.false in
+    let all = begun_never _ _ _ _ c.requires.laid_out.1 c.requires.laid_out.2 _ _ c.begin.ensures c.close.new.class c.args.sizes.now c.close.result
+    c.close.ensures.closed_to c.if-close.false in
     record {
       decided = all.0;
       solved_if = all.1;

@@ -47,7 +47,8 @@ overflow_add-i c =
 
 pub overflow_sub-first-in-loop-first : goal.overflow_sub-first-in-loop-first
 overflow_sub-first-in-loop-first c =
-    let step_at : Step c.loop-first.invariant c.loop-first-test.true c.wide-q.result c.wide-q.ensures.0 c.wide-r.result c.owed_by-n.result c.wide-r.ensures.0 c.owed_by-n.ensures.0 = step _ _ _ _ _ _ _ _ in
+    let step_at : Step c.loop-first.invariant c.loop-first-test.true c.wide-q.result c.wide-q.ensures.0 c.wide-r.result c.owed_by-n.result c.wide-r.ensures.0 c.owed_by-n.ensures.0 =
+    step _ _ _ _ _ _ _ _ in
     step_at.owes_few
 
 pub slice_bounds-list-end : goal.slice_bounds-list-end
@@ -55,7 +56,8 @@ slice_bounds-list-end c = search (rules, c.loop-first.invariant.room)
 
 pub list-requires : goal.list-requires
 list-requires c =
-    let step_at : Step c.loop-first.invariant c.loop-first-test.true c.wide-q.result c.wide-q.ensures.0 c.wide-r.result c.owed_by-n.result c.wide-r.ensures.0 c.owed_by-n.ensures.0 = step _ _ _ _ _ _ _ _ in
+    let step_at : Step c.loop-first.invariant c.loop-first-test.true c.wide-q.result c.wide-q.ensures.0 c.wide-r.result c.owed_by-n.result c.wide-r.ensures.0 c.owed_by-n.ensures.0 =
+    step _ _ _ _ _ _ _ _ in
     step_at.lists
 
 pub loop-first-smaller : goal.loop-first-smaller
@@ -65,7 +67,8 @@ loop-first-smaller c =
 
 pub loop-first-preserved : goal.loop-first-preserved
 loop-first-preserved c =
-    let step_at : Step c.loop-first.invariant c.loop-first-test.true c.wide-q.result c.wide-q.ensures.0 c.wide-r.result c.owed_by-n.result c.wide-r.ensures.0 c.owed_by-n.ensures.0 = step _ _ _ _ _ _ _ _ in
+    let step_at : Step c.loop-first.invariant c.loop-first-test.true c.wide-q.result c.wide-q.ensures.0 c.wide-r.result c.owed_by-n.result c.wide-r.ensures.0 c.owed_by-n.ensures.0 =
+    step _ _ _ _ _ _ _ _ in
     step_at.goes_on _ c.list.ensures
 
 pub shape_of-out : goal.shape_of-out

@@ -10,7 +10,12 @@ use Rattle.orient.proofs.renamed.Goals as goal
 pub placed-requires : goal.placed-requires
 placed-requires c =
     record {
-      left_len_bound = (c.left.ensures.result_len_bound, c.right.ensures.result_len_bound, subst LowBytes (sym (ap₂ ◌++◌ c.left.ensures.result_value c.right.ensures.result_value)) c.requires.1);
+      left_len_bound = (
+        c.left.ensures.result_len_bound,
+        c.right.ensures.result_len_bound,
+        subst LowBytes
+            (sym (ap₂ ◌++◌ c.left.ensures.result_value c.right.ensures.result_value)) c.requires.1,
+      );
       mark_len = search rules;
     }
 

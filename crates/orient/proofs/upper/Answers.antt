@@ -5,7 +5,8 @@ use native.Mathlib.Omega.{arith}
 use Rattle.orient.proofs.upper.Goals as goal
 
 pub returns-then-variable_count-gt-MOST_VARIABLES : goal.returns-then-variable_count-gt-MOST_VARIABLES
-returns-then-variable_count-gt-MOST_VARIABLES c = upper_many _ _ _ _ c.variable_count.ensures (let a = c.if-variable_count-gt-MOST_VARIABLES.true in omega arith)
+returns-then-variable_count-gt-MOST_VARIABLES c = upper_many _ _ _ _ c.variable_count.ensures
+    (let a = c.if-variable_count-gt-MOST_VARIABLES.true in omega arith)
 
 pub returns-then-above : goal.returns-then-above
 returns-then-above c =

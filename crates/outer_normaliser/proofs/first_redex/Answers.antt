@@ -33,13 +33,15 @@ find-k-requires c =
 
 pub returns-then-k-count : goal.returns-then-k-count
 returns-then-k-count c =
-    let tried : FoundRule c.args.rules.now (drop c.loop-i.i c.args.t.now) c.args.count c.find-k.result c.loop-i.binds c.find-k.new.binds = rw (from_drop c.args.t.now c.loop-i.i) at c.find-k.ensures in
+    let tried : FoundRule c.args.rules.now (drop c.loop-i.i c.args.t.now) c.args.count c.find-k.result c.loop-i.binds c.find-k.new.binds =
+    rw (from_drop c.args.t.now c.loop-i.i) at c.find-k.ensures in
     let many : length c.find-k.new.binds ≡ length c.args.binds.now = tried.same ∙ c.loop-i.invariant.1 in
     look_found c.loop-i.invariant.2 c.loop-i-test.true tried c.if-k-count.true many
 
 pub loop-i-preserved-then-n-eq0 : goal.loop-i-preserved-then-n-eq0
 loop-i-preserved-then-n-eq0 c =
-    let tried : FoundRule c.args.rules.now (drop c.loop-i.i c.args.t.now) c.args.count c.find-k.result c.loop-i.binds c.find-k.new.binds = rw (from_drop c.args.t.now c.loop-i.i) at c.find-k.ensures in
+    let tried : FoundRule c.args.rules.now (drop c.loop-i.i c.args.t.now) c.args.count c.find-k.result c.loop-i.binds c.find-k.new.binds =
+    rw (from_drop c.args.t.now c.loop-i.i) at c.find-k.ensures in
     let many : length c.find-k.new.binds ≡ length c.args.binds.now = tried.same ∙ c.loop-i.invariant.1 in
     let k = c.loop-i-test.true in
     let r = c.if-k-count.false in
@@ -58,7 +60,8 @@ overflow_add-i-else-n-eq0 c =
 
 pub shape_of-binds-then-k-count : goal.shape_of-binds-then-k-count
 shape_of-binds-then-k-count c =
-    let tried : FoundRule c.args.rules.now (drop c.loop-i.i c.args.t.now) c.args.count c.find-k.result c.loop-i.binds c.find-k.new.binds = rw (from_drop c.args.t.now c.loop-i.i) at c.find-k.ensures in
+    let tried : FoundRule c.args.rules.now (drop c.loop-i.i c.args.t.now) c.args.count c.find-k.result c.loop-i.binds c.find-k.new.binds =
+    rw (from_drop c.args.t.now c.loop-i.i) at c.find-k.ensures in
     let many : length c.find-k.new.binds ≡ length c.args.binds.now = tried.same ∙ c.loop-i.invariant.1 in
     many
 

@@ -9,18 +9,21 @@ use Rattle.outer_normaliser.proofs.step.Goals as goal
 
 pub returns-then-at-len : goal.returns-then-at-len
 returns-then-at-len c =
-    let looked : Sought c.args.rules.now c.args.t.now c.args.count c.args.len c.args.clean c.first_redex-f.new.binds c.first_redex-f.result = sought (take_less_zero c.args.len c.args.t.now) c.first_redex-f.ensures c.requires.len_le_most_nodes.0 c.requires.len_le_most_nodes.1 in
+    let looked : Sought c.args.rules.now c.args.t.now c.args.count c.args.len c.args.clean c.first_redex-f.new.binds c.first_redex-f.result =
+    sought (take_less_zero c.args.len c.args.t.now) c.first_redex-f.ensures c.requires.len_le_most_nodes.0 c.requires.len_le_most_nodes.1 in
     step_none looked c.if-at-len.true c.ended.ensures
 
 pub returns-then-units-eq0 : goal.returns-then-units-eq0
 returns-then-units-eq0 c =
-    let looked : Sought c.args.rules.now c.args.t.now c.args.count c.args.len c.args.clean c.first_redex-f.new.binds c.first_redex-f.result = sought (take_less_zero c.args.len c.args.t.now) c.first_redex-f.ensures c.requires.len_le_most_nodes.0 c.requires.len_le_most_nodes.1 in
+    let looked : Sought c.args.rules.now c.args.t.now c.args.count c.args.len c.args.clean c.first_redex-f.new.binds c.first_redex-f.result =
+    sought (take_less_zero c.args.len c.args.t.now) c.first_redex-f.ensures c.requires.len_le_most_nodes.0 c.requires.len_le_most_nodes.1 in
     let low = c.if-at-len.false in
     step_spent looked (omega arith) c.if-units-eq0.true c.ended-then-units-eq0.ensures
 
 pub contract_at-w-requires : goal.contract_at-w-requires
 contract_at-w-requires c =
-    let looked : Sought c.args.rules.now c.args.t.now c.args.count c.args.len c.args.clean c.first_redex-f.new.binds c.first_redex-f.result = sought (take_less_zero c.args.len c.args.t.now) c.first_redex-f.ensures c.requires.len_le_most_nodes.0 c.requires.len_le_most_nodes.1 in
+    let looked : Sought c.args.rules.now c.args.t.now c.args.count c.args.len c.args.clean c.first_redex-f.new.binds c.first_redex-f.result =
+    sought (take_less_zero c.args.len c.args.t.now) c.first_redex-f.ensures c.requires.len_le_most_nodes.0 c.requires.len_le_most_nodes.1 in
     let low = c.if-at-len.false in
     let p = c.requires in
     let s = c.first_redex-f.ensures.same in
@@ -33,7 +36,8 @@ contract_at-w-requires c =
 
 pub returns-then-w-gt-NODES : goal.returns-then-w-gt-NODES
 returns-then-w-gt-NODES c =
-    let looked : Sought c.args.rules.now c.args.t.now c.args.count c.args.len c.args.clean c.first_redex-f.new.binds c.first_redex-f.result = sought (take_less_zero c.args.len c.args.t.now) c.first_redex-f.ensures c.requires.len_le_most_nodes.0 c.requires.len_le_most_nodes.1 in
+    let looked : Sought c.args.rules.now c.args.t.now c.args.count c.args.len c.args.clean c.first_redex-f.new.binds c.first_redex-f.result =
+    sought (take_less_zero c.args.len c.args.t.now) c.first_redex-f.ensures c.requires.len_le_most_nodes.0 c.requires.len_le_most_nodes.1 in
     let low = c.if-at-len.false in
     step_large looked (omega arith) c.contract_at-w.ensures c.if-units-eq0.false c.if-w-gt-NODES.true c.ended-then-w-gt-NODES.ensures
 
@@ -46,7 +50,8 @@ open_path-requires c =
 
 pub returns : goal.returns
 returns c =
-    let looked : Sought c.args.rules.now c.args.t.now c.args.count c.args.len c.args.clean c.first_redex-f.new.binds c.first_redex-f.result = sought (take_less_zero c.args.len c.args.t.now) c.first_redex-f.ensures c.requires.len_le_most_nodes.0 c.requires.len_le_most_nodes.1 in
+    let looked : Sought c.args.rules.now c.args.t.now c.args.count c.args.len c.args.clean c.first_redex-f.new.binds c.first_redex-f.result =
+    sought (take_less_zero c.args.len c.args.t.now) c.first_redex-f.ensures c.requires.len_le_most_nodes.0 c.requires.len_le_most_nodes.1 in
     let low = c.if-at-len.false in
     step_done looked (omega arith) c.contract_at-w.ensures _ c.if-units-eq0.false c.if-w-gt-NODES.false
     c.open_path.ensures c.size_cells.ensures c.ended-2.ensures

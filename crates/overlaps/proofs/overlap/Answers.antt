@@ -13,8 +13,17 @@ returns-then-r2-eq0 c = overlap_empty c.right-r2.ensures.result_value c.if-r2-eq
 pub meet-requires : goal.meet-requires
 meet-requires c =
     record {
-      l1_len_bound = (c.left-l1.ensures.result_len_bound, c.right-r1.ensures.result_len_bound, c.left-l2.ensures.result_len_bound, c.right-r2.ensures.result_len_bound);
-      position_in_bounds = (omega (arith, ap length c.left-l2.ensures.result_value, left_long _ _ c.requires.layout.1, c.requires.position_bound.0), omega (arith, c.if-r2-eq0.false), c.requires.position_bound.1);
+      l1_len_bound = (
+        c.left-l1.ensures.result_len_bound,
+        c.right-r1.ensures.result_len_bound,
+        c.left-l2.ensures.result_len_bound,
+        c.right-r2.ensures.result_len_bound,
+      );
+      position_in_bounds = (
+        omega (arith, ap length c.left-l2.ensures.result_value, left_long _ _ c.requires.layout.1, c.requires.position_bound.0),
+        omega (arith, c.if-r2-eq0.false),
+        c.requires.position_bound.1,
+      );
     }
 
 pub returns : goal.returns

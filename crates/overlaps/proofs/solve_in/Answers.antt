@@ -24,7 +24,8 @@ returns-then-not-unify c = solve_never c.unify.ensures.decided (c.if-not-unify.t
 
 pub place-requires : goal.place-requires
 place-requires c =
-    let solved : Solved c.args.nodes.now c.args.table.now c.args.at.inner c.args.at.outer c.unify.new.ends c.unify.new.class c.unify.new.sizes = outcome_solved _ _ _ _ _ _ _ c.unify.result c.unify.ensures.solved_if (c.if-not-unify.false) in
+    let solved : Solved c.args.nodes.now c.args.table.now c.args.at.inner c.args.at.outer c.unify.new.ends c.unify.new.class c.unify.new.sizes =
+    outcome_solved _ _ _ _ _ _ _ c.unify.result c.unify.ensures.solved_if (c.if-not-unify.false) in
     let within = c.requires.within.0 in
     let k = solved in
     record {
@@ -35,10 +36,12 @@ place-requires c =
 
 pub returns-then-place : goal.returns-then-place
 returns-then-place c =
-    let solved : Solved c.args.nodes.now c.args.table.now c.args.at.inner c.args.at.outer c.unify.new.ends c.unify.new.class c.unify.new.sizes = outcome_solved _ _ _ _ _ _ _ c.unify.result c.unify.ensures.solved_if (c.if-not-unify.false) in
+    let solved : Solved c.args.nodes.now c.args.table.now c.args.at.inner c.args.at.outer c.unify.new.ends c.unify.new.class c.unify.new.sizes =
+    outcome_solved _ _ _ _ _ _ _ c.unify.result c.unify.ensures.solved_if (c.if-not-unify.false) in
     solve_placed solved c.place.ensures (ap met c.if-place.true)
 
 pub returns : goal.returns
 returns c =
-    let solved : Solved c.args.nodes.now c.args.table.now c.args.at.inner c.args.at.outer c.unify.new.ends c.unify.new.class c.unify.new.sizes = outcome_solved _ _ _ _ _ _ _ c.unify.result c.unify.ensures.solved_if (c.if-not-unify.false) in
+    let solved : Solved c.args.nodes.now c.args.table.now c.args.at.inner c.args.at.outer c.unify.new.ends c.unify.new.class c.unify.new.sizes =
+    outcome_solved _ _ _ _ _ _ _ c.unify.result c.unify.ensures.solved_if (c.if-not-unify.false) in
     solve_placed solved c.place.ensures (ap met c.if-place.false)

@@ -31,20 +31,24 @@ contract-w-requires c =
 
 pub shape_of-t-then-w-room : goal.shape_of-t-then-w-room
 shape_of-t-then-w-room c =
-    let known : CameBack c.args.t.now c.args.len c.args.at (right_of (slot c.args.rules.now c.args.k)) c.args.binds.now c.contract-w.new.t c.contract-w.result = came_back c.requires.at_lt_len c.contract-w.ensures c.size_of-n.ensures.0 in
+    let known : CameBack c.args.t.now c.args.len c.args.at (right_of (slot c.args.rules.now c.args.k)) c.args.binds.now c.contract-w.new.t c.contract-w.result =
+    came_back c.requires.at_lt_len c.contract-w.ensures c.size_of-n.ensures.0 in
     contract_long known
 
 pub shape_of-t : goal.shape_of-t
 shape_of-t c =
-    let known : CameBack c.args.t.now c.args.len c.args.at (right_of (slot c.args.rules.now c.args.k)) c.args.binds.now c.contract-w.new.t c.contract-w.result = came_back c.requires.at_lt_len c.contract-w.ensures c.size_of-n.ensures.0 in
+    let known : CameBack c.args.t.now c.args.len c.args.at (right_of (slot c.args.rules.now c.args.k)) c.args.binds.now c.contract-w.new.t c.contract-w.result =
+    came_back c.requires.at_lt_len c.contract-w.ensures c.size_of-n.ensures.0 in
     contract_long known
 
 pub returns-then-w-room : goal.returns-then-w-room
 returns-then-w-room c =
-    let known : CameBack c.args.t.now c.args.len c.args.at (right_of (slot c.args.rules.now c.args.k)) c.args.binds.now c.contract-w.new.t c.contract-w.result = came_back c.requires.at_lt_len c.contract-w.ensures c.size_of-n.ensures.0 in
+    let known : CameBack c.args.t.now c.args.len c.args.at (right_of (slot c.args.rules.now c.args.k)) c.args.binds.now c.contract-w.new.t c.contract-w.result =
+    came_back c.requires.at_lt_len c.contract-w.ensures c.size_of-n.ensures.0 in
     contract_over known c.if-w-room.true
 
 pub returns : goal.returns
 returns c =
-    let known : CameBack c.args.t.now c.args.len c.args.at (right_of (slot c.args.rules.now c.args.k)) c.args.binds.now c.contract-w.new.t c.contract-w.result = came_back c.requires.at_lt_len c.contract-w.ensures c.size_of-n.ensures.0 in
+    let known : CameBack c.args.t.now c.args.len c.args.at (right_of (slot c.args.rules.now c.args.k)) c.args.binds.now c.contract-w.new.t c.contract-w.result =
+    came_back c.requires.at_lt_len c.contract-w.ensures c.size_of-n.ensures.0 in
     contract_done known c.if-w-room.false

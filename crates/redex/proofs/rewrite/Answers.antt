@@ -15,17 +15,23 @@ slice_bounds-find-end c = let l = length-set c.args.t.now 0 c.sized.result in se
 
 pub returns-then-k-count : goal.returns-then-k-count
 returns-then-k-count c =
-    let tried : Tried c.args.rules.now c.args.t.now c.args.count c.args.len c.args.end c.args.most c.find-k.result c.find-k.new.binds ((c.sized.result)) = let a = c.args in let p = c.requires.end_nonzero in tries c.sized.ensures (take_less_zero a.len (set a.t.now 0 ((c.sized.result)))) c.find-k.ensures (omega arith) (omega arith) (omega arith) in
+    let tried : Tried c.args.rules.now c.args.t.now c.args.count c.args.len c.args.end c.args.most c.find-k.result c.find-k.new.binds ((c.sized.result)) =
+    let a = c.args in let p = c.requires.end_nonzero in tries c.sized.ensures (take_less_zero a.len (set a.t.now 0 ((c.sized.result))))
+    c.find-k.ensures (omega arith) (omega arith) (omega arith) in
     step_none tried c.ended.ensures c.if-k-count.true
 
 pub returns-then-units-eq0 : goal.returns-then-units-eq0
 returns-then-units-eq0 c =
-    let tried : Tried c.args.rules.now c.args.t.now c.args.count c.args.len c.args.end c.args.most c.find-k.result c.find-k.new.binds ((c.sized.result)) = let a = c.args in let p = c.requires.end_nonzero in tries c.sized.ensures (take_less_zero a.len (set a.t.now 0 ((c.sized.result)))) c.find-k.ensures (omega arith) (omega arith) (omega arith) in
+    let tried : Tried c.args.rules.now c.args.t.now c.args.count c.args.len c.args.end c.args.most c.find-k.result c.find-k.new.binds ((c.sized.result)) =
+    let a = c.args in let p = c.requires.end_nonzero in tries c.sized.ensures (take_less_zero a.len (set a.t.now 0 ((c.sized.result))))
+    c.find-k.ensures (omega arith) (omega arith) (omega arith) in
     step_spent tried c.if-k-count.false c.ended-then-units-eq0.ensures c.if-units-eq0.true
 
 pub contract-w-requires : goal.contract-w-requires
 contract-w-requires c =
-    let tried : Tried c.args.rules.now c.args.t.now c.args.count c.args.len c.args.end c.args.most c.find-k.result c.find-k.new.binds ((c.sized.result)) = let a = c.args in let p = c.requires.end_nonzero in tries c.sized.ensures (take_less_zero a.len (set a.t.now 0 ((c.sized.result)))) c.find-k.ensures (omega arith) (omega arith) (omega arith) in
+    let tried : Tried c.args.rules.now c.args.t.now c.args.count c.args.len c.args.end c.args.most c.find-k.result c.find-k.new.binds ((c.sized.result)) =
+    let a = c.args in let p = c.requires.end_nonzero in tries c.sized.ensures (take_less_zero a.len (set a.t.now 0 ((c.sized.result))))
+    c.find-k.ensures (omega arith) (omega arith) (omega arith) in
     let p = c.requires.end_nonzero in
     let s = c.find-k.ensures.same in
     let b = c.find-k.ensures.bounded in
@@ -44,7 +50,9 @@ shape_of-t-then-w-most c =
 
 pub returns-then-w-most : goal.returns-then-w-most
 returns-then-w-most c =
-    let tried : Tried c.args.rules.now c.args.t.now c.args.count c.args.len c.args.end c.args.most c.find-k.result c.find-k.new.binds ((c.sized.result)) = let a = c.args in let p = c.requires.end_nonzero in tries c.sized.ensures (take_less_zero a.len (set a.t.now 0 ((c.sized.result)))) c.find-k.ensures (omega arith) (omega arith) (omega arith) in
+    let tried : Tried c.args.rules.now c.args.t.now c.args.count c.args.len c.args.end c.args.most c.find-k.result c.find-k.new.binds ((c.sized.result)) =
+    let a = c.args in let p = c.requires.end_nonzero in tries c.sized.ensures (take_less_zero a.len (set a.t.now 0 ((c.sized.result))))
+    c.find-k.ensures (omega arith) (omega arith) (omega arith) in
     step_large tried c.if-k-count.false c.contract-w.ensures c.ended-then-w-most.ensures c.if-units-eq0.false
     c.if-w-most.true
 
@@ -55,6 +63,8 @@ shape_of-t c =
 
 pub returns : goal.returns
 returns c =
-    let tried : Tried c.args.rules.now c.args.t.now c.args.count c.args.len c.args.end c.args.most c.find-k.result c.find-k.new.binds ((c.sized.result)) = let a = c.args in let p = c.requires.end_nonzero in tries c.sized.ensures (take_less_zero a.len (set a.t.now 0 ((c.sized.result)))) c.find-k.ensures (omega arith) (omega arith) (omega arith) in
+    let tried : Tried c.args.rules.now c.args.t.now c.args.count c.args.len c.args.end c.args.most c.find-k.result c.find-k.new.binds ((c.sized.result)) =
+    let a = c.args in let p = c.requires.end_nonzero in tries c.sized.ensures (take_less_zero a.len (set a.t.now 0 ((c.sized.result))))
+    c.find-k.ensures (omega arith) (omega arith) (omega arith) in
     step_done tried c.if-k-count.false c.contract-w.ensures c.ended-2.ensures c.if-units-eq0.false
     c.if-w-most.false

@@ -36,35 +36,42 @@ returns c =
 
 pub bounds-t-i : goal.bounds-t-i
 bounds-t-i c =
-    let within : c.wide-i.result < length c.loop-k.t = in_cells c.open_places-k.ensures c.loop-k.invariant.2 c.loop-k-test.true c.loop-k.invariant.1 c.wide-i.result c.wide-i.ensures.0 in
+    let within : c.wide-i.result < length c.loop-k.t =
+    in_cells c.open_places-k.ensures c.loop-k.invariant.2 c.loop-k-test.true c.loop-k.invariant.1 c.wide-i.result c.wide-i.ensures.0 in
     search (rules, within)
 
 pub overflow_add-i : goal.overflow_add-i
 overflow_add-i c =
-    let within : c.wide-i.result < length c.loop-k.t = in_cells c.open_places-k.ensures c.loop-k.invariant.2 c.loop-k-test.true c.loop-k.invariant.1 c.wide-i.result c.wide-i.ensures.0 in
+    let within : c.wide-i.result < length c.loop-k.t =
+    in_cells c.open_places-k.ensures c.loop-k.invariant.2 c.loop-k-test.true c.loop-k.invariant.1 c.wide-i.result c.wide-i.ensures.0 in
     search (rules, within)
 
 pub slice_bounds-terms_take-count : goal.slice_bounds-terms_take-count
 slice_bounds-terms_take-count c =
-    let within : c.wide-i.result < length c.loop-k.t = in_cells c.open_places-k.ensures c.loop-k.invariant.2 c.loop-k-test.true c.loop-k.invariant.1 c.wide-i.result c.wide-i.ensures.0 in
+    let within : c.wide-i.result < length c.loop-k.t =
+    in_cells c.open_places-k.ensures c.loop-k.invariant.2 c.loop-k-test.true c.loop-k.invariant.1 c.wide-i.result c.wide-i.ensures.0 in
     search (rules, within)
 
 pub slice_bounds-terms_take-start : goal.slice_bounds-terms_take-start
 slice_bounds-terms_take-start c =
-    let within : c.wide-i.result < length c.loop-k.t = in_cells c.open_places-k.ensures c.loop-k.invariant.2 c.loop-k-test.true c.loop-k.invariant.1 c.wide-i.result c.wide-i.ensures.0 in
+    let within : c.wide-i.result < length c.loop-k.t =
+    in_cells c.open_places-k.ensures c.loop-k.invariant.2 c.loop-k-test.true c.loop-k.invariant.1 c.wide-i.result c.wide-i.ensures.0 in
     search (rules, within)
 
 pub slice_bounds-terms_take-end : goal.slice_bounds-terms_take-end
 slice_bounds-terms_take-end c =
-    let within : c.wide-i.result < length c.loop-k.t = in_cells c.open_places-k.ensures c.loop-k.invariant.2 c.loop-k-test.true c.loop-k.invariant.1 c.wide-i.result c.wide-i.ensures.0 in
+    let within : c.wide-i.result < length c.loop-k.t =
+    in_cells c.open_places-k.ensures c.loop-k.invariant.2 c.loop-k-test.true c.loop-k.invariant.1 c.wide-i.result c.wide-i.ensures.0 in
     search (rules, within)
 
 pub bounds-t-i-in-loop-k : goal.bounds-t-i-in-loop-k
 bounds-t-i-in-loop-k c =
-    let within : c.wide-i.result < length c.loop-k.t = in_cells c.open_places-k.ensures c.loop-k.invariant.2 c.loop-k-test.true c.loop-k.invariant.1 c.wide-i.result c.wide-i.ensures.0 in
+    let within : c.wide-i.result < length c.loop-k.t =
+    in_cells c.open_places-k.ensures c.loop-k.invariant.2 c.loop-k-test.true c.loop-k.invariant.1 c.wide-i.result c.wide-i.ensures.0 in
     search (rules, within)
 
 pub bounds-t-i-in-loop-k-2 : goal.bounds-t-i-in-loop-k-2
 bounds-t-i-in-loop-k-2 c =
-    let within : c.wide-i.result < length c.loop-k.t = in_cells c.open_places-k.ensures c.loop-k.invariant.2 c.loop-k-test.true c.loop-k.invariant.1 c.wide-i.result c.wide-i.ensures.0 in
+    let within : c.wide-i.result < length c.loop-k.t =
+    in_cells c.open_places-k.ensures c.loop-k.invariant.2 c.loop-k-test.true c.loop-k.invariant.1 c.wide-i.result c.wide-i.ensures.0 in
     search (rules, within)

@@ -21,13 +21,15 @@ returns-in_default c = orient_none _ _ _ _ _ c.rule_of-o.ensures c.in_default.no
 
 pub add_pair-requires : goal.add_pair-requires
 add_pair-requires c =
-    let one_more : slot_width * (c.args.self.pairs.count + 1) ≤ length c.args.self.pairs.bytes = let l : length c.args.self.pairs.bytes ≡ slot_width * most_pairs = search rules in let n = c.requires.1 in omega arith in
+    let one_more : slot_width * (c.args.self.pairs.count + 1) ≤ length c.args.self.pairs.bytes =
+    let l : length c.args.self.pairs.bytes ≡ slot_width * most_pairs = search rules in let n = c.requires.1 in omega arith in
     let w = c.requires.0.within in
     let m = one_more in
     (omega arith, omega arith, search rules)
 
 pub returns : goal.returns
 returns c =
-    let one_more : slot_width * (c.args.self.pairs.count + 1) ≤ length c.args.self.pairs.bytes = let l : length c.args.self.pairs.bytes ≡ slot_width * most_pairs = search rules in let n = c.requires.1 in omega arith in
+    let one_more : slot_width * (c.args.self.pairs.count + 1) ≤ length c.args.self.pairs.bytes =
+    let l : length c.args.self.pairs.bytes ≡ slot_width * most_pairs = search rules in let n = c.requires.1 in omega arith in
     orient_done _ _ _ _ c.requires.0 c.rule_of-o.ensures c.in-Rule.is c.requires.1 one_more _
     c.add_pair.ensures

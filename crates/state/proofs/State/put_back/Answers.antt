@@ -13,7 +13,8 @@ use Rattle.state.proofs.State.put_back.Goals as goal
 
 pub add_pair-requires : goal.add_pair-requires
 add_pair-requires c =
-    let one_more : slot_width * (c.args.self.pairs.count + 1) ≤ length c.args.self.pairs.bytes = let l : length c.args.self.pairs.bytes ≡ slot_width * most_pairs = search rules in let n = c.requires.fine.1 in omega arith in
+    let one_more : slot_width * (c.args.self.pairs.count + 1) ≤ length c.args.self.pairs.bytes =
+    let l : length c.args.self.pairs.bytes ≡ slot_width * most_pairs = search rules in let n = c.requires.fine.1 in omega arith in
     let slot_whole : length c.renamed-one.result ≡ slot_width = search rules in
     let m = one_more in
     (omega (arith, c.requires.fine.0.within), omega arith, slot_whole)
@@ -27,7 +28,8 @@ enter-entries-requires c =
 
 pub returns : goal.returns
 returns c =
-    let one_more : slot_width * (c.args.self.pairs.count + 1) ≤ length c.args.self.pairs.bytes = let l : length c.args.self.pairs.bytes ≡ slot_width * most_pairs = search rules in let n = c.requires.fine.1 in omega arith in
+    let one_more : slot_width * (c.args.self.pairs.count + 1) ≤ length c.args.self.pairs.bytes =
+    let l : length c.args.self.pairs.bytes ≡ slot_width * most_pairs = search rules in let n = c.requires.fine.1 in omega arith in
     let long : length c.args.self.log.bytes ≡ logged_width * most_entries = search rules in
     let l = long in
     put_back_done _ _ _ _ c.requires.fine.0 c.requires.fine.1 one_more c.renamed-one.ensures c.add_pair.ensures
