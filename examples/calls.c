@@ -2,7 +2,7 @@
  * 0 + x = x, whether 0 + (0 + x) and 0 + x are the same, and which of these two is the lower. And stops a run of f(f(x)) = x after two units, saves
  * it, and takes it up again.
  *
- *   rt staticlib capi
+ *   tools/library
  *   gcc -Iinclude examples/calls.c target/staticlib/libcapi.a -o calls
  */
 #include <stdio.h>

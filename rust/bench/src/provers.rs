@@ -50,7 +50,7 @@ fn on_path(name: &str) -> Option<PathBuf> {
 
 /// The proved program, by VIGILBARN_SETTLE or at its usual place.
 fn settle() -> PathBuf {
-    let usual = Path::new(env!("CARGO_MANIFEST_DIR")).join("../../target/bin/settle");
+    let usual = Path::new(env!("CARGO_MANIFEST_DIR")).join("../../crates/settle/out/settle");
     env::var_os("VIGILBARN_SETTLE").map_or(usual, PathBuf::from)
 }
 
