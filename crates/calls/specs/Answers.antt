@@ -6,7 +6,7 @@ use Rattle.problem.specs.Problem.{Reading, ok, refused}
 use Rattle.rewriting.specs.Rewrite.{too_large, end_number}
 use Rattle.completion.specs.Calls.{parse_single, Part, subterm_part, CommonInstance, instance, no_instance, instance_too_large, after_unify}
 use Rattle.instances.specs.declared.Found.{Found}
-use Rattle.instances.specs.declared.Found.TheVariants.{Instance as Written, Nothing as None, TooLarge as Large}
+use Rattle.instances.specs.declared.Found.TheVariants.{Instance as Written, Nothing as NoneFound, TooLarge as Large}
 use Rattle.calls.specs.declared.Compared.{Compared}
 use Rattle.calls.specs.declared.Compared.TheVariants.{LeftAbove, RightAbove, Identical, Neither, Refused as Unread}
 use Rattle.calls.specs.declared.Unified.{Unified}
@@ -37,7 +37,7 @@ unified_told (NotUnified number place) = number_and_place number place
 -- the same of what `instances::common_instance` answers
 unfoldable pub found_told : Found → Returned
 found_told (Written count) = bytes_written count
-found_told None = none_common
+found_told NoneFound = none_common
 found_told Large = number_only (end_number too_large)
 
 unfoldable pub unify_returns : Reading CommonInstance → Returned
