@@ -13,7 +13,8 @@ start_of_first a b xs ys s = (s.0, omega (arith, s.1, length-append xs ys), subs
 
 pub start_of_second : (a b c : Option (List ℕ)) (xs ys : List ℕ) → Appends a b xs → AppendsStart b c ys → AppendsStart a c (xs ++ ys)
 start_of_second a b c xs ys p s =
-    (length xs + s.0, omega (arith, s.1, length-append xs ys), subst (Appends a c) (sym (take-append-add xs ys s.0)) (Appends-trans a b c xs (take s.0 ys) p s.2))
+    let whole = Appends-trans a b c xs (take s.0 ys) p s.2 in
+    (length xs + s.0, omega (arith, s.1, length-append xs ys), subst (Appends a c) (sym (take-append-add xs ys s.0)) whole)
 
 pub on_err : {T E P : Type 0} (r : Result T E) → P → OnErr r P
 on_err (Ok x) p = tt
