@@ -35,7 +35,9 @@ pub returns-in-Spent : goal.returns-in-Spent
 unfolding decided_told outermost_code counted_code number_of
 returns-in-Spent c =
     let q = c.in-Spent.ensures in
-    let told = outermost_promises _ _ _ q.equations q.agrees _ q.answer (c.code-in-Spent.ensures ∙ ap (λ (n : ℕ). code 3 n c.in-Spent.units) c.number.ensures) in
+    let told =
+    outermost_promises _ _ _ q.equations q.agrees _ q.answer
+    (c.code-in-Spent.ensures ∙ ap (λ (n : ℕ). code 3 n c.in-Spent.units) c.number.ensures) in
     record {
       value = told.0;
       equations = told.1.0;
@@ -46,7 +48,9 @@ pub returns-in-TooLarge : goal.returns-in-TooLarge
 unfolding decided_told outermost_code counted_code number_of
 returns-in-TooLarge c =
     let q = c.in-TooLarge.ensures in
-    let told = outermost_promises _ _ _ q.equations q.agrees _ q.answer (c.code-in-TooLarge.ensures ∙ ap (λ (n : ℕ). code 3 n c.in-TooLarge.units) c.number-in-TooLarge.ensures) in
+    let told =
+    outermost_promises _ _ _ q.equations q.agrees _ q.answer
+    (c.code-in-TooLarge.ensures ∙ ap (λ (n : ℕ). code 3 n c.in-TooLarge.units) c.number-in-TooLarge.ensures) in
     record {
       value = told.0;
       equations = told.1.0;

@@ -11,7 +11,9 @@ use Rattle.capi.proofs.vb_resume_saving.Goals as goal
 
 pub returns : goal.returns
 returns c =
-    let told : left_told c.resume_saving.result ≡ lengths (resume_saving_call ((c.args.kept.now)) c.args.budget (length ((c.args.res.now))) (length ((c.args.saved.now)))) = c.resume_saving.ensures.answer in
+    let told : left_told c.resume_saving.result ≡ lengths
+    (resume_saving_call c.args.kept.now c.args.budget (length c.args.res.now) (length c.args.saved.now)) =
+    c.resume_saving.ensures.answer in
     let q = c.resume_saving.ensures in
     let a = c.left_code.ensures ∙ ap left_code told in
     record {

@@ -7,7 +7,11 @@ pub save_if-m-requires : goal.save_if-m-requires
 save_if-m-requires c =
     record {
       longest_saved_in_bounds = c.requires.most_result_in_bounds.1;
-      table_len_bound = (table_few c.args.source.now _ c.requires.field_head_le_table_end.2, c.requires.field_head_le_table_end.3, c.requires.most_result_in_bounds.2);
+      table_len_bound = (
+        table_few c.args.source.now _ c.requires.field_head_le_table_end.2,
+        c.requires.field_head_le_table_end.3,
+        c.requires.most_result_in_bounds.2,
+      );
     }
 
 pub returns : goal.returns
