@@ -1,20 +1,18 @@
--- Verdicts of the code: going on is no end, and ends are told apart by what they are and by their numbers. Assumes nothing.
+-- Ends of the code: going on is no end, and ends are told apart by what they are and by their numbers. Assumes nothing.
 -- Read first: specs/Ends.
 use mathlib.Core.Path.{◌≡◌, refl, sym, ap, ◌∙◌}
 use Prim.Native.Nat.{ℕ}
 use lib.Dec.{eqb}
-use Rattle.std.specs.Prelude.{if◌then◌else◌}
+use Rattle.std.specs.Prelude.{Option, Some, None, if◌then◌else◌}
 use Rattle.terms.proofs.Shape.{zero≢one}
 use Rattle.rewriting.specs.Ends.{number_of}
 use Rattle.rewriting.specs.declared.End.{End as Ending}
 use Rattle.rewriting.specs.declared.End.TheVariants.{Complete, NeitherAbove, Spent, TooLarge, RulesFull, LogFull}
-use Rattle.rewriting.specs.declared.Verdict.{Verdict}
-use Rattle.rewriting.specs.declared.Verdict.TheVariants.{GoesOn, Ends}
 
-pub goes≢ends : {v : Verdict} {e : Ending} → v ≡ GoesOn → v ≡ Ends e → ⊥
+pub goes≢ends : {v : Option Ending} {e : Ending} → v ≡ None → v ≡ Some e → ⊥
 goes≢ends p q = zero≢one (cc)
 
-pub same_end : {v : Verdict} {d e : Ending} → v ≡ Ends d → v ≡ Ends e → d ≡ e
+pub same_end : {v : Option Ending} {d e : Ending} → v ≡ Some d → v ≡ Some e → d ≡ e
 same_end p q = cc
 
 -- "Say which store was full": no two ends have one number, so that field 10 of a result tells why the run ended.

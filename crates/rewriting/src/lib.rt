@@ -4,39 +4,28 @@
 ghost use Rattle.std.specs.Prelude.{◌≡◌};
 ghost use Rattle.rewriting.specs.Ends.{number_of};
 
-// How a run ends; specs/Ends has what each case says, and its number.
-#[derive(Clone, Copy)]
+// How a run ends, by the papers' numbers; specs/Ends has what each case says.
+#[derive(Clone, Copy, Debug, PartialEq, Eq)]
 pub enum End {
-    Complete,
+    Complete = 0,
     // Neither side above the other.
-    NeitherAbove,
+    NeitherAbove = 20,
     // A unit due and the budget spent.
-    Spent,
+    Spent = 21,
     // A term over 120 nodes, or a taken pair over 16 variables.
-    TooLarge,
+    TooLarge = 22,
     // A 33rd live rule.
-    RulesFull,
+    RulesFull = 23,
     // A 513th log entry due.
-    LogFull,
+    LogFull = 24,
 }
 
 // The papers' number of an end.
-pub fn number(end: End) -> u8
-    ensures { result ≡ number_of end }
-{
-    match end {
-        End::Complete => 0,
-        End::NeitherAbove => 20,
-        End::Spent => 21,
-        End::TooLarge => 22,
-        End::RulesFull => 23,
-        End::LogFull => 24,
-    }
-}
+impl From<End> for u8 {
+    ghost from_gives = { λ end n. n ≡ number_of end };
 
-// What a step of a turn, and a turn, say beside their state.
-#[derive(Clone, Copy)]
-pub enum Verdict {
-    GoesOn,
-    Ends(End),
+    #[tactic(auto, unfolding(crate::specs::Ends::number_of))]
+    fn from(end: End) -> u8 {
+        end as u8
+    }
 }
