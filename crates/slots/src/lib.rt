@@ -3,6 +3,7 @@
 #![tactic(auto)]
 
 pub mod origins;
+pub mod system;
 
 ghost use Rattle.std.specs.Prelude.{◌≡◌, ◌+◌, ◌*◌, ◌<◌, ◌≤◌, length, get_or};
 ghost use Rattle.limits.specs.Limits.{most_nodes, origin_width};
@@ -10,6 +11,7 @@ ghost use Rattle.slots.specs.Slots.{left_at, slot_width, slot, mark_of, number_o
 ghost use Rattle.slots.specs.Slots.{PutRight, Removed, RoomMade, Inserted, MovedLast};
 
 use limits::NODES;
+pub use system::System;
 
 const LEFT_LENGTH: usize = limits::ORIGIN;
 
