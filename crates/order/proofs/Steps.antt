@@ -3,9 +3,9 @@
 use mathlib.Core.Path.{◌≡◌, refl, ap, ap₂, sym, ◌∙◌}
 use mathlib.Core.Bool.{Bool, true, false, ◌&&◌, ◌||◌}
 use mathlib.Core.List.{List}
-use Prim.Native.Nat.{ℕ, ◌+◌, ◌-◌, ◌<◌, ◌≤◌}
+use Prim.Native.Nat.{ℕ, ◌-◌, ◌<◌, ◌≤◌}
 use native.Mathlib.Omega.{arith}
-use lib.ListN.{length, get_or, get_or-eq_default}
+use lib.ListN.{length, get_or}
 use borrow.Author.Tests.{lt-ltb, le-ltb, eq-eqb, ne_eqb}
 use Rattle.std.specs.Prelude.{if◌then◌else◌}
 use Rattle.terms.specs.Term.{Term, node, Terms, nil, cons, size, same, count}
@@ -13,13 +13,10 @@ use Rattle.terms.specs.Scan.{owes}
 use Rattle.terms.specs.Flat.{Starts, StartAll, IsSame}
 use Rattle.terms.proofs.Starts.{from, head_var, head_node, first, none_left, starts_some, IsEnd, ended}
 use Rattle.order.specs.Order.{same_length, above, some_reaches, comparison}
+use Rattle.order.specs.declared.Compared.TheVariants.{LeftAbove, RightAbove, Identical, Neither}
 use Rattle.order.specs.Walk.{rank, all_above, walked, IsAbove, IsSome, IsAll, IsWalk, IsCompared}
 use Rattle.order.proofs.Clauses.{clause_variable}
 use Rattle.order.proofs.Fast.{some?, all?, walk?, step?, step_agrees}
-
-pub rank_past : (tab : List ℕ) (f : ℕ) → length tab ≤ f + f + 1 → rank tab f ≡ 0
-unfolding rank
-rank_past tab f h = get_or-eq_default tab 0 h
 
 -- The steps of `Fast`, with the order itself as the test of smaller pairs.
 some_is : (r : ℕ → ℕ) (ss : Terms) (t : Term) → some? (above r) ss t ≡ some_reaches r ss t
@@ -268,20 +265,20 @@ module _ (tab s t : List ℕ) (n : ℕ) where
 
 -- `comparison` returns
 module _ (tab s t : List ℕ) (p : Bool) (a : IsAbove tab s t p) where
-  pub compared_left : p ≡ true → IsCompared tab s t 1
+  pub compared_left : p ≡ true → IsCompared tab s t LeftAbove
   unfolding comparison
   compared_left h x y b d = rw (sym (a x y b d) ∙ h) refl
 
   module _ (h : p ≡ false) (q : Bool) (c : IsAbove tab t s q) where
-    pub compared_right : q ≡ true → IsCompared tab s t 2
+    pub compared_right : q ≡ true → IsCompared tab s t RightAbove
     unfolding comparison
     compared_right k x y b d = rw (sym (a x y b d) ∙ h, sym (c y x d b) ∙ k) refl
 
     module _ (k : q ≡ false) (r : Bool) (u : IsSame tab s t r) where
-      pub compared_same : r ≡ true → IsCompared tab s t 3
+      pub compared_same : r ≡ true → IsCompared tab s t Identical
       unfolding comparison
       compared_same l x y b d = rw (sym (a x y b d) ∙ h, sym (c y x d b) ∙ k, sym (u x y b d) ∙ l) refl
 
-      pub compared_neither : r ≡ false → IsCompared tab s t 4
+      pub compared_neither : r ≡ false → IsCompared tab s t Neither
       unfolding comparison
       compared_neither l x y b d = rw (sym (a x y b d) ∙ h, sym (c y x d b) ∙ k, sym (u x y b d) ∙ l) refl
