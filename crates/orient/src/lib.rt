@@ -21,56 +21,58 @@ fn with_byte(seen: u32, b: u8) -> u32
         return seen;
     }
     if b >= limits::VARIABLES_END {
-        return 0xffff_ffff;
+        return u32::MAX;
     }
     seen | (1u32 << (b - limits::VARIABLE))
 }
 
 // The set with the variables of t.
-fn with_bytes(seen: u32, t: &[u8]) -> u32
+fn with_bytes(mut seen: u32, t: &[u8]) -> u32
     ensures { Seen t.now seen result }
 {
-    let mut m = seen;
-    let mut i = 0;
-    while i < t.len() {
-        m = with_byte(m, t[i]);
-        i += 1;
+    for &b in t {
+        seen = with_byte(seen, b);
     }
-    m
+    seen
 }
 
 // How many different variables the two sides have.
 pub fn variable_count(left: &[u8], right: &[u8]) -> u32
     ensures { Counted left.now right.now result }
 {
-    let seen = with_bytes(with_bytes(0, left), right);
-    u32::count_ones(seen)
+    with_bytes(with_bytes(0, left), right).count_ones()
 }
 
 // Which side of a taken pair is above.
-#[derive(Drop)]
+#[derive(Clone, Copy, Debug, PartialEq, Eq)]
 pub enum Above {
     Left,
     Right,
-    Neither,
-    // Over 16 variables.
-    TooMany,
 }
 
-fn upper(left: &[u8], right: &[u8], table: &[u8]) -> Above
+// Why no rule is made of a taken pair.
+#[derive(Clone, Copy, Debug, PartialEq, Eq)]
+pub enum Unoriented {
+    // Neither side is above the other.
+    Neither,
+    // Over 16 variables.
+    TooLarge,
+}
+
+fn upper(left: &[u8], right: &[u8], table: &[u8]) -> Result<Above, Unoriented>
     requires { (length left.now ≤ most_nodes) × (length right.now ≤ most_nodes) }
     ensures { IsUpper table.now left.now right.now result }
 {
     if variable_count(left, right) > MOST_VARIABLES {
-        return Above::TooMany;
+        return Err(Unoriented::TooLarge);
     }
     if order::above(left, right, table) {
-        return Above::Left;
+        return Ok(Above::Left);
     }
     if order::above(right, left, table) {
-        return Above::Right;
+        return Ok(Above::Right);
     }
-    Above::Neither
+    Err(Unoriented::Neither)
 }
 
 // The pair of one term and another, renamed, with its mark, in a slot.
@@ -92,49 +94,18 @@ fn placed(left: &[u8], right: &[u8], mark: &[u8]) -> [u8; SLOT]
     one
 }
 
-// What a taken pair comes to.
-#[derive(Drop)]
-pub enum Way {
-    Rule,
-    // Neither side is above the other.
-    Neither,
-    // Over 16 variables.
-    TooLarge,
-}
-
-// The new rule in a slot, where there is one.
-#[derive(Drop)]
-pub struct Oriented {
-    pub rule: [u8; SLOT],
-    pub way: Way,
-}
-
-// The rule that the pair in a slot becomes, with its number.
-pub fn rule_of(pair: &[u8], table: &[u8], number: u16) -> Oriented
+// The rule that the pair in a slot becomes, with its number, in a slot.
+pub fn rule_of(pair: &[u8], table: &[u8], number: u16) -> Result<[u8; SLOT], Unoriented>
     requires { Layout pair.now 1 }
     ensures { RuleOf table.now pair.now number result }
 {
     let left = slots::left(pair, 0);
     let right = slots::right(pair, 0);
     let mark = origins::numbered(origins::REMOVED_RULE, number);
-    match upper(left, right, table) {
-        Above::Left => Oriented {
-            rule: placed(left, right, &mark),
-            way: Way::Rule,
-        },
-        Above::Right => Oriented {
-            rule: placed(right, left, &mark),
-            way: Way::Rule,
-        },
-        Above::Neither => Oriented {
-            rule: [0u8; SLOT],
-            way: Way::Neither,
-        },
-        Above::TooMany => Oriented {
-            rule: [0u8; SLOT],
-            way: Way::TooLarge,
-        },
-    }
+    Ok(match upper(left, right, table)? {
+        Above::Left => placed(left, right, &mark),
+        Above::Right => placed(right, left, &mark),
+    })
 }
 
 // The pair in a slot, renamed as it stands, with its mark.

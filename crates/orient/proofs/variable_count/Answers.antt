@@ -5,4 +5,4 @@ use Rattle.orient.proofs.Seeing.{see_append, count_is}
 use Rattle.orient.proofs.variable_count.Goals as goal
 
 pub returns : goal.returns
-returns c = count_is _ _ _ (see_append _ _ _ _ _ c.with_bytes.ensures c.with_bytes-seen.ensures)
+returns c = count_is _ _ _ (see_append _ _ _ _ _ c.with_bytes.ensures c.with_bytes-2.ensures)
