@@ -1,3 +1,3 @@
 pub mod Reading
 pub mod Partly
-pub mod Digits
+pub mod Texts

@@ -7,49 +7,44 @@ ghost use Rattle.std.specs.Io.KnownBytes.{Appends, Consumes, IsAtEnd, WriteAppen
 ghost use Rattle.stored_cases.specs.Cases.{case_at};
 ghost use Rattle.stored_cases.specs.Partly.{AppendsStart, ConsumesStart};
 
+use std::fmt::{InlineText, Write as _};
 use std::io;
 use std::io::{ErrorKind, Read, Write};
 
 // Bytes before the name.
 pub const HEAD: usize = 4;
 
-#[derive(Drop)]
-pub enum Case {
-    // No whole case is there.
-    Cut,
-    // What is asked; where name and problem begin, and where the case ends.
-    At {
-        asked: u8,
-        name: usize,
-        problem: usize,
-        end: usize,
-    },
+// What is asked; where name and problem begin, and where the case ends.
+#[derive(Clone, Copy, Debug, PartialEq, Eq)]
+pub struct Case {
+    pub asked: u8,
+    pub name: usize,
+    pub problem: usize,
+    pub end: usize,
 }
 
-// The case at this place.
-pub fn case_at(text: &[u8], at: usize) -> Case
+// The case at this place, if a whole one is there.
+pub fn case_at(text: &[u8], at: usize) -> Option<Case>
     ensures { result ≡ case_at text.now at }
 {
-    if text.len() < HEAD {
-        return Case::Cut;
-    }
-    if text.len() - HEAD < at {
-        return Case::Cut;
+    if text.len() < HEAD || text.len() - HEAD < at {
+        return None;
     }
     let name = at + HEAD;
     let problem = name + reading::number(text, at + 1, 1);
     let end = problem + reading::number(text, at + 2, 2);
     if text.len() < end {
-        return Case::Cut;
+        return None;
     }
-    Case::At {
+    Some(Case {
         asked: text[at],
-        name: name,
-        problem: problem,
-        end: end,
-    }
+        name,
+        problem,
+        end,
+    })
 }
 
+// Kept: a reader's `read_exact` says nothing of an end of the input, or of what an error loses.
 // Reads until the buffer is full or the input ends: how many bytes stand at its start. Where the input's bytes are known, these are the next of them.
 // After an error some start of the buffer is what the input has lost.
 pub fn read_full<R: Read>(input: &mut R, buffer: &mut [u8]) -> io::Result<usize>
@@ -80,16 +75,12 @@ fn write_once<W: Write>(out: &mut W, rest: &[u8]) -> io::Result<usize>
 {
     match out.write(rest) {
         Ok(0) => Err(io::Error::new(ErrorKind::WriteZero, "failed to write whole buffer")),
-        Ok(n) => Ok(n),
-        Err(e) => {
-            if e.kind() == ErrorKind::Interrupted {
-                return Ok(0);
-            }
-            Err(e)
-        }
+        Err(e) if e.kind() == ErrorKind::Interrupted => Ok(0),
+        taken => taken,
     }
 }
 
+// Kept: a writer's `write_all` says nothing of what an error leaves.
 // To a writer, as the two below. Where the bytes that it holds are known, they grow by the text, and after an error by some start of it.
 pub fn print<W: Write>(out: &mut W, text: &[u8]) -> io::Result<()>
     ensures ok { OnOk result (Appends (W.contents out.old) (W.contents out.new) text.now) }
@@ -108,37 +99,23 @@ pub fn print<W: Write>(out: &mut W, text: &[u8]) -> io::Result<()>
 // The most digits of a number.
 const DIGITS: usize = 20;
 
-// Puts the digits of a number at the end of the room: where they begin.
-fn put_digits(n: usize, room: &mut [u8; DIGITS]) -> usize
-    ensures bound { result < 20 }
-    ensures digits { drop result room.new ≡ decimal n }
-{
-    let mut at = DIGITS - 1;
-    let mut rest = n;
-    while rest >= 10 {
-        room[at] = b'0' + (rest % 10) as u8;
-        at -= 1;
-        rest /= 10;
-    }
-    room[at] = b'0' + rest as u8;
-    at
-}
+// The most bytes that tell a refusal.
+const REFUSED: usize = 64;
 
 pub fn print_number<W: Write>(out: &mut W, n: usize) -> io::Result<()>
     ensures ok { OnOk result (Appends (W.contents out.old) (W.contents out.new) (decimal n)) }
     ensures err { OnErr result (AppendsStart (W.contents out.old) (W.contents out.new) (decimal n)) }
 {
-    let mut room = [0u8; DIGITS];
-    let at = put_digits(n, &mut room);
-    print(out, &room[at..])
+    let mut text = InlineText::<DIGITS>::new();
+    write!(text, "{n}")?;
+    print(out, text.as_str().as_bytes())
 }
 
 pub fn print_refused<W: Write>(out: &mut W, n: u8, place: usize) -> io::Result<()>
     ensures ok { OnOk result (Appends (W.contents out.old) (W.contents out.new) (codes "refused " ++ decimal n ++ codes " at " ++ decimal place)) }
     ensures err { OnErr result (AppendsStart (W.contents out.old) (W.contents out.new) (codes "refused " ++ decimal n ++ codes " at " ++ decimal place)) }
 {
-    print(out, b"refused ")?;
-    print_number(out, n as usize)?;
-    print(out, b" at ")?;
-    print_number(out, place)
+    let mut text = InlineText::<REFUSED>::new();
+    write!(text, "refused {n} at {place}")?;
+    print(out, text.as_str().as_bytes())
 }

@@ -1,0 +1,17 @@
+-- `print_number`: the text that is printed is the number's. Assumes nothing.
+-- Read first: `print_number` in src/lib.rt, proofs/Texts.
+use Rattle.std.proofs.Common.{◌∙◌}
+use Rattle.stored_cases.proofs.Texts.{text_written}
+use Rattle.stored_cases.proofs.print_number.Goals as goal
+
+pub returns-clause-ok : goal.returns-clause-ok
+returns-clause-ok g c =
+    let new = c.new-text.ensures in
+    let e = c.as_bytes.ensures.value ∙ c.as_str.ensures.value ∙ text_written _ _ _ new.text new.intact c.in_ok-write.ensures.writes in
+    rw e at c.print.ensures.ok
+
+pub returns-clause-err : goal.returns-clause-err
+returns-clause-err g c =
+    let new = c.new-text.ensures in
+    let e = c.as_bytes.ensures.value ∙ c.as_str.ensures.value ∙ text_written _ _ _ new.text new.intact c.in_ok-write.ensures.writes in
+    rw e at c.print.ensures.err
