@@ -2,12 +2,12 @@
 -- part comes back as (`patched_back`).
 -- Read first: specs/Puts (patched).
 use mathlib.Core.Path.{◌≡◌, refl, sym, ap, ap₂, ◌∙◌}
-use mathlib.Core.List.{List, [], ◌++◌, append_assoc, append-nil}
+use mathlib.Core.List.{List, ◌++◌, append_assoc, append-nil}
 use Prim.Native.Nat.{ℕ, ◌+◌, ◌-◌, ◌≤◌}
 use native.Mathlib.Omega.{arith}
 use borrow.Rule.Slice.PartMut.{put_mid}
 use lib.ListN.{length, drop, take, length-append, length-drop, take-append-drop, drop_of_length-le}
-use lib.Seq.{length-take-le, take_all, take-append-le, drop-append-le, drop-append-add, take_at, drop_at, drop-drop, take-length}
+use lib.Seq.{length-take-le, take-append-le, drop-append-le, drop-append-add, take_at, drop_at, drop-drop, take-length}
 use Rattle.fields.specs.Puts.{patched}
 
 module _ (at : ℕ) (p d : List ℕ) (room : at + length p ≤ length d) where

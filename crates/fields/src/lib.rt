@@ -19,10 +19,8 @@ pub fn put_number(out: &mut [u8], at: usize, width: usize, n: u32) -> usize
     requires { at + width ≤ length out.old }
     ensures { Puts out.old at width (number_bytes width n) out.new result }
 {
-    let mut left = width;
     let mut m = n;
-    while left > 0 {
-        left -= 1;
+    for left in (0..width).rev() {
         out[at + left] = (m % 256) as u8;
         m /= 256;
     }
@@ -63,7 +61,6 @@ pub fn put_part(out: &mut [u8], at: usize, from: &[u8], a: usize, n: usize) -> u
     requires { (at + n ≤ length out.old) × (a + n ≤ length from.now) }
     ensures { Puts out.old at n (take n (drop a from.now)) out.new result }
 {
-    let e = a + n;
-    paste(out, at, &from[a..e]);
+    paste(out, at, &from[a..a + n]);
     at + n
 }

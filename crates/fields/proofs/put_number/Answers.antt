@@ -1,4 +1,4 @@
--- `put_number`: the invariant is that the rest m of the number, put in the `left` bytes still free, gives the whole; `left` falls. Assumes nothing.
+-- `put_number`: the invariant is that the rest m of the number, put in the `left` bytes still free, gives the whole. Assumes nothing.
 -- Read first: specs/Puts, proofs/Numbering (Numbering).
 use Rattle.fields.proofs.Numbering.{numbering_start, numbering_more, numbering_end}
 use Rattle.std.proofs.Common.{rules}
