@@ -5,7 +5,7 @@ use mathlib.Core.List.{List, [], ◌∷◌, ◌++◌}
 use Prim.Native.Nat.{ℕ, ◌+◌, ◌*◌, ◌-◌, ◌%◌, ◌<◌, ◌≤◌}
 use native.Mathlib.Omega.{arith}
 use lib.ListN.{length, get_or, drop, take, length-take}
-use lib.Seq.{take_all}
+use lib.Seq.{take_all, take-take}
 use Rattle.limits.specs.Limits.{most_nodes, origin_width}
 use Rattle.terms.specs.Base.{number_bytes}
 use Rattle.fields.proofs.Patching.{part_is}
@@ -57,61 +57,33 @@ module _ (slots : List ℕ) (k : ℕ) where
     unfolding right_of right_length
     right_read e = side_read right_at (origin_width + 1) n (omega arith) (omega arith) (y.short k (omega arith)).right e
 
--- `copy`: the slot fills the array
-pub copied : (slots : List ℕ) (k : ℕ) (one : List ℕ) → slot_width * (k + 1) ≤ length slots →
-    one ≡ take (slot_width * k + slot_width - slot_width * k) (drop (slot_width * k) slots) → slot one 0 ≡ slot slots k
-unfolding slot
-copied slots k one r q =
-    let m = slot_length slots k r in
-    let p : one ≡ slot slots k = q ∙ part_is slots (slot_width * k) slot_width in
-    take_all slot_width one (omega (arith, ap length p)) ∙ p
+-- parts of a slot, by value: `copy`, `mark`, `number`
+module _ (slots : List ℕ) (k : ℕ) where
+  pub copied : (one : List ℕ) → slot_width * (k + 1) ≤ length slots → one ≡ take slot_width (drop (slot_width * k) slots) → slot one 0 ≡ slot slots k
+  unfolding slot
+  copied one r e =
+      let p : one ≡ slot slots k = e in
+      take_all slot_width one (omega (arith, ap length p, slot_length slots k r)) ∙ p
 
--- the first six bytes, and the second and third, one by one
-six : (l : List ℕ) → 6 ≤ length l → get_or l 0 0 ∷ (get_or l 1 0 ∷ (get_or l 2 0 ∷ (get_or l 3 0 ∷ (get_or l 4 0 ∷ (get_or l 5 0 ∷ []))))) ≡ take 6 l
-six [] h = absurd (omega arith)
-six (a ∷ []) h = absurd (omega arith)
-six (a ∷ (b ∷ [])) h = absurd (omega arith)
-six (a ∷ (b ∷ (c ∷ []))) h = absurd (omega arith)
-six (a ∷ (b ∷ (c ∷ (d ∷ [])))) h = absurd (omega arith)
-six (a ∷ (b ∷ (c ∷ (d ∷ (e ∷ []))))) h = absurd (omega arith)
-six (a ∷ (b ∷ (c ∷ (d ∷ (e ∷ (f ∷ l)))))) h = refl
+  pub mark_read : take origin_width (drop (slot_width * k) slots) ≡ mark_of (slot slots k)
+  unfolding mark_of slot
+  mark_read = sym (take-take origin_width slot_width (drop (slot_width * k) slots) (omega arith))
 
-two : (l : List ℕ) → 3 ≤ length l → get_or l 1 0 ∷ (get_or l 2 0 ∷ []) ≡ take 2 (drop 1 l)
-two [] h = absurd (omega arith)
-two (a ∷ []) h = absurd (omega arith)
-two (a ∷ (b ∷ [])) h = absurd (omega arith)
-two (a ∷ (b ∷ (c ∷ l))) h = refl
-
-module _ (slots : List ℕ) (k : ℕ) (r : slot_width * (k + 1) ≤ length slots) where
-  pub mark_bytes : (a : ℕ) → a ≡ slot_width * k →
-      get_or slots a 0 ∷ (get_or slots (a + 1) 0 ∷
-      (get_or slots (a + 2) 0 ∷ (get_or slots (a + 3) 0 ∷ (get_or slots (a + 4) 0 ∷ (get_or slots (a + 5) 0 ∷ [])))))
-      ≡ mark_of (slot slots k)
-  unfolding mark_of
-  mark_bytes a e =
-      let z : a ≡ slot_width * k + 0 = omega arith in
-      let b₀ : get_or (slot slots k) 0 0 ≡ get_or slots a 0 = slot_byte slots k 0 (omega arith) ∙ ap (λ i. get_or slots i 0) (sym z) in
-      let at : (i : ℕ) → i < slot_width → get_or (slot slots k) i 0 ≡ get_or slots (a + i) 0 =
-      λ i h. slot_byte slots k i h ∙ ap (λ j. get_or slots (j + i) 0) (sym e) in
-      let s = six (slot slots k) (omega (arith, slot_length slots k r)) in
-      cc (b₀, at 1 (omega arith), at 2 (omega arith), at 3 (omega arith), at 4 (omega arith), at 5 (omega arith), s)
-
-  pub number_bytes_at : (a : ℕ) → a ≡ slot_width * k + 1 → get_or slots a 0 ∷ (get_or slots (a + 1) 0 ∷ []) ≡ number_of (slot slots k)
+  pub number_read : take 2 (drop (slot_width * k + 1) slots) ≡ number_of (slot slots k)
   unfolding number_of
-  number_bytes_at a e =
-      let w : a + 1 ≡ slot_width * k + 2 = omega arith in
-      let b₁ : get_or (slot slots k) 1 0 ≡ get_or slots a 0 = slot_byte slots k 1 (omega arith) ∙ ap (λ i. get_or slots i 0) (sym e) in
-      let b₂ : get_or (slot slots k) 2 0 ≡ get_or slots (a + 1) 0 = slot_byte slots k 2 (omega arith) ∙ ap (λ i. get_or slots i 0) (sym w) in
-      let s = two (slot slots k) (omega (arith, slot_length slots k r)) in
-      cc
+  number_read = sym (slot_part slots k 1 2 (omega arith))
 
 -- `overlapping`
-pub overlapping_at : (rules : List ℕ) (inner outer position a b : ℕ) → slot_width * (inner + 1) ≤ length rules →
-    slot_width * (outer + 1) ≤ length rules → position < 256 →
-    a ≡ slot_width * inner + 1 → b ≡ slot_width * outer + 1 →
-    4 ∷ (get_or rules a 0 ∷ (get_or rules (a + 1) 0 ∷ (get_or rules b 0 ∷ (get_or rules (b + 1) 0 ∷ (position ∷ []))))) ≡ overlapping_bytes rules inner
-    outer position
+pair_is : (l : List ℕ) → length l ≡ 2 → get_or l 0 0 ∷ (get_or l 1 0 ∷ []) ≡ l
+pair_is [] h = absurd (omega arith)
+pair_is (a ∷ []) h = absurd (omega arith)
+pair_is (a ∷ (b ∷ [])) h = refl
+pair_is (a ∷ (b ∷ (c ∷ l))) h = absurd (omega arith)
+
+pub overlapping_at : (rules : List ℕ) (inner outer position : ℕ) (a b : List ℕ) → position < 256 → length a ≡ 2 → length b ≡ 2 →
+    a ≡ number_of (slot rules inner) → b ≡ number_of (slot rules outer) →
+    4 ∷ (get_or a 0 0 ∷ (get_or a 1 0 ∷ (get_or b 0 0 ∷ (get_or b 1 0 ∷ (position ∷ []))))) ≡ overlapping_bytes rules inner outer position
 unfolding number_bytes
-overlapping_at rules inner outer position a b h k p e f =
-    ap₂ (λ x y. 4 ∷ (x ++ y ++ (position ∷ []))) (number_bytes_at rules inner h a e) (number_bytes_at rules outer k b f)
+overlapping_at rules inner outer position a b p m n e f =
+    ap₂ (λ x y. 4 ∷ (x ++ y ++ (position ∷ []))) (pair_is a m ∙ e) (pair_is b n ∙ f)
     ∙ ap (λ z. 4 ∷ (number_of (slot rules inner) ++ number_of (slot rules outer) ++ (z ∷ []))) (let q : position ≡ position % 256 = omega arith in q)

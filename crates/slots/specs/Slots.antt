@@ -1,5 +1,5 @@
 -- Pairs of terms in slots: where the parts of a slot stand, when pairs stand in slots, and what the functions on slots leave. Assumes nothing.
-use Rattle.std.specs.Prelude.{◌≡◌, List, [], ◌∷◌, ◌++◌, ℕ, zero, suc, ◌+◌, ◌*◌, ◌<◌, ◌≤◌, length, get_or, drop, take}
+use Rattle.std.specs.Prelude.{◌≡◌, List, [], ◌∷◌, ◌++◌, ℕ, suc, ◌+◌, ◌*◌, ◌<◌, ◌≤◌, length, get_or, drop, take}
 use Rattle.limits.specs.Limits.{most_nodes, most_pair, most_variables, origin_width}
 use Rattle.terms.specs.Base.{number_bytes}
 use Rattle.terms.specs.Term.{Pair, term_bytes}
@@ -119,12 +119,6 @@ pub record Removed (slots : List ℕ) (k count : ℕ) (slots' : List ℕ) : Type
   pub same : length slots' ≡ length slots
   pub before : (i : ℕ) → i < k → slot slots' i ≡ slot slots i
   pub behind : (i : ℕ) → k ≤ i → i + 1 < count → slot slots' i ≡ slot slots (i + 1)
-
--- `make_room`: those before k stand as they did, and those from k on took the places behind them
-pub record RoomMade (slots : List ℕ) (k count : ℕ) (slots' : List ℕ) : Type 0 where
-  pub same : length slots' ≡ length slots
-  pub before : (i : ℕ) → i < k → slot slots' i ≡ slot slots i
-  pub behind : (i : ℕ) → k ≤ i → i < count → slot slots' (i + 1) ≡ slot slots i
 
 -- `insert`: one more slot stands at k, and those from k on took the places behind them
 pub record Inserted (slots : List ℕ) (k count : ℕ) (one slots' : List ℕ) : Type 0 where

@@ -5,10 +5,10 @@
 pub mod origins;
 pub mod system;
 
-ghost use Rattle.std.specs.Prelude.{◌≡◌, ◌+◌, ◌*◌, ◌<◌, ◌≤◌, length, get_or};
+ghost use Rattle.std.specs.Prelude.{◌≡◌, ◌+◌, ◌*◌, ◌<◌, ◌≤◌, length, get_or, take, drop};
 ghost use Rattle.limits.specs.Limits.{most_nodes, origin_width};
 ghost use Rattle.slots.specs.Slots.{left_at, slot_width, slot, mark_of, number_of, left_length, left_of, right_of, Layout, PutSides, PutMark};
-ghost use Rattle.slots.specs.Slots.{PutRight, Removed, RoomMade, Inserted, MovedLast};
+ghost use Rattle.slots.specs.Slots.{PutRight, Removed, Inserted, MovedLast};
 
 use limits::NODES;
 pub use system::System;
@@ -28,6 +28,7 @@ pub const SLOT: usize = RIGHT + NODES;
 pub const ROOM: usize = limits::PAIRS * SLOT;
 
 // The pairs in the first `count` slots.
+// Kept: the bytes with a count beside them, since memory is fixed and there is no heap.
 #[derive(Clone, Copy)]
 pub struct Pairs {
     pub bytes: [u8; ROOM],
@@ -39,7 +40,7 @@ pub fn left_size(slots: &[u8], k: usize) -> usize
     requires { slot_width * (k + 1) ≤ length slots.now }
     ensures { result ≡ left_length (slot slots.now k) }
 {
-    terms::wide(slots[SLOT * k + LEFT_LENGTH])
+    usize::from(slots[SLOT * k + LEFT_LENGTH])
 }
 
 // The left side of pair k.
@@ -49,7 +50,7 @@ pub fn left(slots: &[u8], k: usize) -> &[u8]
     ensures result_len_bound { length result.now ≤ most_nodes }
 {
     let a = SLOT * k + LEFT;
-    let n = terms::wide(slots[SLOT * k + LEFT_LENGTH]);
+    let n = usize::from(slots[SLOT * k + LEFT_LENGTH]);
     &slots[a..a + n]
 }
 
@@ -62,14 +63,25 @@ pub fn left_root(slots: &[u8], k: usize) -> u8
 }
 
 // The right side of pair k.
+// Kept: beside `left`, since a function over the places of both would have a contract longer than their bodies.
 pub fn right(slots: &[u8], k: usize) -> &[u8]
     requires { Layout slots.now (k + 1) }
     ensures result_value { result.now ≡ right_of (slot slots.now k) }
     ensures result_len_bound { length result.now ≤ most_nodes }
 {
     let a = SLOT * k + RIGHT;
-    let n = terms::wide(slots[SLOT * k + RIGHT_LENGTH]);
+    let n = usize::from(slots[SLOT * k + RIGHT_LENGTH]);
     &slots[a..a + n]
+}
+
+// The N bytes from a place on, by value.
+fn bytes_at<const N: usize>(slots: &[u8], a: usize) -> [u8; N]
+    requires { a + N ≤ length slots.now }
+    ensures { result ≡ take N (drop a slots.now) }
+{
+    let mut bytes = [0u8; N];
+    bytes.copy_from_slice(&slots[a..a + N]);
+    bytes
 }
 
 // The mark of pair k.
@@ -77,15 +89,7 @@ pub fn mark(slots: &[u8], k: usize) -> [u8; limits::ORIGIN]
     requires { slot_width * (k + 1) ≤ length slots.now }
     ensures { result ≡ mark_of (slot slots.now k) }
 {
-    let a = SLOT * k;
-    [
-        slots[a],
-        slots[a + 1],
-        slots[a + 2],
-        slots[a + 3],
-        slots[a + 4],
-        slots[a + 5],
-    ]
+    bytes_at(slots, SLOT * k)
 }
 
 // The two bytes of the first number of pair k's mark: of a rule, its number.
@@ -93,8 +97,7 @@ pub fn number(slots: &[u8], k: usize) -> [u8; 2]
     requires { slot_width * (k + 1) ≤ length slots.now }
     ensures { result ≡ number_of (slot slots.now k) }
 {
-    let a = SLOT * k + origins::FIRST;
-    [slots[a], slots[a + 1]]
+    bytes_at(slots, SLOT * k + origins::FIRST)
 }
 
 // A pair's sides into slot k.
@@ -133,10 +136,7 @@ pub fn copy(slots: &[u8], k: usize) -> [u8; SLOT]
     requires { slot_width * (k + 1) ≤ length slots.now }
     ensures { slot result 0 ≡ slot slots.now k }
 {
-    let a = SLOT * k;
-    let mut one = [0u8; SLOT];
-    one.copy_from_slice(&slots[a..a + SLOT]);
-    one
+    bytes_at::<SLOT>(slots, SLOT * k)
 }
 
 // Of `count` pairs, those behind k take the places before them.
@@ -144,23 +144,7 @@ pub fn remove(slots: &mut [u8], k: usize, count: usize)
     requires { (k < count) × (slot_width * count ≤ length slots.old) }
     ensures { Removed slots.old k count slots.new }
 {
-    let end = SLOT * (count - 1);
-    for i in SLOT * k..end {
-        slots[i] = slots[i + SLOT];
-    }
-}
-
-// Of `count` pairs, those from k on take the places behind them.
-fn make_room(slots: &mut [u8], k: usize, count: usize)
-    requires { (k ≤ count) × (slot_width * (count + 1) ≤ length slots.old) }
-    ensures { RoomMade slots.old k count slots.new }
-{
-    let a = SLOT * k;
-    let mut i = SLOT * count;
-    while i > a {
-        i -= 1;
-        slots[i + SLOT] = slots[i];
-    }
+    slots.copy_within(SLOT * (k + 1)..SLOT * count, SLOT * k);
 }
 
 // One more pair, the one of a slot, stands at k.
@@ -168,7 +152,7 @@ pub fn insert(slots: &mut [u8], k: usize, count: usize, one: &[u8])
     requires { (k ≤ count) × (slot_width * (count + 1) ≤ length slots.old) × (length one.now ≡ slot_width) }
     ensures { Inserted slots.old k count one.now slots.new }
 {
-    make_room(slots, k, count);
+    slots.copy_within(SLOT * k..SLOT * count, SLOT * (k + 1));
     fields::paste(slots, SLOT * k, one);
 }
 

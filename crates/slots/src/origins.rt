@@ -20,10 +20,8 @@ pub const FIRST: usize = 1;
 pub fn numbered(kind: u8, n: u16) -> [u8; limits::ORIGIN]
     ensures { result ≡ numbered_bytes kind n }
 {
-    let mut o = [0u8; limits::ORIGIN];
-    o[0] = kind;
-    fields::put_number(&mut o, FIRST, 2, n as u32);
-    o
+    let [high, low] = n.to_be_bytes();
+    [kind, high, low, 0, 0, 0]
 }
 
 // The overlap of the rules in two slots at a position: the numbers are those of the rules' marks.
@@ -36,14 +34,7 @@ pub fn overlapping(
     requires { (slot_width * (inner + 1) ≤ length rules.now) × (slot_width * (outer + 1) ≤ length rules.now) × (position < byte_values) }
     ensures { result ≡ overlapping_bytes rules.now inner outer position }
 {
-    let a = super::SLOT * inner + FIRST;
-    let b = super::SLOT * outer + FIRST;
-    [
-        OVERLAPPING,
-        rules[a],
-        rules[a + 1],
-        rules[b],
-        rules[b + 1],
-        position as u8,
-    ]
+    let [a, b] = super::number(rules, inner);
+    let [c, d] = super::number(rules, outer);
+    [OVERLAPPING, a, b, c, d, position as u8]
 }

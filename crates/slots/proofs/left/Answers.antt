@@ -8,11 +8,11 @@ pub slice_bounds-result-end : goal.slice_bounds-result-end
 slice_bounds-result-end c =
     let y = c.requires in
     let r = y.room in
-    omega (arith, left_few c.args.slots.now c.args.k _ y c.wide-n.ensures.0)
+    omega (arith, left_few c.args.slots.now c.args.k _ y c.from-n.ensures)
 
 pub returns : goal.returns
 returns c =
-    let all = left_read _ _ _ c.requires c.wide-n.ensures.0 in
+    let all = left_read _ _ _ c.requires c.from-n.ensures in
     record {
       result_value = all.0;
       result_len_bound = all.1;

@@ -5,4 +5,4 @@ use Rattle.slots.proofs.Reading.{left_length_at}
 use Rattle.slots.proofs.left_size.Goals as goal
 
 pub returns : goal.returns
-returns c = c.wide.ensures.0 ∙ sym (left_length_at c.args.slots.now c.args.k)
+returns c = c.from.ensures ∙ sym (left_length_at c.args.slots.now c.args.k)

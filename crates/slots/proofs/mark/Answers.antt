@@ -1,8 +1,8 @@
 -- `mark`: the six bytes are those of the slot. Assumes nothing.
 -- Read first: `mark` in src/lib.rt, proofs/Reading.
-use mathlib.Core.Path.{refl}
-use Rattle.slots.proofs.Reading.{mark_bytes}
+use mathlib.Core.Path.{◌∙◌}
+use Rattle.slots.proofs.Reading.{mark_read}
 use Rattle.slots.proofs.mark.Goals as goal
 
 pub returns : goal.returns
-returns c = mark_bytes c.args.slots.now c.args.k c.requires _ refl
+returns c = c.bytes_at.ensures ∙ mark_read c.args.slots.now c.args.k

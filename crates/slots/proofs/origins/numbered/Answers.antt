@@ -1,9 +1,9 @@
--- `numbered`: the bytes put are those of the definition by computation. Assumes nothing.
--- Read first: `numbered` in src/origins.rt, fields/specs/Puts.
+-- `numbered`: the number's two bytes are those of the definition by computation. Assumes nothing.
+-- Read first: `numbered` in src/origins.rt.
 use Rattle.terms.specs.Base.{number_bytes}
-use Rattle.fields.specs.Puts.{patched}
+use mathlib.Core.Path.{refl}
 use Rattle.slots.proofs.origins.numbered.Goals as goal
 
 pub returns : goal.returns
-unfolding number_bytes patched
-returns c = c.put_number.ensures.bytes
+unfolding number_bytes
+returns c = rw c.to_be_bytes.ensures refl
