@@ -2,9 +2,10 @@
 // name in a byte, the length of its problem in two, the name and the problem; the Rust programs of rust/src/bin write them.
 #![tactic(auto)]
 
-ghost use Rattle.std.specs.Prelude.{◌≡◌, ◌<◌, ◌≤◌, ◌++◌, length, take, drop, codes, decimal, IfOk, OnOk, OnErr};
+ghost use Rattle.std.specs.Prelude.{◌≡◌, ◌-◌, ◌<◌, ◌≤◌, ◌++◌, length, take, drop, codes, decimal, IfOk, OnOk, OnErr};
+ghost use Rattle.std.specs.Iterator.{at_most};
 ghost use Rattle.std.specs.Io.KnownBytes.{Appends, Consumes, IsAtEnd, WriteAppends};
-ghost use Rattle.stored_cases.specs.Cases.{case_at};
+ghost use Rattle.stored_cases.specs.Cases.{case_at, Gives};
 ghost use Rattle.stored_cases.specs.Partly.{AppendsStart, ConsumesStart};
 
 use std::fmt::{InlineText, Write as _};
@@ -45,6 +46,62 @@ pub fn case_at(text: &[u8], at: usize) -> Option<Case>
 }
 
 // Kept: a reader's `read_exact` says nothing of an end of the input, or of what an error loses.
+// A case, read: what is asked, its name and its problem.
+#[derive(Clone, Copy)]
+pub struct Asked<'a> {
+    pub asked: u8,
+    pub name: &'a [u8],
+    pub problem: &'a [u8],
+}
+
+// The parts of a case that stands in a text.
+fn parts(text: &[u8], case: Case) -> Asked<'_>
+    requires { (case.name ≤ case.problem) × (case.problem ≤ case.end) × (case.end ≤ length text.now) }
+    ensures asked { result.asked ≡ case.asked }
+    ensures name { result.name.now ≡ drop case.name (take case.problem text.now) }
+    ensures problem { result.problem.now ≡ drop case.problem (take case.end text.now) }
+{
+    let Case {
+        asked,
+        name,
+        problem,
+        end,
+    } = case;
+    Asked {
+        asked,
+        name: &text[name..problem],
+        problem: &text[problem..end],
+    }
+}
+
+// The cases of a text, one behind the other, up to one that is cut.
+#[derive(Drop)]
+pub struct Cases<'a> {
+    text: &'a [u8],
+    at: usize,
+}
+
+pub fn cases_in(text: &[u8]) -> Cases<'_>
+    ensures { (result.text.now ≡ text.now) × (result.at ≡ 0) }
+{
+    Cases { text, at: 0 }
+}
+
+impl<'a> Iterator for Cases<'a> {
+    type Item = Asked<'a>;
+
+    ghost next_gives = { Gives };
+
+    ghost remaining = { λ s. at_most (length s.text.now - s.at) };
+
+    fn next(&mut self) -> Option<Asked<'a>> {
+        let text = self.text;
+        let case = case_at(text, self.at)?;
+        self.at = case.end;
+        Some(parts(text, case))
+    }
+}
+
 // Reads until the buffer is full or the input ends: how many bytes stand at its start. Where the input's bytes are known, these are the next of them.
 // After an error some start of the buffer is what the input has lost.
 pub fn read_full<R: Read>(input: &mut R, buffer: &mut [u8]) -> io::Result<usize>
