@@ -6,6 +6,7 @@ use mathlib.Core.List.{List, [], ◌∷◌, ◌++◌, map, flat_map}
 use Prim.Native.Nat.{ℕ, suc, ◌+◌, ◌-◌, ◌*◌, ◌<◌, ◌≤◌}
 use native.Mathlib.Omega.{arith}
 use lib.ListN.{length, length-append}
+use Rattle.std.specs.Prelude.{Ok, Err}
 use Rattle.limits.specs.Limits.{most_equations, most_rules, most_variables}
 use Rattle.terms.specs.Term.{Pair}
 use Rattle.terms.proofs.Shape.{zero≢one}
@@ -19,11 +20,9 @@ use Rattle.completion.specs.Turn.{removed_rule, Candidate, State as RunState, in
 use Rattle.completion.specs.Calls.{origin_bytes}
 use Rattle.inputs.specs.Inputs.{marked, Held}
 use Rattle.orient.specs.Orients.{OrientedIs, RuleOf}
-use Rattle.orient.specs.declared.Oriented.{Oriented as NewPair}
-use Rattle.orient.specs.declared.Way.{Way}
-use Rattle.orient.specs.declared.Way.TheVariants.{Rule, Neither, TooLarge}
+use Rattle.orient.specs.declared.Unoriented.{Unoriented}
+use Rattle.orient.specs.declared.Unoriented.TheVariants.{Neither, TooLarge}
 use Rattle.state.specs.declared.State.{State}
-use Rattle.state.specs.declared.Oriented.{Oriented}
 use Rattle.collapse.specs.Rows.{as_removed, held}
 use Rattle.state.specs.Run.{FineBut, Fine, Represents}
 use Rattle.collapse.specs.Sifting.{Sifted}
@@ -141,29 +140,21 @@ module _ (st : State) (fine : Fine st) where
         }
 
 -- `orient`
-module _ (tab pair : List ℕ) (st : State) (o : NewPair) where
-  module _ (number : ℕ) (h : RuleOf tab pair number o) (none : o.way ≡ Rule → ⊥) where
-    abbrev as_it_was : Oriented
-    as_it_was = record { state = st; way = o.way }
+module _ (tab pair : List ℕ) (st : State) where
+  no_rule : (T : Theory) (s : RunState) (p : Pair) (why : Unoriented) → OrientedIs tab T p (Err why) → OrientsIs tab T s p (Err why)
+  no_rule T s p Neither a = a
+  no_rule T s p TooLarge a = a
 
-    no_rule : (T : Theory) (s : RunState) (p : Pair) (w : Way) → (w ≡ Rule → ⊥) → OrientedIs tab o.rule T p w → OrientsIs tab T s p st w
-    no_rule T s p Rule n a = absurd (n refl)
-    no_rule T s p Neither n a = a
-    no_rule T s p TooLarge n a = a
+  pub orient_none : (number : ℕ) (why : Unoriented) → RuleOf tab pair number (Err why) → Orients tab pair st (Err why)
+  orient_none number why h = record {
+    more = tt;
+    low = λ e. h.low (cc);
+    answer = λ T k s p r q. no_rule T s p why (h.answer T k p q);
+  }
 
-    pub orient_none : Orients tab pair st as_it_was
-    orient_none = record {
-      fine = λ g. absurd (none g);
-      live = λ g. absurd (none g);
-      made = λ g. absurd (none g);
-      same = record { log = refl; back = refl; units = refl };
-      low = h.low;
-      answer = λ T k s p r q. no_rule T s p o.way none (h.answer T k p q);
-    }
-
-  module _ (fine : Fine st) (h : RuleOf tab pair (st.made + 1) o) (is_rule : o.way ≡ Rule) (few : st.pairs.count ≤ most_rules)
+  module _ (one : List ℕ) (fine : Fine st) (h : RuleOf tab pair (st.made + 1) (Ok one)) (few : st.pairs.count ≤ most_rules)
       (room : slot_width * (st.pairs.count + 1) ≤ length st.pairs.bytes) (b : List ℕ)
-      (i : Inserted st.pairs.bytes st.live st.pairs.count o.rule b) where
+      (i : Inserted st.pairs.bytes st.live st.pairs.count one b) where
     abbrev with_new : State
     with_new = record {
       pairs = record { bytes = b; count = st.pairs.count + 1 };
@@ -174,16 +165,16 @@ module _ (tab pair : List ℕ) (st : State) (o : NewPair) where
       units = st.units;
     }
 
-    module _ (s : RunState) (r : Represents tab st s) (p : Pair) (a : PairAt most_variables tab o.rule 0 p) where
+    module _ (s : RunState) (r : Represents tab st s) (p : Pair) (a : PairAt most_variables tab one 0 p) where
       abbrev new : LiveRule
       new = record { number = suc s.made; sides = p }
 
       more_made : st.made + 1 ≡ suc s.made
       more_made = let m = r.made in omega arith
 
-      new_row : MarkedAt tab o.rule 0 (row new)
+      new_row : MarkedAt tab one 0 (row new)
       unfolding origin_bytes
-      new_row = record { mark = h.marked is_rule ∙ ap (λ n. origin_bytes (removed_rule n)) more_made; pair = a }
+      new_row = record { mark = h.numbered.marked ∙ ap (λ n. origin_bytes (removed_rule n)) more_made; pair = a }
 
       with_new_rule : Represents tab with_new (with_rule s p)
       with_new_rule =
@@ -205,32 +196,30 @@ module _ (tab pair : List ℕ) (st : State) (o : NewPair) where
             back = r.back;
           }
 
-    made_rule : (T : Theory) (s : RunState) → Represents tab st s → (p : Pair) (w : Way) → w ≡ Rule → OrientedIs tab o.rule T p w →
-        OrientsIs tab T s p with_new w
-    made_rule T s r p Rule e a =
-        (a.0, record { sides = a.1.sides; oriented = a.1.oriented; represents = with_new_rule s r a.1.sides a.1.stands })
-    made_rule T s r p Neither e a = absurd (zero≢one (cc))
-    made_rule T s r p TooLarge e a = absurd (zero≢one (cc))
-
-    pub orient_done : Orients tab pair st (record { state = with_new; way = o.way })
+    pub orient_done : Orients tab pair st (Ok with_new)
     orient_done =
         let w = fine.within in
         let l = fine.live_few in
         let m = fine.made_few in record {
-          fine = λ g. record {
-            layout = inserted_layout i room fine.layout (h.layout.short 0 (omega arith)) w;
-            within = omega arith;
-            together = omega arith;
-            live_few = omega arith;
-            log_few = fine.log_few;
-            made_few = omega arith;
-            back_few = fine.back_few;
+          more = record {
+            fine = record {
+              layout = inserted_layout i room fine.layout (h.numbered.layout.short 0 (omega arith)) w;
+              within = omega arith;
+              together = omega arith;
+              live_few = omega arith;
+              log_few = fine.log_few;
+              made_few = omega arith;
+              back_few = fine.back_few;
+            };
+            live = refl;
+            made = refl;
+            same = record { log = refl; back = refl; units = refl };
           };
-          live = λ g. refl;
-          made = λ g. refl;
-          same = record { log = refl; back = refl; units = refl };
-          low = h.low;
-          answer = λ T k s p r q. made_rule T s r p o.way is_rule (h.answer T k p q);
+          low = λ e. absurd (zero≢one (cc));
+          answer = λ T k s p r q.
+              let a = h.answer T k p q in
+              let p' = a.1.sides in
+              (a.0, record { sides = p'; oriented = a.1.oriented; represents = with_new_rule s r p' a.1.stands });
         }
 
 -- `collapse`

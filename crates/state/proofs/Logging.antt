@@ -1,4 +1,4 @@
--- One entry more: the eight bytes behind the log's are those of the entry. `enter`, `settle`, `enter_rule`. Assumes nothing.
+-- One entry more: the eight bytes behind the log's are those of the entry. `push`, `settle`, `enter_rule`. Assumes nothing.
 -- Read first: specs/Run (Logged), specs/Steps (Logs), fields/proofs/Patching.
 use mathlib.Core.Path.{◌≡◌, refl, sym, ap, ap₂, ◌∙◌}
 use mathlib.Core.List.{List, [], ◌∷◌, ◌++◌}
@@ -22,27 +22,24 @@ use Rattle.items.specs.Written.{logged_width, logged}
 use Rattle.state.specs.Run.{Logged, FineBut}
 use Rattle.state.specs.Steps.{Enters, Logs}
 
--- `enter`
-pub entry_put : {n made : ℕ} {pair : List ℕ} (log log₁ log₂ origin : List ℕ) (at r : ℕ) → at ≡ logged_width * n → origin ≡ mark_of (slot pair 0) →
-    at + length origin ≤ length log → length origin ≡ 6 → log₁ ≡ patched at origin log → Puts log₁ (at + 6) 2 (number_bytes 2 made) log₂ r →
-    Enters n made pair log log₂ (n + 1)
-entry_put {n} {made} log log₁ log₂ origin at r place from room six e p =
+-- `push`
+pub entry_put : {made : ℕ} {pair : List ℕ} (log : Log) (log₁ log₂ origin : List ℕ) (at r : ℕ) → at ≡ logged_width * log.count →
+    origin ≡ mark_of (slot pair 0) → at + length origin ≤ length log.bytes → length origin ≡ 6 → log₁ ≡ patched at origin log.bytes →
+    Puts log₁ (at + 6) 2 (number_bytes 2 made) log₂ r → Enters made pair log (record { bytes = log₂; count = log.count + 1 })
+entry_put {made} log log₁ log₂ origin at r place from room six e p =
     let k : at + 6 ≡ at + length origin = omega arith in
     record {
       bytes =
-          p.bytes ∙ ap₂ (λ z l. patched z (number_bytes 2 made) l) k e ∙ patched_behind at origin (number_bytes 2 made) log room
-          ∙ ap₂ (λ z o. patched z (o ++ number_bytes 2 made) log) place from;
+          p.bytes ∙ ap₂ (λ z l. patched z (number_bytes 2 made) l) k e ∙ patched_behind at origin (number_bytes 2 made) log.bytes room
+          ∙ ap₂ (λ z o. patched z (o ++ number_bytes 2 made) log.bytes) place from;
       more = refl;
     }
 
 -- a log with one entry more
-module _ (log : Log) (pair : List ℕ) (n : ℕ) (room : log.count < most_entries) (long : logged_width * most_entries ≤ length log.bytes)
-    (bytes : List ℕ) (count : ℕ) (e : Enters log.count n pair log.bytes bytes count) where
-  abbrev pub with_one : Log
-  with_one = record { bytes = bytes; count = count }
-
+module _ (log log' : Log) (pair : List ℕ) (n : ℕ) (room : log.count < most_entries) (long : logged_width * most_entries ≤ length log.bytes)
+    (e : Enters n pair log log') where
   pub logged_more : (es : List Entry) (o : Origin) → Logged log es → mark_of (slot pair 0) ≡ origin_bytes o →
-      Logged with_one (es ++ (record { origin = o; made = n } ∷ []))
+      Logged log' (es ++ (record { origin = o; made = n } ∷ []))
   unfolding entry_field
   logged_more es o r q =
       let origin : List ℕ = mark_of (slot pair 0) in
@@ -52,8 +49,8 @@ module _ (log : Log) (pair : List ℕ) (n : ℕ) (room : log.count < most_entrie
       length-append origin (number_bytes 2 n) ∙ omega (arith, ap length q, origin_bytes_length o, length_number_bytes 2 n) in
       record {
         bytes =
-            ap (take (logged_width * count)) e.bytes
-            ∙ front_more (logged_width * log.count) (logged_width * count) (origin ++ number_bytes 2 n) log.bytes (omega arith) (omega arith)
+            ap (take (logged_width * log'.count)) e.bytes
+            ∙ front_more (logged_width * log.count) (logged_width * log'.count) (origin ++ number_bytes 2 n) log.bytes (omega arith) (omega arith)
             ∙ ap₂ ◌++◌ r.bytes (ap (λ z. z ++ number_bytes 2 n) q ∙ sym (flat_map_one logged new))
             ∙ sym (flat_map_append logged es (new ∷ []));
         counted = more ∙ ap (λ z. z + 1) r.counted ∙ sym (length-append es (new ∷ []));
@@ -61,16 +58,9 @@ module _ (log : Log) (pair : List ℕ) (n : ℕ) (room : log.count < most_entrie
 
 -- none was put back since: `settle`, `enter_rule`
 module _ (st : State) (pair : List ℕ) (n : ℕ) (room : st.log.count < most_entries) (long : logged_width * most_entries ≤ length st.log.bytes)
-    (bytes : List ℕ) (count : ℕ) (e : Enters st.log.count n pair st.log.bytes bytes count) where
+    (log : Log) (e : Enters n pair st.log log) where
   abbrev with_log : State
-  with_log = record {
-    pairs = st.pairs;
-    live = st.live;
-    made = st.made;
-    log = with_one st.log pair n room long bytes count e;
-    back = 0;
-    units = st.units;
-  }
+  with_log = record { pairs = st.pairs; live = st.live; made = st.made; log = log; back = 0; units = st.units }
 
   log_fine : (over : ℕ) → FineBut over 1 st → FineBut over 0 with_log
   log_fine over F =
@@ -96,7 +86,7 @@ module _ (st : State) (pair : List ℕ) (n : ℕ) (room : st.log.count < most_en
           pairs = r.pairs;
           live = r.live;
           made = r.made;
-          log = logged_more st.log pair n room long bytes count e s.log o r.log q;
+          log = logged_more st.log log pair n room long e s.log o r.log q;
           back = refl;
         };
       }

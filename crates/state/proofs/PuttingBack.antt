@@ -13,13 +13,14 @@ use Rattle.completion.specs.Turn.{made_put_back, Candidate, State as RunState, T
 use Rattle.completion.specs.Calls.{origin_bytes}
 use Rattle.inputs.specs.Inputs.{marked}
 use Rattle.orient.specs.Orients.{Few, Renames}
+use Rattle.state.specs.declared.Log.{Log}
 use Rattle.state.specs.declared.State.{State}
 use Rattle.items.specs.Written.{logged_width}
 use Rattle.collapse.specs.Rows.{held}
 use Rattle.state.specs.Run.{Fine, Represents}
 use Rattle.state.specs.Steps.{PutsBack, Enters}
 use Rattle.collapse.proofs.Rows.{length_held, length_marked}
-use Rattle.state.proofs.Logging.{with_one, logged_more}
+use Rattle.state.proofs.Logging.{logged_more}
 
 module _ (st : State) (pair one b : List ℕ) (fine : Fine st) (few : st.pairs.count ≤ most_rules)
     (wide : slot_width * (st.pairs.count + 1) ≤ length st.pairs.bytes) (n : Renames pair one)
@@ -40,14 +41,14 @@ module _ (st : State) (pair one b : List ℕ) (fine : Fine st) (few : st.pairs.c
         (inserted_holds tab (map marked before) (marked c) [] (subst (λ z. Holds tab st.pairs.bytes 0 z) (sym e) r.pairs.holds) k
         (ap length e ∙ k) m i)
 
-  module _ (room : st.log.count < most_entries) (long : logged_width * most_entries ≤ length st.log.bytes) (bytes : List ℕ) (count : ℕ)
-      (e : Enters st.log.count made_put_back pair st.log.bytes bytes count) where
+  module _ (room : st.log.count < most_entries) (long : logged_width * most_entries ≤ length st.log.bytes) (log : Log)
+      (e : Enters made_put_back pair st.log log) where
     abbrev with_pair : State
     with_pair = record {
       pairs = record { bytes = b; count = st.pairs.count + 1 };
       live = st.live;
       made = st.made;
-      log = with_one st.log pair made_put_back room long bytes count e;
+      log = log;
       back = st.back + 1;
       units = st.units;
     }
@@ -71,7 +72,7 @@ module _ (st : State) (pair one b : List ℕ) (fine : Fine st) (few : st.pairs.c
           };
           live = r.live;
           made = r.made;
-          log = logged_more st.log pair made_put_back room long bytes count e s.log t.pair.origin r.log q;
+          log = logged_more st.log log pair made_put_back room long e s.log t.pair.origin r.log q;
           back = let z = r.back in omega arith;
         }
 

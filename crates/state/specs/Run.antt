@@ -1,5 +1,5 @@
 -- The run's state: what its values are held to, and which state of the definition it stands for. Assumes nothing.
-use Rattle.std.specs.Prelude.{◌≡◌, ℕ, ◌+◌, ◌*◌, ◌≤◌, length, take}
+use Rattle.std.specs.Prelude.{◌≡◌, ℕ, ◌+◌, ◌*◌, ◌≤◌, length, take, Some, None}
 use mathlib.Core.List.{List, flat_map}
 use Rattle.limits.specs.Limits.{most_rules, most_pairs, most_entries}
 use Rattle.rewriting.specs.Ends.{ending}
@@ -9,7 +9,6 @@ use Rattle.items.specs.Written.{logged_width, logged}
 use Rattle.inputs.specs.Inputs.{Held}
 use Rattle.collapse.specs.Rows.{held}
 use Rattle.rewriting.specs.declared.End.{End as Ending}
-use Rattle.rewriting.specs.declared.Verdict.TheVariants.{GoesOn, Ends}
 use Rattle.state.specs.declared.State.{State}
 use Rattle.state.specs.declared.Turned.{Turned}
 use Rattle.state.specs.declared.Log.{Log}
@@ -53,8 +52,8 @@ with_units st u = record { pairs = st.pairs; live = st.live; made = st.made; log
 
 -- `goes_on`
 abbrev pub goes_on_as : State → ℕ → Turned
-goes_on_as st units = record { state = with_units st units; verdict = GoesOn }
+goes_on_as st units = record { state = with_units st units; end = None }
 
 -- `ended`
 abbrev pub ended_as : State → Ending → ℕ → Turned
-ended_as st end units = record { state = with_units st units; verdict = Ends end }
+ended_as st end units = record { state = with_units st units; end = Some end }

@@ -1,5 +1,5 @@
 -- What the state's methods leave. Assumes nothing.
-use Rattle.std.specs.Prelude.{◌≡◌, ◌⊎◌, List, [], ◌∷◌, ◌++◌, ℕ, suc, ◌+◌, ◌*◌, ◌<◌, length}
+use Rattle.std.specs.Prelude.{◌≡◌, ◌⊎◌, List, [], ◌∷◌, ◌++◌, ℕ, suc, ◌+◌, ◌*◌, ◌<◌, length, Result, Ok, Err, IfOk}
 use Rattle.std.proofs.Math.Option.{none, some}
 use Rattle.limits.specs.Limits.{most_variables, most_apart}
 use Rattle.terms.specs.Base.{number_bytes}
@@ -14,10 +14,10 @@ use Rattle.completion.specs.Turn.{Origin, Candidate, State as RunState, Taken, i
 use Rattle.completion.specs.Calls.{origin_bytes}
 use Rattle.inputs.specs.Inputs.{Held, inputs_of}
 use Rattle.orient.specs.Orients.{Few, LowPair}
-use Rattle.orient.specs.declared.Way.{Way}
-use Rattle.orient.specs.declared.Way.TheVariants.{Rule, Neither, TooLarge}
+use Rattle.orient.specs.declared.Unoriented.{Unoriented}
+use Rattle.orient.specs.declared.Unoriented.TheVariants.{Neither, TooLarge}
 use Rattle.state.specs.declared.State.{State}
-use Rattle.state.specs.declared.Oriented.{Oriented}
+use Rattle.state.specs.declared.Log.{Log}
 use Rattle.items.specs.Written.{logged_width}
 use Rattle.state.specs.Run.{FineBut, Fine, Represents}
 
@@ -64,19 +64,23 @@ pub record NewRule (tab : List ℕ) (T : Theory) (s : RunState) (e : Pair) (r : 
   pub oriented : orient T e ≡ some sides
   pub represents : Represents tab r (with_rule s sides)
 
-abbrev pub OrientsIs : List ℕ → Theory → RunState → Pair → State → Way → Type 0
-OrientsIs tab T s e r Rule = Few e × NewRule tab T s e r
-OrientsIs tab T s e r Neither = Few e × (orient T e ≡ none)
-OrientsIs tab T s e r TooLarge = most_variables < length (pair_variables e)
+abbrev pub OrientsIs : List ℕ → Theory → RunState → Pair → Result State Unoriented → Type 0
+OrientsIs tab T s e (Ok r) = Few e × NewRule tab T s e r
+OrientsIs tab T s e (Err Neither) = Few e × (orient T e ≡ none)
+OrientsIs tab T s e (Err TooLarge) = most_variables < length (pair_variables e)
 
-pub record Orients (tab pair : List ℕ) (st : State) (o : Oriented) : Type 0 where
-  pub fine : o.way ≡ Rule → FineBut 1 1 o.state
-  pub live : o.way ≡ Rule → o.state.live ≡ st.live + 1
-  pub made : o.way ≡ Rule → o.state.made ≡ st.made + 1
-  pub same : SameLog st o.state
-  pub low : o.way ≡ Neither → LowPair pair
+-- the state r has one live rule more than st
+pub record OneMore (st r : State) : Type 0 where
+  pub fine : FineBut 1 1 r
+  pub live : r.live ≡ st.live + 1
+  pub made : r.made ≡ st.made + 1
+  pub same : SameLog st r
+
+pub record Orients (tab pair : List ℕ) (st : State) (o : Result State Unoriented) : Type 0 where
+  pub more : IfOk o (OneMore st)
+  pub low : o ≡ Err Neither → LowPair pair
   pub answer : (T : Theory) → rank_of T.symbols ≡ rank tab → (s : RunState) (e : Pair) → Represents tab st s →
-      PairAt most_apart tab pair 0 e → OrientsIs tab T s e o.state o.way
+      PairAt most_apart tab pair 0 e → OrientsIs tab T s e o
 
 -- `put_back`: the pair that was taken of s waits again
 pub record PutsBack (pair : List ℕ) (st r : State) : Type 0 where
@@ -104,10 +108,10 @@ pub record Collapses (tab : List ℕ) (st r : State) : Type 0 where
   pub represents : (s : RunState) (older : List LiveRule) (new : LiveRule) → s.rules ≡ older ++ (new ∷ []) → Represents tab st s →
       Represents tab r (collapsed s older new)
 
--- `enter`: the n-th entry of the log
-pub record Enters (n made : ℕ) (pair log log' : List ℕ) (r : ℕ) : Type 0 where
-  pub bytes : log' ≡ patched (logged_width * n) (mark_of (slot pair 0) ++ number_bytes 2 made) log
-  pub more : r ≡ n + 1
+-- `push`: one entry more, behind the others
+pub record Enters (made : ℕ) (pair : List ℕ) (log log' : Log) : Type 0 where
+  pub bytes : log'.bytes ≡ patched (logged_width * log.count) (mark_of (slot pair 0) ++ number_bytes 2 made) log.bytes
+  pub more : log'.count ≡ log.count + 1
 
 -- `settle`, `enter_rule`: one entry more, of a pair that was settled or made a rule, and none put back since
 abbrev pub with_entry : RunState → Origin → ℕ → RunState

@@ -9,12 +9,12 @@ use Rattle.state.proofs.Changing.{collapse_done}
 use Rattle.std.proofs.Common.{rules}
 use Rattle.state.proofs.State.collapse.Goals as goal
 
-pub sift-live-requires : goal.sift-live-requires
-sift-live-requires c =
+pub returns : goal.returns
+returns c = collapse_done _ _ c.requires.0 _ _ _ c.requires.1 c.copy-new.ensures c.sift.ensures
+
+pub sift-requires : goal.sift-requires
+sift-requires c =
     let l : length c.copy-new.result ≡ slot_width = search rules in
     let w = c.requires.0.within in
     let s = c.requires.1 in
     (layout_less (omega arith) c.requires.0.layout, s, omega arith, copied_layout _ _ _ _ c.requires.0.layout (omega arith) c.copy-new.ensures l)
-
-pub returns : goal.returns
-returns c = collapse_done _ _ c.requires.0 _ _ _ c.requires.1 c.copy-new.ensures c.sift-live.ensures

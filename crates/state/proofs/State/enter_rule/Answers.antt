@@ -10,15 +10,8 @@ use Rattle.state.proofs.Logging.{log_done}
 use Rattle.std.proofs.Common.{rules}
 use Rattle.state.proofs.State.enter_rule.Goals as goal
 
-pub enter-entries-requires : goal.enter-entries-requires
-enter-entries-requires c =
-    let long : length c.args.self.log.bytes ≡ logged_width * most_entries = search rules in
-    let l = long in
-    let n = c.requires.1 in
-    (n, omega arith, c.requires.2)
-
 pub returns : goal.returns
 returns c =
     let long : length c.args.self.log.bytes ≡ logged_width * most_entries = search rules in
     let l = long in
-    log_done _ _ _ c.requires.1 (omega arith) _ _ c.enter-entries.ensures
+    log_done _ _ _ c.requires.1 (omega arith) _ c.push.ensures

@@ -1,29 +1,23 @@
 -- `State::orient`: the new rule's slot is inserted behind the live ones, by `orient_done`, or there is none, by `orient_none`. Assumes nothing.
 -- Read first: specs/Steps (Orients), orient/specs/Orients (RuleOf), proofs/Changing.
 use mathlib.Core.Path.{◌≡◌}
-use Prim.Native.Nat.{◌+◌, ◌*◌, ◌≤◌}
+use Prim.Native.Nat.{◌*◌}
 use native.Mathlib.Omega.{arith}
 use lib.ListN.{length}
 use Rattle.limits.specs.Limits.{most_pairs}
 use Rattle.slots.specs.Slots.{slot_width}
 use Rattle.state.proofs.Changing.{orient_none, orient_done}
 use Rattle.std.proofs.Common.{rules}
+use Rattle.std.proofs.lemmas.Result.{err_from_is_err_and}
 use Rattle.state.proofs.State.orient.Goals as goal
 
-pub returns-in_default : goal.returns-in_default
-returns-in_default c = orient_none _ _ _ _ _ c.rule_of-o.ensures c.in_default.not-Rule
-
-pub add_pair-requires : goal.add_pair-requires
-add_pair-requires c =
-    let one_more : slot_width * (c.args.self.pairs.count + 1) ≤ length c.args.self.pairs.bytes =
-    let l : length c.args.self.pairs.bytes ≡ slot_width * most_pairs = search rules in let n = c.requires.1 in omega arith in
-    let w = c.requires.0.within in
-    let m = one_more in
-    (omega arith, omega arith, search rules)
+pub returns-in_err-new : goal.returns-in_err-new
+returns-in_err-new c =
+    let p = err_from_is_err_and c.from_residual.result c.from_residual.ensures.1 in
+    rw (p.1, p.2) (orient_none _ _ _ _ _ c.in_err-new.ensures)
 
 pub returns : goal.returns
 returns c =
-    let one_more : slot_width * (c.args.self.pairs.count + 1) ≤ length c.args.self.pairs.bytes =
-    let l : length c.args.self.pairs.bytes ≡ slot_width * most_pairs = search rules in let n = c.requires.1 in omega arith in
-    orient_done _ _ _ _ c.requires.0 c.rule_of-o.ensures c.in-Rule.is c.requires.1 one_more _
-    c.add_pair.ensures
+    let l : length c.args.self.pairs.bytes ≡ slot_width * most_pairs = search rules in
+    let few = c.requires.1 in
+    orient_done _ _ _ _ c.requires.0 c.in_ok-new.ensures few (omega arith) _ c.insert.ensures

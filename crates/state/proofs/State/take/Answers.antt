@@ -4,7 +4,7 @@ use Rattle.state.proofs.Changing.{take_done, take_none}
 use Rattle.state.proofs.State.take.Goals as goal
 
 pub returns-then-k-n : goal.returns-then-k-n
-returns-then-k-n c = take_done _ c.requires c.if-k-n.true _ c.drop_pair.ensures
+returns-then-k-n c = take_done _ c.requires c.if-k-n.true _ c.remove.ensures
 
 pub returns-else-k-n : goal.returns-else-k-n
 returns-else-k-n c = take_none _ c.requires c.if-k-n.false
