@@ -5,7 +5,6 @@ use mathlib.Core.Logic.{inl}
 use mathlib.Core.List.{List, [], ◌∷◌}
 use Prim.Native.Nat.{ℕ}
 use native.Mathlib.Omega.{arith}
-use Rattle.std.specs.Prelude.{if◌then◌else◌}
 use Rattle.terms.specs.Base.{of_none, of_cons}
 use Rattle.terms.specs.Term.{var, nil, cons, count}
 use Rattle.terms.specs.Scan.{owes}

@@ -11,11 +11,10 @@ use lib.Dec.{leb, ltb}
 use lib.ListN.{length, get_or, drop, drop_of_length-le, get_or-eq_default}
 use lib.Seq.{drop-cons}
 use borrow.Author.Tests.{lt-ltb, le-ltb, le-leb, lt-leb, ltb-true, ltb-false}
-use Rattle.std.specs.Prelude.{if◌then◌else◌}
+use Rattle.std.specs.Prelude.{Ok, Err}
 use Rattle.terms.specs.Term.{Term, var, node, Terms, nil, cons, term_bytes, terms_bytes, size, sizes, count}
 use Rattle.terms.specs.Scan.{arity, owes, skip, is_node, scan}
 use Rattle.terms.specs.Flat.{Wf, Wfs}
-use Rattle.terms.specs.declared.Ends.TheVariants.{At, Bad}
 
 pub owes_symbol : (tab : List ℕ) (f : ℕ) → f < 16 → owes tab f ≡ arity tab f
 unfolding owes
@@ -74,6 +73,9 @@ pub skip_over : (tab t : List ℕ) (i n : ℕ) → length t ≤ i → i + skip t
 unfolding skip
 skip_over tab t i n h = rw (drop_of_length-le t h) (omega arith)
 
+pub skip_ended : (tab t : List ℕ) (i n : ℕ) → i ≡ length t → i + skip tab (drop i t) n ≡ length t
+skip_ended tab t i n e = let h : length t ≤ i = omega arith in skip_over tab t i n h ∙ e
+
 -- a byte that is a node
 pub node_symbol : (tab : List ℕ) (b : ℕ) → b + b < length tab → is_node tab b ≡ true
 unfolding is_node
@@ -88,7 +90,7 @@ unfolding is_node
 node_high tab b h k = rw (le-ltb (b + b) (length tab) h, le-leb 0x80 b k) refl
 
 -- the steps of the checked loop
-pub scan_none : (tab l : List ℕ) (i : ℕ) → scan tab l i 0 ≡ At i
+pub scan_none : (tab l : List ℕ) (i : ℕ) → scan tab l i 0 ≡ Ok i
 unfolding scan
 scan_none tab [] i = refl
 scan_none tab (b ∷ l) i = refl
@@ -101,15 +103,20 @@ scan_turn tab t i (suc n) k h z y e =
     let m : suc n - 1 + k ≡ owes tab (get_or t i 0) + n = omega arith in
     rw (drop-cons t i 0 h, y, m, add-one i)
 
-pub scan_bad : (tab t : List ℕ) (i n : ℕ) → i < length t → (n ≡ 0 → ⊥) → is_node tab (get_or t i 0) ≡ false → Bad i ≡ scan tab (drop i t) i n
+pub scan_bad : (tab t : List ℕ) (i n : ℕ) → i < length t → (n ≡ 0 → ⊥) → is_node tab (get_or t i 0) ≡ false → Err (record { place = i }) ≡ scan tab (drop i t) i n
 unfolding scan
 scan_bad tab t i zero h z y = absurd (z refl)
 scan_bad tab t i (suc n) h z y = rw (drop-cons t i 0 h, y)
 
-pub scan_done : (tab t : List ℕ) (i n : ℕ) → n ≡ 0 → At i ≡ scan tab (drop i t) i n
+pub scan_done : (tab t : List ℕ) (i n : ℕ) → n ≡ 0 → Ok i ≡ scan tab (drop i t) i n
 scan_done tab t i n e = rw e (sym (scan_none tab (drop i t) i))
 
-pub scan_short : (tab t : List ℕ) (i n : ℕ) → length t ≤ i → (n ≡ 0 → ⊥) → Bad i ≡ scan tab (drop i t) i n
+pub scan_ended : (tab t : List ℕ) (i n : ℕ) → i ≡ length t → n ≡ 0 → Ok (length t) ≡ scan tab (drop i t) i n
+scan_ended tab t i n e z = ap Ok (sym e) ∙ scan_done tab t i n z
+
+pub scan_short : (tab t : List ℕ) (i n : ℕ) → i ≡ length t → (n ≡ 0 → ⊥) → Err (record { place = length t }) ≡ scan tab (drop i t) i n
 unfolding scan
-scan_short tab t i zero h z = absurd (z refl)
-scan_short tab t i (suc n) h z = rw (drop_of_length-le t h)
+scan_short tab t i zero e z = absurd (z refl)
+scan_short tab t i (suc n) e z =
+    let h : length t ≤ i = omega arith in
+    ap (λ p. Err (record { place = p })) (sym e) ∙ rw (drop_of_length-le t h)

@@ -1,9 +1,8 @@
 -- Terms on their bytes: the walk that counts the subterms still owed, as a function of lists. Assumes nothing.
 use Rattle.std.specs.Prelude.{Bool, ◌&&◌, ◌||◌, List, [], ◌∷◌, ℕ, zero, suc, ◌+◌, ltb, leb, length, get_or}
 use Rattle.limits.specs.Limits.{most_symbols, first_variable, last_variable}
-use Rattle.std.specs.Prelude.{if◌then◌else◌}
-use Rattle.terms.specs.declared.Ends.{Ends}
-use Rattle.terms.specs.declared.Ends.TheVariants.{At, Bad}
+use Rattle.std.specs.Prelude.{if◌then◌else◌, Result, Ok, Err}
+use Rattle.terms.specs.declared.BadTerm.{BadTerm}
 
 -- A table has two bytes a symbol: its arity and its rank [3.3].
 abbrev pub arity : List ℕ → ℕ → ℕ
@@ -24,10 +23,10 @@ unfoldable pub is_node : List ℕ → ℕ → Bool
 is_node tab b = ltb (b + b) (length tab) || leb first_variable b && leb b last_variable
 
 -- the end of the next n subterms, or the place of a byte that is no node; where the bytes end first, their end [2.9, 4.10]
-unfoldable pub scan : List ℕ → List ℕ → ℕ → ℕ → Ends
-scan tab [] i zero = At i
-scan tab [] i (suc n) = Bad i
-scan tab (b ∷ l) i zero = At i
+unfoldable pub scan : List ℕ → List ℕ → ℕ → ℕ → Result ℕ BadTerm
+scan tab [] i zero = Ok i
+scan tab [] i (suc n) = Err (record { place = i })
+scan tab (b ∷ l) i zero = Ok i
 scan tab (b ∷ l) i (suc n) =
-    let more : Ends = scan tab l (i + 1) (owes tab b + n) in
-    if is_node tab b then more else Bad i
+    let more : Result ℕ BadTerm = scan tab l (i + 1) (owes tab b + n) in
+    if is_node tab b then more else Err (record { place = i })

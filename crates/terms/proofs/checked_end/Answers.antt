@@ -1,9 +1,10 @@
 -- `terms::checked_end` meets its contract. Assumes nothing.
 -- Read first: specs/Owed, proofs/Scans, proofs/Owing.
-use Rattle.terms.proofs.Scans.{scan_turn, scan_bad, scan_done, scan_short}
+use Rattle.terms.proofs.Scans.{scan_turn, scan_bad, scan_done, scan_ended, scan_short}
 use Rattle.terms.proofs.Owing.{from_start, from_turn, tested_start, tested_turn}
-use Prim.Native.Nat.{◌-◌}
-use mathlib.Core.Path.{sym, ◌∙◌}
+use native.Mathlib.Omega.{arith}
+use lib.ListN.{length}
+use mathlib.Core.Path.{◌≡◌, sym, ◌∙◌}
 use Rattle.std.proofs.Common.{rules}
 use Rattle.terms.proofs.checked_end.Goals as goal
 
@@ -34,7 +35,11 @@ loop-i-preserved c =
     )
 
 pub returns-then-owed-eq0-2 : goal.returns-then-owed-eq0-2
-returns-then-owed-eq0-2 c = scan_done _ _ _ _ c.if-owed-eq0-2.true ∙ c.loop-i.invariant.5
+returns-then-owed-eq0-2 c =
+    let end : c.loop-i.i ≡ length c.args.t.now = omega arith in
+    scan_ended _ _ _ _ end c.if-owed-eq0-2.true ∙ c.loop-i.invariant.5
 
 pub returns-else-owed-eq0-2 : goal.returns-else-owed-eq0-2
-returns-else-owed-eq0-2 c = scan_short _ _ _ _ c.loop-i-test.false c.if-owed-eq0-2.false ∙ c.loop-i.invariant.5
+returns-else-owed-eq0-2 c =
+    let end : c.loop-i.i ≡ length c.args.t.now = omega arith in
+    scan_short _ _ _ _ end c.if-owed-eq0-2.false ∙ c.loop-i.invariant.5

@@ -1,9 +1,10 @@
 -- `terms::term_end` meets its contract. Assumes nothing.
 -- Read first: specs/Owed, proofs/Scans, proofs/Owing.
-use Rattle.terms.proofs.Scans.{skip_turn, skip_done, skip_over}
+use Rattle.terms.proofs.Scans.{skip_turn, skip_done, skip_ended}
 use Rattle.terms.proofs.Owing.{from_start, from_turn, ends_zero, ends_over}
-use Prim.Native.Nat.{◌-◌}
-use mathlib.Core.Path.{sym, ◌∙◌}
+use native.Mathlib.Omega.{arith}
+use lib.ListN.{length}
+use mathlib.Core.Path.{◌≡◌, sym, ◌∙◌}
 use Rattle.std.proofs.Common.{rules}
 use Rattle.terms.proofs.term_end.Goals as goal
 
@@ -36,9 +37,9 @@ loop-i-preserved c =
 pub returns : goal.returns
 returns c =
     let inv = c.loop-i.invariant in
-    let over = c.loop-i-test.false in
+    let over : c.loop-i.i ≡ length c.args.t.now = omega arith in
     record {
-      bytes = sym (skip_over _ _ _ _ over) ∙ inv.4;
+      bytes = sym (skip_ended _ _ _ _ over) ∙ inv.4;
       term = λ x b. ends_over _ _ _ _ _ inv.1 inv.0 x b over;
       within = search rules;
     }

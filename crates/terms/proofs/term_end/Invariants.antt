@@ -11,6 +11,3 @@ abbrev pub invariant-loop-i : goal.invariant-loop-i
 invariant-loop-i l =
     Counted l.table (drop l.at l.t) (l.i - l.at) l.owed
     × (l.at ≤ l.i) × (l.i ≤ length l.t) × (l.owed ≤ 1 + 256 * l.i) × (l.i + skip l.table (drop l.i l.t) l.owed ≡ l.at + skip l.table (drop l.at l.t) 1)
-
-abbrev pub decreases-loop-i : goal.decreases-loop-i
-decreases-loop-i l = length l.t - l.i
