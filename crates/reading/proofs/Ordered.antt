@@ -4,12 +4,12 @@
 use mathlib.Core.Path.{subst, ◌≡◌, refl, ap, ap₂, sym, ◌∙◌}
 use mathlib.Core.Bool.{Bool, true, false}
 use mathlib.Core.List.{List, [], ◌∷◌, ◌++◌, map, append_assoc, append-nil}
-use Prim.Native.Nat.{ℕ, zero, suc, ◌+◌, ◌≤◌, ◌<◌}
+use Prim.Native.Nat.{ℕ, zero, suc, ◌+◌, ◌-◌, ◌≤◌, ◌<◌}
 use native.Mathlib.Omega.{arith}
 use native.Mathlib.Numerals.{add-one}
 use lib.Dec.{eqb, ltb}
-use lib.ListN.{length, take, get_or, length-append, length-take, drop_of_length-le}
-use lib.Seq.{drop-cons, get_or-take}
+use lib.ListN.{length, take, drop, get_or, length-append, drop_of_length-le}
+use lib.Seq.{drop-cons}
 use borrow.Author.Tests.{lt-ltb, le-ltb, ltb-true, ltb-false, eqb-true, eqb-false, eq-eqb, ne_eqb}
 use Rattle.limits.specs.Limits.{byte_values}
 use Rattle.std.specs.Prelude.{if◌then◌else◌}
@@ -17,6 +17,7 @@ use Rattle.terms.specs.Base.{place_in, Every, of_none, of_cons}
 use Rattle.terms.specs.Term.{term_bytes, Pair, renamed}
 use Rattle.terms.specs.Flat.{Wf}
 use Rattle.terms.proofs.Shape.{Says}
+use Rattle.terms.proofs.Lists.{take_drop}
 use Rattle.terms.proofs.Every.{every_one, every_append, every_map}
 use Rattle.terms.proofs.Flats.{unique}
 use Rattle.naming.specs.Names.{added, collect, named, renamed_bytes}
@@ -184,47 +185,53 @@ pub after_other : (next b : ℕ) → (b ≡ next → ⊥) → next ≡ next_afte
 unfolding next_after
 after_other next b e = rw (ne_eqb b next e) refl
 
--- the walk is at i
-pub record Walked (l : List ℕ) (at end next i : ℕ) : Type 0 where
-  pub low : at ≤ i
-  pub high : i ≤ end
+-- the walk over the bytes s has read i of them
+pub record Walked (s : List ℕ) (next i : ℕ) : Type 0 where
   pub small : next ≤ byte_values
-  pub same : ordered next (between l i end) ≡ ordered 128 (between l at end)
+  pub same : ordered next (drop i s) ≡ ordered 128 s
 
-pub walk_start : (l : List ℕ) (at end : ℕ) → at ≤ end → Walked l at end 128 at
-walk_start l at end h = record { low = omega arith; high = h; small = omega arith; same = refl }
+pub walk_start : (s : List ℕ) → Walked s 128 0
+walk_start s = record { small = omega arith; same = refl }
 
-module _ (l : List ℕ) (at end next i : ℕ) (inside : end ≤ length l) (W : Walked l at end next i) where
-  module _ (h : i < end) (b : ℕ) (e : b ≡ get_or l i 0) where
-    rest_is : between l i end ≡ b ∷ between l (suc i) end
-    rest_is = drop-cons (take end l) i 0 (omega (arith, length-take end l)) ∙ ap (λ z. z ∷ between l (suc i) end) (get_or-take end l i 0 h ∙ sym e)
+-- the bytes from `at` to `end`, as the walk has them
+part_is : (l : List ℕ) (at end : ℕ) → at ≤ end → take (end - at) (drop at l) ≡ between l at end
+part_is l at end h = let e : at + (end - at) ≡ end = omega arith in take_drop at (end - at) l ∙ ap (λ k. drop at (take k l)) e
 
-    pub walk_wrong : next < b → IsRenamed l at end false
-    unfolding ordered
-    walk_wrong k n tab p v w f =
-        renamed_or_not n tab (between l at end) p v w f false (sym (sym W.same ∙ rw (rest_is, lt-ltb next b k) refl))
+module _ (s : List ℕ) (next i : ℕ) (W : Walked s next i) (h : i < length s) (b : ℕ) (e : b ≡ get_or s i 0) where
+  rest_is : drop i s ≡ b ∷ drop (suc i) s
+  rest_is = drop-cons s i 0 h ∙ ap (λ z. z ∷ drop (suc i) s) (sym e)
 
-    -- the next variable's byte grows only where a byte equals it
-    after_small : b < byte_values → next_after next b ≤ byte_values
-    unfolding next_after
-    after_small s = go (eqb b next) refl
-      where
-        go : (t : Bool) → eqb b next ≡ t → (if t then suc next else next) ≤ byte_values
-        go true q = omega (arith, eqb-true b next q)
-        go false q = W.small
-
-    pub walk_more : b < byte_values → b ≤ next → (m : ℕ) → m ≡ next_after next b → Walked l at end m (i + 1)
-    unfolding ordered
-    walk_more s k m q = record {
-      low = omega (arith, W.low);
-      high = omega arith;
-      small = omega (arith, after_small s);
-      same = rw (add-one i, q) (sym (rw (rest_is, le-ltb next b k) refl) ∙ W.same);
-    }
-
-  pub walk_end : end ≤ i → IsRenamed l at end true
+  stops : next < b → ordered 128 s ≡ false
   unfolding ordered
-  walk_end h n tab p v w f =
-      let k : length (take end l) ≤ i = omega (arith, length-take end l) in
-      let z : between l i end ≡ [] = drop_of_length-le (take end l) k in
-      renamed_or_not n tab (between l at end) p v w f true (sym (sym W.same ∙ rw z refl))
+  stops k = sym W.same ∙ rw (rest_is, lt-ltb next b k) refl
+
+  -- the next variable's byte grows only where a byte equals it
+  after_small : b < byte_values → next_after next b ≤ byte_values
+  unfolding next_after
+  after_small s = go (eqb b next) refl
+    where
+      go : (t : Bool) → eqb b next ≡ t → (if t then suc next else next) ≤ byte_values
+      go true q = omega (arith, eqb-true b next q)
+      go false q = W.small
+
+  pub walk_more : b < byte_values → b ≤ next → (m : ℕ) → m ≡ next_after next b → Walked s m (i + 1)
+  unfolding ordered
+  walk_more z k m q = record {
+    small = omega (arith, after_small z);
+    same = rw (add-one i, q) (sym (rw (rest_is, le-ltb next b k) refl) ∙ W.same);
+  }
+
+ends : (s : List ℕ) (next i : ℕ) → Walked s next i → length s ≤ i → ordered 128 s ≡ true
+unfolding ordered
+ends s next i W h = sym W.same ∙ rw (drop_of_length-le s h) refl
+
+module _ (l : List ℕ) (at end : ℕ) (low : at ≤ end) (next i : ℕ) (W : Walked (take (end - at) (drop at l)) next i) where
+  answers : (r : Bool) → ordered 128 (take (end - at) (drop at l)) ≡ r → IsRenamed l at end r
+  answers r q n tab p v w f =
+      renamed_or_not n tab (between l at end) p v w f r (sym (ap (ordered 128) (sym (part_is l at end low)) ∙ q))
+
+  pub walk_wrong : i < length (take (end - at) (drop at l)) → (b : ℕ) → b ≡ get_or (take (end - at) (drop at l)) i 0 → next < b → IsRenamed l at end false
+  walk_wrong h b e k = answers false (stops _ next i W h b e k)
+
+  pub walk_end : length (take (end - at) (drop at l)) ≤ i → IsRenamed l at end true
+  walk_end h = answers true (ends _ next i W h)

@@ -9,7 +9,6 @@ use lib.Dec.{leb}
 use lib.ListN.{length}
 use borrow.Author.Tests.{ltb-true, ltb-false, leb-true, lt-ltb, le-ltb, le-leb}
 use Rattle.terms.proofs.Shape.{zero≢one, both_true}
-use Rattle.std.specs.Prelude.{if◌then◌else◌}
 use Rattle.terms.specs.Term.{Term, var, node, Terms, nil, cons, size, sizes, term_bytes, terms_bytes, count}
 use Rattle.terms.proofs.Limits.{Made, MadeAll}
 use Rattle.reading.specs.Forms.{Reading, ok, refused, ◌>>=◌, refuse_if, Symbol, has, Has, arity_of, Byte, symbol, variable, neither, byte_of, ReadPart}

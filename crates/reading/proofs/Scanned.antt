@@ -1,27 +1,29 @@
 -- The walk over bytes reads what `read_term` reads: a term's end or its refusal; a lemma for each return of `term_at`, `side_at` and `pair_at`.
 -- Assumes nothing.
 -- Read first: specs/Answers, proofs/Reading, terms/proofs/Scans.
-use mathlib.Core.Path.{◌≡◌, refl, ap, ap₂, sym, ◌∙◌}
+use mathlib.Core.Path.{◌≡◌, refl, ap, ap₂, subst, sym, ◌∙◌}
 use mathlib.Core.Bool.{Bool, true, false, ◌&&◌}
 use mathlib.Core.List.{List, [], ◌∷◌}
 use Prim.Native.Nat.{ℕ, zero, suc, ◌+◌, ◌-◌, ◌<◌, ◌≤◌}
 use native.Mathlib.Omega.{arith}
-use native.Mathlib.Nat.{zero-add, suc-add, sub-zero}
+use native.Mathlib.Nat.{zero-add, suc-add}
 use lib.Dec.{leb}
 use lib.ListN.{length, take, drop, get_or, length-take, length-drop, length-append}
 use lib.Seq.{drop_at, drop-drop}
 use borrow.Author.Tests.{lt-ltb, le-ltb, leb-true}
 use Rattle.terms.proofs.Shape.{both_true}
-use Rattle.std.specs.Prelude.{if◌then◌else◌}
+use Rattle.std.specs.Prelude.{Result, Ok, Err, IsErrAnd}
 use Rattle.terms.specs.Term.{Term, node, Terms, cons, size, term_bytes, Pair}
 use Rattle.terms.specs.Scan.{owes, is_node, scan}
-use Rattle.terms.specs.declared.Ends.{Ends}
-use Rattle.terms.specs.declared.Ends.TheVariants.{At, Bad}
+use Rattle.terms.specs.declared.BadTerm.{BadTerm}
 use Rattle.terms.proofs.Bytes.{length_bytes}
 use Rattle.terms.proofs.Scans.{owes_symbol, owes_other, scan_none}
 use Rattle.reading.specs.Forms.{Reading, ok, refused, ◌>>=◌, refuse_if, Symbol, has, arity_of, rank_of, Byte, symbol, variable, neither, byte_of, ReadPart}
 use Rattle.reading.specs.Forms.{read_term, read_terms, read_side, read_pair}
-use Rattle.reading.specs.Answers.{symbols_of, Table, between, TermAt, IsTerm, SideAt, PairAt}
+use Rattle.reading.specs.declared.SideError.{SideError}
+use Rattle.reading.specs.declared.SideError.TheVariants.{Wrong, Large}
+use Rattle.reading.specs.declared.PairError.{PairError}
+use Rattle.reading.specs.Answers.{symbols_of, Table, between, TermAt, IsTerm, SideAt, IsSide, PairAt, IsPair, of_pair}
 use Rattle.reading.proofs.Reading.{has_below, not_has, reads, bind_ok, bind_refused, refuses}
 
 -- the symbols of a table, by number
@@ -79,10 +81,16 @@ module _ (tab : List ℕ) (T : Table tab) where
           let le : length (symbols_of tab) ≤ b = not_has (symbols_of tab) b h in
           rw (h, byte_of) (rw k (is_neither b (omega (arith, T.even)) k))
 
+  abbrev bad : ℕ → Result ℕ BadTerm
+  bad p = Err (record { place = p })
+
+  same_place : (p q : ℕ) → bad p ≡ bad q → p ≡ q
+  same_place p q e = let b : ◌≡◌ {A = BadTerm} (record { place = p }) (record { place = q }) = cc in ap (λ (b : BadTerm). b.place) b
+
   -- The walk with so many terms owed, where the first n are read as this says.
   abbrev Follow : {A : Type 0} → ℕ → ℕ → ℕ → List ℕ → Reading (ReadPart A) → Type 0
   Follow n m at bytes (ok p) = scan tab bytes at n ≡ scan tab p.rest p.end m
-  Follow n m at bytes (refused k q) = (k ≡ 10) × (scan tab bytes at n ≡ Bad q)
+  Follow n m at bytes (refused k q) = (k ≡ 10) × (scan tab bytes at n ≡ bad q)
 
   module _ (one : ℕ → List ℕ → Reading (ReadPart Term)) (d : ℕ)
       (follow_one : (m at : ℕ) (bytes : List ℕ) → length bytes < d → Follow (suc m) m at bytes (one at bytes))
@@ -111,11 +119,11 @@ module _ (tab : List ℕ) (T : Table tab) where
   unfolding scan
   scan_node b bytes at m h = rw h refl
 
-  scan_stop : (b : ℕ) (bytes : List ℕ) (at m : ℕ) → is_node tab b ≡ false → scan tab (b ∷ bytes) at (suc m) ≡ Bad at
+  scan_stop : (b : ℕ) (bytes : List ℕ) (at m : ℕ) → is_node tab b ≡ false → scan tab (b ∷ bytes) at (suc m) ≡ bad at
   unfolding scan
   scan_stop b bytes at m h = rw h refl
 
-  scan_empty : (at m : ℕ) → scan tab [] at (suc m) ≡ Bad at
+  scan_empty : (at m : ℕ) → scan tab [] at (suc m) ≡ bad at
   unfolding scan
   scan_empty at m = refl
 
@@ -156,16 +164,16 @@ module _ (tab : List ℕ) (T : Table tab) where
     abbrev reading : Reading (ReadPart Term)
     reading = read_term (symbols_of tab) (suc (length (between l at end))) at (between l at end)
 
-    wrong : (r : Reading (ReadPart Term)) (p : ℕ) → Follow 1 0 at (between l at end) r → Bad p ≡ scan tab (between l at end) at 1 → r ≡ refused 10 p
-    wrong (ok q) p f e = absurd (let g : At q.end ≡ Bad p = sym (scan_none tab q.rest q.end) ∙ sym f ∙ sym e in
+    wrong : (r : Reading (ReadPart Term)) (p : ℕ) → Follow 1 0 at (between l at end) r → bad p ≡ scan tab (between l at end) at 1 → r ≡ refused 10 p
+    wrong (ok q) p f e = absurd (let g : Ok q.end ≡ bad p = sym (scan_none tab q.rest q.end) ∙ sym f ∙ sym e in
         let z : ◌≡◌ {A = ℕ} 0 1 = cc in omega arith)
-    wrong (refused k q) p f e = let g : Bad q ≡ Bad p = sym f.1 ∙ sym e in let h : q ≡ p = cc in ap₂ refused f.0 h
+    wrong (refused k q) p f e = let g : bad q ≡ bad p = sym f.1 ∙ sym e in ap₂ refused f.0 (same_place q p g)
 
     right : (r : Reading (ReadPart Term)) (e : ℕ) → reading ≡ r → Follow 1 0 at (between l at end) r →
-        At e ≡ scan tab (between l at end) at 1 → (x : Term) × TermAt tab l at end e x
-    right (refused k q) e i f s = absurd (let g : Bad q ≡ At e = sym f.1 ∙ sym s in let z : ◌≡◌ {A = ℕ} 0 1 = cc in omega arith)
+        Ok e ≡ scan tab (between l at end) at 1 → (x : Term) × TermAt tab l at end e x
+    right (refused k q) e i f s = absurd (let g : bad q ≡ Ok e = sym f.1 ∙ sym s in let z : ◌≡◌ {A = ℕ} 0 1 = cc in omega arith)
     right (ok p) e i f s =
-        let g : At p.end ≡ At e = sym (scan_none tab p.rest p.end) ∙ sym f ∙ sym s in
+        let g : Ok p.end ≡ Ok e = sym (scan_none tab p.rest p.end) ∙ sym f ∙ sym s in
         let h : p.end ≡ e = cc in
         let R = reads (symbols_of tab) (suc (length (between l at end))) at (between l at end) p i in
         let n = ap length R.front ∙ length-append (term_bytes p.part) p.rest in
@@ -181,17 +189,21 @@ module _ (tab : List ℕ) (T : Table tab) where
           },
         )
 
-    pub term_is : (r : Ends) → r ≡ scan tab (drop at (take (end - 0) (drop 0 l))) at 1 → IsTerm tab l at end r
-    term_is r q = go r (q ∙ ap (λ z. scan tab (drop at (take z l)) at 1) (sub-zero end))
-        (follow (suc (length (between l at end))) 0 at (between l at end) (omega arith))
+    pub term_is : (r : Result ℕ BadTerm) → r ≡ scan tab (between l at end) at 1 → IsTerm tab l at end r
+    term_is r q = go r q (follow (suc (length (between l at end))) 0 at (between l at end) (omega arith))
       where
-        go : (r : Ends) → r ≡ scan tab (between l at end) at 1 → Follow 1 0 at (between l at end) reading → IsTerm tab l at end r
-        go (At e) q f = right reading e refl f q
-        go (Bad p) q f = wrong reading p f q
+        go : (r : Result ℕ BadTerm) → r ≡ scan tab (between l at end) at 1 → Follow 1 0 at (between l at end) reading → IsTerm tab l at end r
+        go (Ok e) q f = right reading e refl f q
+        go (Err b) q f = wrong reading b.place f q
 
-    pub side_wrong : (p : ℕ) → IsTerm tab l at end (Bad p) → read_side (symbols_of tab) at (between l at end) ≡ refused 10 p
+    side_wrong : (p : ℕ) → IsTerm tab l at end (bad p) → read_side (symbols_of tab) at (between l at end) ≡ refused 10 p
     unfolding read_side
     side_wrong p e = bind_refused _ e
+
+    -- a term that is wrong, as `?` hands its refusal on
+    pub side_refused : (p : ℕ) → IsTerm tab l at end (bad p) → (r : Result ℕ SideError) → IsErrAnd r (λ e. e ≡ Wrong p) → IsSide tab l at end r
+    side_refused p q (Ok e) h = absurd h
+    side_refused p q (Err e) h = subst (λ e. IsSide tab l at end (Err e)) (sym h) (side_wrong p q)
 
     module _ (e : ℕ) (x : Term) (X : TermAt tab l at end e x) where
       pub side_large : 120 < e - at → read_side (symbols_of tab) at (between l at end) ≡ refused 11 at
@@ -208,14 +220,28 @@ module _ (tab : List ℕ) (T : Table tab) where
     abbrev Reads : Reading Pair → Type 0
     Reads r = read_pair (symbols_of tab) at (between l at end) ≡ r
 
-    pub pair_left : (n p : ℕ) → read_side (symbols_of tab) at (between l at end) ≡ refused n p → Reads (refused n p)
+    pair_left : (n p : ℕ) → read_side (symbols_of tab) at (between l at end) ≡ refused n p → Reads (refused n p)
     unfolding read_pair
     pair_left n p h = bind_refused _ h
 
+    pub left_refused : (e : SideError) → IsSide tab l at end (Err e) → (r : PairError) → r ≡ of_pair e at → IsPair tab l at end (Err r)
+    left_refused e h r q = subst (λ r. IsPair tab l at end (Err r)) (sym q) (go e h)
+      where
+        go : (e : SideError) → IsSide tab l at end (Err e) → IsPair tab l at end (Err (of_pair e at))
+        go (Wrong p) h = pair_left _ p h
+        go Large h = pair_left _ at h
+
     module _ (m : ℕ) (x : Term) (X : SideAt tab l at end m x) where
-      pub pair_right : (n p : ℕ) → read_side (symbols_of tab) m (between l m end) ≡ refused n p → Reads (refused n p)
+      pair_right : (n p : ℕ) → read_side (symbols_of tab) m (between l m end) ≡ refused n p → Reads (refused n p)
       unfolding read_pair
       pair_right n p h = bind_ok _ X.read ∙ bind_refused _ h
+
+      pub right_refused : (e : SideError) → IsSide tab l m end (Err e) → (r : PairError) → r ≡ of_pair e m → IsPair tab l at end (Err r)
+      right_refused e h r q = subst (λ r. IsPair tab l at end (Err r)) (sym q) (go e h)
+        where
+          go : (e : SideError) → IsSide tab l m end (Err e) → IsPair tab l at end (Err (of_pair e m))
+          go (Wrong p) h = pair_right _ p h
+          go Large h = pair_right _ m h
 
       module _ (k : ℕ) (y : Term) (Y : SideAt tab l m end k y) where
         left_over : length (between l k end) ≡ end - k

@@ -12,8 +12,9 @@ use lib.Seq.{drop-cons}
 use borrow.Author.Tests.{lt-ltb, le-ltb, eq-eqb, ne_eqb}
 use Rattle.reading.specs.Forms.{Reading, ok, refused, ◌>>=◌, refuse_if, Symbol, read_symbols}
 use Rattle.reading.specs.Answers.{symbols_of, check_symbols, wrong_length, SymbolsAre, IsRanked, IsSymbols}
-use Rattle.reading.specs.declared.Symbols.{Symbols}
-use Rattle.reading.specs.declared.Symbols.TheVariants.{Fine, WrongLength, WrongByte}
+use Rattle.reading.specs.declared.SymbolsError.{SymbolsError}
+use Rattle.reading.specs.declared.SymbolsError.TheVariants.{WrongLength, WrongByte}
+use Rattle.std.specs.Prelude.{Result, Ok, Err}
 use Rattle.reading.proofs.Reading.{bind_ok, bind_refused}
 
 -- `ranked`
@@ -106,7 +107,7 @@ module _ (tab : List ℕ) (h : length tab ≡ 0 → ⊥) (k : length tab % 2 ≡
     read = q;
   }
 
-  pub symbols_are : (r : Symbols) → IsRanked tab r → IsSymbols tab r
-  symbols_are Fine q = are _ (λ at. read_is at tab ∙ bind_ok (λ _. ok (symbols_of tab)) (q at))
-  symbols_are WrongLength q = absurd q
-  symbols_are (WrongByte p) q = (q.0, are _ (λ at. read_is at tab ∙ bind_refused (λ _. ok (symbols_of tab)) (q.1 at)))
+  pub symbols_are : (r : Result (Unit {0}) SymbolsError) → IsRanked tab r → IsSymbols tab r
+  symbols_are (Ok u) q = are _ (λ at. read_is at tab ∙ bind_ok (λ _. ok (symbols_of tab)) (q at))
+  symbols_are (Err WrongLength) q = absurd q
+  symbols_are (Err (WrongByte p)) q = (q.0, are _ (λ at. read_is at tab ∙ bind_refused (λ _. ok (symbols_of tab)) (q.1 at)))

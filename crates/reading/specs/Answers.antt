@@ -1,23 +1,21 @@
 -- What each reader answers, said by the definitions of Forms. Assumes nothing.
 use Rattle.std.specs.Prelude.{◌≡◌, Bool, true, false, ◌||◌, List, [], ◌∷◌, ◌++◌, ℕ, suc, ◌+◌, ◌*◌, ◌%◌, ◌≤◌, ◌<◌, eqb, ltb, length, take, drop}
 use Rattle.limits.specs.Limits.{most_symbols, most_arity, most_rank, two_byte_values}
-use Rattle.std.specs.Prelude.{if◌then◌else◌}
+use Rattle.std.specs.Prelude.{if◌then◌else◌, Option, None, Some, Result, Ok, Err}
 use Rattle.terms.specs.Term.{Term, size, term_bytes, Pair, renamed}
 use Rattle.terms.specs.Flat.{Wf}
-use Rattle.terms.specs.declared.Ends.{Ends}
-use Rattle.terms.specs.declared.Ends.TheVariants.{At as Ends-at, Bad}
+use Rattle.terms.specs.declared.BadTerm.{BadTerm}
 use Rattle.reading.specs.Stops.{cut_field, wrong_tag, wrong_arity_or_rank, wrong_term, large_side}
 use Rattle.reading.specs.Forms.{Reading, ok, refused, ◌>>=◌, refuse_if, ReadField, read_field, due, Symbol, read_symbols, read_term, read_side, read_pair}
 use Rattle.reading.specs.declared.Field.{Field}
-use Rattle.reading.specs.declared.Field.TheVariants.{Cut, At as Field-at}
-use Rattle.reading.specs.declared.DueField.{DueField}
-use Rattle.reading.specs.declared.DueField.TheVariants.{At as Due-at, Cut as Due-cut, Other}
-use Rattle.reading.specs.declared.Symbols.{Symbols}
-use Rattle.reading.specs.declared.Symbols.TheVariants.{Fine, WrongLength, WrongByte}
-use Rattle.reading.specs.declared.Side.{Side}
-use Rattle.reading.specs.declared.Side.TheVariants.{At as Side-at, Wrong, Large}
-use Rattle.reading.specs.declared.Pair.{Pair as Filling}
-use Rattle.reading.specs.declared.Pair.TheVariants.{Filled, Wrong as Pair-wrong, Large as Pair-large}
+use Rattle.reading.specs.declared.DueError.{DueError}
+use Rattle.reading.specs.declared.DueError.TheVariants.{Cut, Other}
+use Rattle.reading.specs.declared.SymbolsError.{SymbolsError}
+use Rattle.reading.specs.declared.SymbolsError.TheVariants.{WrongLength, WrongByte}
+use Rattle.reading.specs.declared.SideError.{SideError}
+use Rattle.reading.specs.declared.SideError.TheVariants.{Wrong, Large}
+use Rattle.reading.specs.declared.PairError.{PairError}
+use Rattle.reading.specs.declared.PairError.TheVariants.{Wrong as Pair-wrong, Large as Pair-large}
 
 -- the field of l from `at` to e
 unfoldable pub field_at : ℕ → List ℕ → ℕ → ℕ → ReadField
@@ -31,18 +29,18 @@ pub record WholeAt (l : List ℕ) (at tag start e : ℕ) : Type 0 where
   pub within : e ≤ length l
   pub short : e < start + two_byte_values
 
-abbrev pub IsField : List ℕ → ℕ → Field → Type 0
-IsField l at Cut = read_field at (drop at l) ≡ refused cut_field at
-IsField l at (Field-at tag start e) = WholeAt l at tag start e
+abbrev pub IsField : List ℕ → ℕ → Option Field → Type 0
+IsField l at None = read_field at (drop at l) ≡ refused cut_field at
+IsField l at (Some f) = WholeAt l at f.tag f.start f.end
 
 -- the field that is due at `at` ends at e
 abbrev pub DueTo : ℕ → List ℕ → ℕ → ℕ → Type 0
 DueTo tag l at e = (due tag at (drop at l) ≡ ok (field_at tag l at e)) × (at + 3 ≤ e) × (e ≤ length l)
 
-abbrev pub IsDue : ℕ → List ℕ → ℕ → DueField → Type 0
-IsDue tag l at (Due-at e) = DueTo tag l at e
-IsDue tag l at Due-cut = due tag at (drop at l) ≡ refused cut_field at
-IsDue tag l at Other = due tag at (drop at l) ≡ refused wrong_tag at
+abbrev pub IsDue : ℕ → List ℕ → ℕ → Result ℕ DueError → Type 0
+IsDue tag l at (Ok e) = DueTo tag l at e
+IsDue tag l at (Err Cut) = due tag at (drop at l) ≡ refused cut_field at
+IsDue tag l at (Err Other) = due tag at (drop at l) ≡ refused wrong_tag at
 
 -- a table: two bytes a symbol, its arity and its rank
 unfoldable pub symbols_of : List ℕ → List Symbol
@@ -64,10 +62,10 @@ check_symbols at (arity ∷ rank ∷ l) = do
   check_symbols (at + 2) l
 
 -- symbols whose bytes begin at any place: a place in the answer counts from there
-abbrev pub IsRanked : List ℕ → Symbols → Type 0
-IsRanked tab Fine = (at : ℕ) → check_symbols at tab ≡ ok tt
-IsRanked tab WrongLength = ⊥
-IsRanked tab (WrongByte p) = (p < length tab) × ((at : ℕ) → check_symbols at tab ≡ refused wrong_arity_or_rank (at + p))
+abbrev pub IsRanked : List ℕ → Result (Unit {0}) SymbolsError → Type 0
+IsRanked tab (Ok _) = (at : ℕ) → check_symbols at tab ≡ ok tt
+IsRanked tab (Err WrongLength) = ⊥
+IsRanked tab (Err (WrongByte p)) = (p < length tab) × ((at : ℕ) → check_symbols at tab ≡ refused wrong_arity_or_rank (at + p))
 
 -- "symbol field's length 0, odd or over 32"
 abbrev pub wrong_length : ℕ → Bool
@@ -79,10 +77,10 @@ pub record SymbolsAre (tab : List ℕ) (r : (at : ℕ) → Reading (List Symbol)
   pub some : 2 ≤ length tab
   pub read : (at : ℕ) → read_symbols at tab ≡ r at
 
-abbrev pub IsSymbols : List ℕ → Symbols → Type 0
-IsSymbols tab Fine = SymbolsAre tab (λ at. ok (symbols_of tab))
-IsSymbols tab WrongLength = wrong_length (length tab) ≡ true
-IsSymbols tab (WrongByte p) = (p < length tab) × SymbolsAre tab (λ at. refused wrong_arity_or_rank (at + p))
+abbrev pub IsSymbols : List ℕ → Result (Unit {0}) SymbolsError → Type 0
+IsSymbols tab (Ok _) = SymbolsAre tab (λ at. ok (symbols_of tab))
+IsSymbols tab (Err WrongLength) = wrong_length (length tab) ≡ true
+IsSymbols tab (Err (WrongByte p)) = (p < length tab) × SymbolsAre tab (λ at. refused wrong_arity_or_rank (at + p))
 
 -- the bytes of l from `at` to `end`
 abbrev pub between : List ℕ → ℕ → ℕ → List ℕ
@@ -94,19 +92,19 @@ pub record TermAt (tab l : List ℕ) (at end e : ℕ) (x : Term) : Type 0 where
   pub ends : e ≡ at + size x
   pub within : e ≤ end
 
-abbrev pub IsTerm : List ℕ → List ℕ → ℕ → ℕ → Ends → Type 0
-IsTerm tab l at end (Ends-at e) = (x : Term) × TermAt tab l at end e x
-IsTerm tab l at end (Bad p) = read_term (symbols_of tab) (suc (length (between l at end))) at (between l at end) ≡ refused wrong_term p
+abbrev pub IsTerm : List ℕ → List ℕ → ℕ → ℕ → Result ℕ BadTerm → Type 0
+IsTerm tab l at end (Ok e) = (x : Term) × TermAt tab l at end e x
+IsTerm tab l at end (Err b) = read_term (symbols_of tab) (suc (length (between l at end))) at (between l at end) ≡ refused wrong_term b.place
 
 pub record SideAt (tab l : List ℕ) (at end e : ℕ) (x : Term) : Type 0 where
   pub read : read_side (symbols_of tab) at (between l at end) ≡ ok (record { part = x; end = e; rest = between l e end })
   pub ends : e ≡ at + size x
   pub within : e ≤ end
 
-abbrev pub IsSide : List ℕ → List ℕ → ℕ → ℕ → Side → Type 0
-IsSide tab l at end (Side-at e) = (x : Term) × SideAt tab l at end e x
-IsSide tab l at end (Wrong p) = read_side (symbols_of tab) at (between l at end) ≡ refused wrong_term p
-IsSide tab l at end Large = read_side (symbols_of tab) at (between l at end) ≡ refused large_side at
+abbrev pub IsSide : List ℕ → List ℕ → ℕ → ℕ → Result ℕ SideError → Type 0
+IsSide tab l at end (Ok e) = (x : Term) × SideAt tab l at end e x
+IsSide tab l at end (Err (Wrong p)) = read_side (symbols_of tab) at (between l at end) ≡ refused wrong_term p
+IsSide tab l at end (Err Large) = read_side (symbols_of tab) at (between l at end) ≡ refused large_side at
 
 -- the left side ends at m, where the right one begins
 pub record PairAt (tab l : List ℕ) (at end m : ℕ) (p : Pair) : Type 0 where
@@ -114,10 +112,15 @@ pub record PairAt (tab l : List ℕ) (at end m : ℕ) (p : Pair) : Type 0 where
   pub middle : m ≡ at + size p.left
   pub ends : end ≡ m + size p.right
 
-abbrev pub IsPair : List ℕ → List ℕ → ℕ → ℕ → Filling → Type 0
-IsPair tab l at end (Filled m) = (p : Pair) × PairAt tab l at end m p
-IsPair tab l at end (Pair-wrong p) = read_pair (symbols_of tab) at (between l at end) ≡ refused wrong_term p
-IsPair tab l at end (Pair-large p) = read_pair (symbols_of tab) at (between l at end) ≡ refused large_side p
+abbrev pub IsPair : List ℕ → List ℕ → ℕ → ℕ → Result ℕ PairError → Type 0
+IsPair tab l at end (Ok m) = (p : Pair) × PairAt tab l at end m p
+IsPair tab l at end (Err (Pair-wrong p)) = read_pair (symbols_of tab) at (between l at end) ≡ refused wrong_term p
+IsPair tab l at end (Err (Pair-large p)) = read_pair (symbols_of tab) at (between l at end) ≡ refused large_side p
+
+-- what a pair is refused for whose side is: that side begins at `first`
+abbrev pub of_pair : SideError → ℕ → PairError
+of_pair (Wrong p) first = Pair-wrong p
+of_pair Large first = Pair-large first
 
 -- the byte of the next variable, behind the byte b, and bytes whose variables come in order
 unfoldable pub next_after : ℕ → ℕ → ℕ

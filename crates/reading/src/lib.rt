@@ -5,9 +5,11 @@
 ghost use Rattle.std.specs.Prelude.{◌≡◌, ◌+◌, ◌^◌, ◌<◌, ◌≤◌, ◌*◌, length, take, drop};
 ghost use Rattle.limits.specs.Limits.{most_symbols, byte_values, two_byte_values};
 ghost use Rattle.terms.specs.Base.{number_from};
-ghost use Rattle.reading.specs.Answers.{IsField, IsDue, IsRanked, IsSymbols, Table, IsTerm, IsSide, IsPair, next_after, IsRenamed};
+ghost use Rattle.reading.specs.Answers.{IsField, IsDue, IsRanked, IsSymbols, Table, IsTerm, IsSide, IsPair, of_pair, next_after, IsRenamed};
+ghost use Rattle.reading.specs.declared.SideError.TheVariants.{Wrong};
 
 use limits::FIELD_HEAD;
+use terms::BadTerm;
 
 // The number of so many bytes, high byte first, at a place.
 pub fn number(t: &[u8], at: usize, width: usize) -> usize
@@ -16,78 +18,67 @@ pub fn number(t: &[u8], at: usize, width: usize) -> usize
     ensures fits { result < 256 ^ width }
 {
     let mut n: usize = 0;
-    let mut i = 0;
-    while i < width {
-        n = n * 256 + terms::wide(t[at + i]);
-        i += 1;
+    for b in &t[at..at + width] {
+        n = n * 256 + usize::from(*b);
     }
     n
 }
 
-#[derive(Drop)]
-pub enum Field {
-    // Its header or its contents pass the end.
-    Cut,
-    // Its tag, and where its contents begin and end.
-    At { tag: u8, start: usize, end: usize },
+// A field: its tag, and where its contents begin and end.
+#[derive(Clone, Copy, Debug, PartialEq, Eq)]
+pub struct Field {
+    pub tag: u8,
+    pub start: usize,
+    pub end: usize,
 }
 
-// The field at a place.
-pub fn field_at(t: &[u8], at: usize) -> Field
+// The field at a place, or nothing where its header or its contents pass the end.
+pub fn field_at(t: &[u8], at: usize) -> Option<Field>
     requires { at ≤ length t.now }
     ensures { IsField t.now at result }
 {
     let left = t.len() - at;
     if left < FIELD_HEAD {
-        return Field::Cut;
+        return None;
     }
     let n = number(t, at + 1, 2);
     if left - FIELD_HEAD < n {
-        return Field::Cut;
+        return None;
     }
-    Field::At {
+    let start = at + FIELD_HEAD;
+    Some(Field {
         tag: t[at],
-        start: at + FIELD_HEAD,
-        end: at + FIELD_HEAD + n,
-    }
+        start,
+        end: start + n,
+    })
 }
 
-#[derive(Drop)]
-pub enum DueField {
-    // The place behind it.
-    At(usize),
+#[derive(Clone, Copy, Debug, PartialEq, Eq)]
+pub enum DueError {
     // Its header or its contents pass the end.
     Cut,
     // It has another tag, or no byte is left.
     Other,
 }
 
-// The field at a place, whose tag is to be `tag`.
-pub fn due(t: &[u8], at: usize, tag: u8) -> DueField
+// The field at a place, whose tag is to be `tag`: the place behind it.
+pub fn due(t: &[u8], at: usize, tag: u8) -> Result<usize, DueError>
     ensures { IsDue tag t.now at result }
 {
     if at >= t.len() {
-        return DueField::Other;
+        return Err(DueError::Other);
     }
-    match field_at(t, at) {
-        Field::Cut => DueField::Cut,
-        Field::At {
-            tag: found,
-            start: _,
-            end,
-        } => {
-            if found != tag {
-                return DueField::Other;
-            }
-            DueField::At(end)
-        }
+    let Some(field) = field_at(t, at) else {
+        return Err(DueError::Cut);
+    };
+    if field.tag != tag {
+        return Err(DueError::Other);
     }
+    Ok(field.end)
 }
 
-#[derive(Drop)]
-pub enum Symbols {
-    // Two bytes a symbol, 1 to 16 symbols, arities 0 to 4, ranks 0 to 15.
-    Fine,
+#[derive(Clone, Copy, Debug, PartialEq, Eq)]
+pub enum SymbolsError {
     // No byte, an odd number of bytes, or over 32.
     WrongLength,
     // The place of the first wrong byte: an arity above 4 or a rank above 15.
@@ -95,105 +86,108 @@ pub enum Symbols {
 }
 
 // The symbols of a table of the right length, one behind the other.
-fn ranked(table: &[u8]) -> Symbols
+fn ranked(table: &[u8]) -> Result<(), SymbolsError>
     requires { length table.now ≤ 2 * most_symbols }
     ensures { IsRanked table.now result }
 {
-    let mut k: usize = 0;
-    while k + k + 1 < table.len() {
+    for k in 0..table.len() / 2 {
         if table[k + k] > limits::ARITY {
-            return Symbols::WrongByte(k + k);
+            return Err(SymbolsError::WrongByte(k + k));
         }
         if table[k + k + 1] > limits::RANK {
-            return Symbols::WrongByte(k + k + 1);
+            return Err(SymbolsError::WrongByte(k + k + 1));
         }
-        k += 1;
     }
-    Symbols::Fine
+    Ok(())
 }
 
-// The contents of a symbol field.
-pub fn check_symbols(table: &[u8]) -> Symbols
+// The contents of a symbol field: two bytes a symbol, 1 to 16 symbols, arities 0 to 4, ranks 0 to 15.
+pub fn check_symbols(table: &[u8]) -> Result<(), SymbolsError>
     ensures { IsSymbols table.now result }
 {
-    if table.len() == 0 {
-        return Symbols::WrongLength;
-    }
-    if table.len() % 2 == 1 {
-        return Symbols::WrongLength;
-    }
-    if table.len() > limits::TABLE {
-        return Symbols::WrongLength;
+    let n = table.len();
+    if n == 0 || n % 2 == 1 || n > limits::TABLE {
+        return Err(SymbolsError::WrongLength);
     }
     ranked(table)
 }
 
 // The term at a place, in the bytes up to an end: the place behind it, or of the byte that is wrong.
-pub fn term_at(t: &[u8], table: &[u8], at: usize, end: usize) -> terms::Ends
+pub fn term_at(t: &[u8], table: &[u8], at: usize, end: usize) -> Result<usize, BadTerm>
     requires table { Table table.now }
     requires at_le_end { (at ≤ end) × (end ≤ length t.now) × (length t.now ≤ two_byte_values) }
     ensures { IsTerm table.now t.now at end result }
 {
-    terms::checked_end(&t[0..end], table, at)
+    terms::checked_end(&t[..end], table, at)
 }
 
-#[derive(Drop)]
-pub enum Side {
-    // The place behind it.
-    At(usize),
+#[derive(Clone, Copy, Debug, PartialEq, Eq)]
+pub enum SideError {
     // The place of the byte that is wrong, or the end of bytes that end inside the term.
     Wrong(usize),
     // Over 120 nodes.
     Large,
 }
 
+impl From<BadTerm> for SideError {
+    ghost from_gives = { λ b e. e ≡ Wrong b.place };
+
+    fn from(bad: BadTerm) -> SideError {
+        SideError::Wrong(bad.place)
+    }
+}
+
 // The same with a side's limit.
-pub fn side_at(t: &[u8], table: &[u8], at: usize, end: usize) -> Side
+pub fn side_at(t: &[u8], table: &[u8], at: usize, end: usize) -> Result<usize, SideError>
     requires table { Table table.now }
     requires at_le_end { (at ≤ end) × (end ≤ length t.now) × (length t.now ≤ two_byte_values) }
     ensures { IsSide table.now t.now at end result }
 {
-    match term_at(t, table, at, end) {
-        terms::Ends::Bad(place) => Side::Wrong(place),
-        terms::Ends::At(e) => {
-            if e - at > limits::NODES {
-                return Side::Large;
-            }
-            Side::At(e)
-        }
+    let e = term_at(t, table, at, end)?;
+    if e - at > limits::NODES {
+        return Err(SideError::Large);
     }
+    Ok(e)
 }
 
-#[derive(Drop)]
-pub enum Pair {
-    // The place where the right side begins; it ends where the bytes end.
-    Filled(usize),
+#[derive(Clone, Copy, Debug, PartialEq, Eq)]
+pub enum PairError {
     // The place of the byte that is wrong, one behind the right side too, or the end of bytes that end inside a side.
     Wrong(usize),
     // The first byte of a side over 120 nodes.
     Large(usize),
 }
 
-// Two sides, which fill the bytes from a place to an end.
-pub fn pair_at(t: &[u8], table: &[u8], at: usize, end: usize) -> Pair
+impl SideError {
+    // The same of a pair, whose side begins at `first`.
+    fn of_pair(self, first: usize) -> PairError
+        ensures { result ≡ of_pair self first }
+    {
+        match self {
+            SideError::Wrong(place) => PairError::Wrong(place),
+            SideError::Large => PairError::Large(first),
+        }
+    }
+}
+
+// Two sides, which fill the bytes from a place to an end: the place where the right one begins.
+pub fn pair_at(t: &[u8], table: &[u8], at: usize, end: usize) -> Result<usize, PairError>
     requires table { Table table.now }
     requires at_le_end { (at ≤ end) × (end ≤ length t.now) × (length t.now ≤ two_byte_values) }
     ensures { IsPair table.now t.now at end result }
 {
-    match side_at(t, table, at, end) {
-        Side::Wrong(place) => Pair::Wrong(place),
-        Side::Large => Pair::Large(at),
-        Side::At(middle) => match side_at(t, table, middle, end) {
-            Side::Wrong(place) => Pair::Wrong(place),
-            Side::Large => Pair::Large(middle),
-            Side::At(last) => {
-                if last < end {
-                    return Pair::Wrong(last);
-                }
-                Pair::Filled(middle)
-            }
-        },
+    let middle = match side_at(t, table, at, end) {
+        Ok(middle) => middle,
+        Err(e) => return Err(e.of_pair(at)),
+    };
+    let last = match side_at(t, table, middle, end) {
+        Ok(last) => last,
+        Err(e) => return Err(e.of_pair(middle)),
+    };
+    if last < end {
+        return Err(PairError::Wrong(last));
     }
+    Ok(middle)
 }
 
 // The byte of the next variable, behind this one.
@@ -201,10 +195,7 @@ fn next_after(next: usize, b: usize) -> usize
     requires { next ≤ byte_values }
     ensures { result ≡ next_after next b }
 {
-    if b == next {
-        return next + 1;
-    }
-    next
+    if b == next { next + 1 } else { next }
 }
 
 // Whether the pair that fills the bytes from a place to an end is renamed: its variables are 0, 1, 2 .. in order of first occurrence.
@@ -213,14 +204,12 @@ pub fn is_renamed(t: &[u8], at: usize, end: usize) -> bool
     ensures { IsRenamed t.now at end result }
 {
     let mut next: usize = limits::FIRST_VARIABLE;
-    let mut i = at;
-    while i < end {
-        let b = terms::wide(t[i]);
+    for byte in &t[at..end] {
+        let b = usize::from(*byte);
         if b > next {
             return false;
         }
         next = next_after(next, b);
-        i += 1;
     }
     true
 }

@@ -6,5 +6,5 @@ use Rattle.reading.proofs.next_after.Goals as goal
 pub returns-then-b-next : goal.returns-then-b-next
 returns-then-b-next c = after_same _ _ c.if-b-next.true
 
-pub returns : goal.returns
-returns c = after_other _ _ c.if-b-next.false
+pub returns-else-b-next : goal.returns-else-b-next
+returns-else-b-next c = after_other _ _ c.if-b-next.false

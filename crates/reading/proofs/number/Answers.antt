@@ -1,25 +1,30 @@
--- `number`: the invariant is that the first i bytes are the number n; the bytes to come fall. Assumes nothing.
+-- `number`: the invariant is that the bytes read so far are the number n. Assumes nothing.
 -- Read first: proofs/Numbers (Counted).
-use Prim.Native.Nat.{◌-◌}
 use native.Mathlib.Omega.{arith}
-use Rattle.reading.proofs.Numbers.{counted_start, counted_small, counted_more, counted_end}
+use Rattle.reading.proofs.Numbers.{counted_start, counted_small, counted_more, counted_end, length_part}
 use Rattle.reading.proofs.number.Goals as goal
 
-pub loop-i-init : goal.loop-i-init
-loop-i-init c = counted_start _ _ _
+pub loop-b-init : goal.loop-b-init
+loop-b-init c = counted_start _
 
 pub overflow_mul-n : goal.overflow_mul-n
-overflow_mul-n c = let few = counted_small _ _ _ _ _ c.loop-i.invariant c.requires.1 c.loop-i-test.true in omega arith
+overflow_mul-n c =
+    let long = length_part c.args.t.now c.args.at c.args.width c.requires.0 in
+    let few = counted_small _ _ _ c.loop-b.invariant c.loop-b-test.true (omega (arith, long)) in
+    omega arith
 
 pub overflow_add-n : goal.overflow_add-n
-overflow_add-n c = let few = counted_small _ _ _ _ _ c.loop-i.invariant c.requires.1 c.loop-i-test.true in omega arith
+overflow_add-n c =
+    let long = length_part c.args.t.now c.args.at c.args.width c.requires.0 in
+    let few = counted_small _ _ _ c.loop-b.invariant c.loop-b-test.true (omega (arith, long)) in
+    omega arith
 
-pub loop-i-preserved : goal.loop-i-preserved
-loop-i-preserved c = counted_more _ _ _ _ _ c.loop-i.invariant c.requires.0 c.loop-i-test.true _ c.wide.ensures.0 c.wide.ensures.1
+pub loop-b-preserved : goal.loop-b-preserved
+loop-b-preserved c = counted_more _ _ _ c.loop-b.invariant c.loop-b-test.true _ c.from.ensures (omega arith)
 
 pub returns : goal.returns
 returns c =
-    let all = counted_end _ _ _ _ _ c.loop-i.invariant c.loop-i-test.false in
+    let all = counted_end _ _ _ c.requires.0 _ _ c.loop-b.invariant (omega (arith, length_part c.args.t.now c.args.at c.args.width c.requires.0)) in
     record {
       value = all.0;
       fits = all.1;
