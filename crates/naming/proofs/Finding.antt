@@ -2,52 +2,43 @@
 -- Read first: specs/Names, src/lib.rt, proofs/Collecting.
 use mathlib.Core.Path.{◌≡◌, refl, sym, ap, ap₂, ◌∙◌}
 use mathlib.Core.List.{List, [], ◌∷◌, ◌++◌, map}
-use Prim.Native.Nat.{ℕ, zero, suc, ◌+◌, ◌-◌, ◌≤◌, ◌<◌}
+use Prim.Native.Nat.{ℕ, ◌+◌, ◌-◌, ◌≤◌, ◌<◌}
 use native.Mathlib.Omega.{arith}
-use native.Mathlib.Decide.{dec_lt}
-use native.Mathlib.Nat.{le_of_suc-le-suc, sub-zero}
+use native.Mathlib.Nat.{sub-zero}
 use native.Mathlib.Numerals.{add-one}
-use lib.Seq.{drop-cons, get_or-take, length-take-le, take-suc-set}
+use lib.Seq.{drop-cons, length-take-le, take-suc-set}
 use lib.ListN.{length, get_or, take, drop, set, length-set, drop_of_length-le}
+use Rattle.std.proofs.Common.{Bool, true, false, not, ◌==◌, eqb, ltb, cond, Option, Some, None}
+use Rattle.std.specs.List.{position, position_or_len}
+use Rattle.std.specs.Option.{unwrap_or, is_some}
+use Rattle.std.proofs.lemmas.Bool.{eqb-true, eqb-false, ltb-true, ltb-false}
+use Rattle.std.proofs.lemmas.List.Recursion.{is_position_or_len}
+use Rattle.std.proofs.lemmas.List.Sums.{prefix_len-le-length}
 use Rattle.terms.specs.Base.{place_in}
 use Rattle.naming.specs.Names.{added, collect, named, renamed_bytes}
 use Rattle.naming.proofs.Collecting.{place_first, place_later, place_none, added_symbol, added_old, added_new}
 use Rattle.naming.proofs.Renaming.{named_symbol, named_variable}
 
--- the search for a name
-pub record FoundAt (l : List ℕ) (n b r : ℕ) : Type 0 where
-  pub within : r ≤ n
-  pub hits : r < n → get_or l r 0 ≡ b
-  pub first : (j : ℕ) → j < r → get_or l j 0 ≡ b → ⊥
-
-place_is : (b : ℕ) (ns : List ℕ) (r : ℕ) → r ≤ length ns → (r < length ns → get_or ns r 0 ≡ b) → ((j : ℕ) → j < r → get_or ns j 0 ≡ b → ⊥) → r ≡ place_in b ns
-place_is b [] r h f g = omega (arith, place_none b)
-place_is b (y ∷ ns) zero h f g = sym (place_first b y ns (sym (f (omega arith))))
-place_is b (y ∷ ns) (suc r) h f g =
-    ap suc (place_is b ns r (le_of_suc-le-suc h) (λ q. f (omega arith)) (λ j q. g (suc j) (omega arith)))
-    ∙ sym (place_later b y ns (λ e. g 0 (omega arith) (sym e)))
-
-pub found_place : (l : List ℕ) (n b r : ℕ) → n ≤ length l → FoundAt l n b r → r ≡ place_in b (take n l)
-found_place l n b r h f =
-    let e = length-take-le n l h in
-    place_is b (take n l) r (omega (arith, f.within)) (λ q. let k : r < n = omega arith in get_or-take n l r 0 k ∙ f.hits k)
-    (λ j q z. f.first j q (sym (get_or-take n l j 0 (omega (arith, f.within))) ∙ z))
-
--- the steps of the loops
-pub place_hit : (l : List ℕ) (n b i : ℕ) → n ≤ length l → i < n → ((j : ℕ) → j < i → get_or l j 0 ≡ b → ⊥) → get_or l i 0 ≡ b →
-    (i ≡ place_in b (take n l)) × (i ≤ n)
-place_hit l n b i h k f e = (found_place l n b i h (record { within = omega arith; hits = λ q. e; first = f }), omega arith)
-
-pub place_miss : (l : List ℕ) (n b i : ℕ) → n ≤ length l → n ≤ i → ((j : ℕ) → j < i → get_or l j 0 ≡ b → ⊥) → (n ≡ place_in b (take n l)) × (n ≤ n)
-place_miss l n b i h k f =
-    (found_place l n b n h (record { within = omega arith; hits = λ q. absurd (omega arith); first = λ j q. f j (omega arith) }), omega arith)
-
-pub place_next : (l : List ℕ) (b i : ℕ) → ((j : ℕ) → j < i → get_or l j 0 ≡ b → ⊥) → (get_or l i 0 ≡ b → ⊥) → (j : ℕ) → j < i + 1 → get_or l j 0 ≡ b → ⊥
-place_next l b i f n j h e = go (dec_lt j i)
+-- the place of a name is the first at which it stands
+place_is : (b : ℕ) (ns : List ℕ) → place_in b ns ≡ position_or_len (λ name. b == name) ns
+place_is b = is_position_or_len (place_in b) (λ name. b == name) (place_none b) λ x xs. go x xs (eqb b x) refl
   where
-    go : Dec (j < i) → ⊥
-    go (yes q) = f j q e
-    go (no q) = let r : i ≡ j = omega arith in n (ap (λ z. get_or l z 0) r ∙ e)
+    go : (x : ℕ) (xs : List ℕ) (t : Bool) → eqb b x ≡ t → place_in b (x ∷ xs) ≡ cond t 0 (1 + place_in b xs)
+    go x xs true e = place_first b x xs (eqb-true b x e)
+    go x xs false e = place_later b x xs (eqb-false b x e) ∙ omega arith
+
+place_within : (b : ℕ) (ns : List ℕ) → place_in b ns ≤ length ns
+place_within b ns = omega (arith, place_is b ns, prefix_len-le-length (λ name. not (b == name)) ns)
+
+-- what `place_of` answers, read as a place: the list's length where there is none
+is_place : (b : ℕ) (ns : List ℕ) (r : Option ℕ) → r ≡ position (λ name. b == name) ns →
+    (unwrap_or r (length ns) ≡ place_in b ns) × (is_some r ≡ ltb (place_in b ns) (length ns))
+is_place b ns r e = go (ltb (place_in b ns) (length ns)) refl (e ∙ ap (λ z. cond (ltb z (length ns)) (Some z) None) (sym (place_is b ns)))
+  where
+    go : (t : Bool) → ltb (place_in b ns) (length ns) ≡ t → r ≡ cond t (Some (place_in b ns)) None →
+        (unwrap_or r (length ns) ≡ place_in b ns) × (is_some r ≡ t)
+    go true h q = rw q (refl, refl)
+    go false h q = rw q (omega (arith, ltb-false _ _ h, place_within b ns), refl)
 
 pub record Added (d : List ℕ) (n b : ℕ) (e : List ℕ) (r : ℕ) : Type 0 where
   pub long : length e ≡ length d
@@ -57,17 +48,20 @@ pub record Added (d : List ℕ) (n b : ℕ) (e : List ℕ) (r : ℕ) : Type 0 wh
 pub add_symbol : (d : List ℕ) (n b : ℕ) → b < 128 → Added d n b d n
 add_symbol d n b h = record { long = refl; names = sym (added_symbol b (take n d) h); few = omega arith }
 
-pub add_old : (d : List ℕ) (n b k : ℕ) → n < length d → 128 ≤ b → k ≡ place_in b (take n d) → k < n → Added d n b d n
-add_old d n b k h v e q = record { long = refl; names = sym (added_old b (take n d) v (omega (arith, length-take-le n d (omega arith)))); few = omega arith }
+module _ (d : List ℕ) (n b : ℕ) (r : Option ℕ) (h : n < length d) (v : 128 ≤ b) (e : r ≡ position (λ name. b == name) (take n d)) (t : Bool) (k : t ≡ is_some r) where
+  known : t ≡ ltb (place_in b (take n d)) (length (take n d))
+  known = k ∙ (is_place b (take n d) r e).1
 
-pub add_new : (d : List ℕ) (n b k : ℕ) → n < length d → 128 ≤ b → k ≡ place_in b (take n d) → n ≤ k → Added d n b (set d n b) (n + 1)
-add_new d n b k h v e q =
-    record {
-      long = length-set d n b;
-      names =
-          ap (λ z. take z (set d n b)) (add-one n) ∙ take-suc-set d n b h ∙ sym (added_new b (take n d) v (omega (arith, length-take-le n d (omega arith))));
-      few = omega arith;
-    }
+  pub add_old : t ≡ true → Added d n b d n
+  add_old q = record { long = refl; names = sym (added_old b (take n d) v (ltb-true _ _ (sym known ∙ q))); few = omega arith }
+
+  pub add_new : t ≡ false → Added d n b (set d n b) (n + 1)
+  add_new q =
+      record {
+        long = length-set d n b;
+        names = ap (λ z. take z (set d n b)) (add-one n) ∙ take-suc-set d n b h ∙ sym (added_new b (take n d) v (ltb-false _ _ (sym known ∙ q)));
+        few = omega arith;
+      }
 
 pub record Collected (l d e : List ℕ) (i n : ℕ) : Type 0 where
   pub within : i ≤ length l
@@ -94,14 +88,15 @@ unfolding collect
 collected_end l d e i n k c h =
     (c.long, ap (λ z. collect (take n e) z) (sym (drop_of_length-le l h)) ∙ c.names, omega (arith, c.few, c.within, c.long))
 
-pub number_symbol : (l : List ℕ) (n b : ℕ) → b < 128 → b ≡ named (take n l) b
-number_symbol l n b h = sym (named_symbol (take n l) b h)
+pub number_symbol : (ns : List ℕ) (b : ℕ) → b < 128 → b ≡ named ns b
+number_symbol ns b h = sym (named_symbol ns b h)
 
-pub number_variable : (l : List ℕ) (n b k : ℕ) → 128 ≤ b → k ≡ place_in b (take n l) → 128 + k ≡ named (take n l) b
-number_variable l n b k h e = ap (λ z. 128 + z) e ∙ sym (named_variable (take n l) b h)
+pub number_variable : (ns : List ℕ) (b : ℕ) (r : Option ℕ) (k : ℕ) → 128 ≤ b → r ≡ position (λ name. b == name) ns → k ≡ unwrap_or r (length ns) →
+    128 + k ≡ named ns b
+number_variable ns b r k h e q = ap (λ z. 128 + z) (q ∙ (is_place b ns r e).0) ∙ sym (named_variable ns b h)
 
-pub count_few : (l e : List ℕ) (n : ℕ) → take n e ≡ collect [] l → n ≤ length e → length (collect [] l) ≤ 127 → n ≤ 127
-count_few l e n p h k = omega (arith, length-take-le n e h, ap length p)
+pub count_few : (l e : List ℕ) (n : ℕ) → take n e ≡ collect [] l → length (collect [] l) ≤ 127 → length (take n e) ≤ 127
+count_few l e n p k = omega (arith, ap length p)
 
 pub renamed_is : (l e f : List ℕ) (n : ℕ) → take n e ≡ collect [] l → f ≡ map (named (take n e)) l → f ≡ renamed_bytes l
 unfolding renamed_bytes

@@ -7,7 +7,6 @@ use native.Mathlib.Omega.{arith}
 use native.Mathlib.Decide.{dec_lt}
 use lib.ListN.{length, length-map}
 use borrow.Author.Tests.{lt-ltb, le-ltb}
-use Rattle.std.specs.Prelude.{if◌then◌else◌}
 use Rattle.terms.specs.Base.{distinct, place_in}
 use Rattle.terms.specs.Term.{Term, var, node, Terms, nil, cons, variables, variables_of, subst_term, subst_terms, term_bytes, terms_bytes}
 use Rattle.terms.proofs.Subst.{In}

@@ -4,13 +4,7 @@ use Rattle.naming.proofs.Finding.{count_few, renamed_is}
 use Rattle.naming.proofs.rename.Goals as goal
 
 pub renumber-requires : goal.renumber-requires
-renumber-requires c = (
-  c.names_of-n.ensures.2,
-  count_few c.args.bytes.now c.names_of-n.new.names _ c.names_of-n.ensures.1
-      c.names_of-n.ensures.2 c.requires.1,
-)
+renumber-requires c = count_few c.args.bytes.now c.names_of-n.new.names _ c.names_of-n.ensures.1 c.requires.1
 
 pub returns : goal.returns
-returns c =
-    renamed_is c.args.bytes.now c.names_of-n.new.names _ c.names_of-n.result
-    c.names_of-n.ensures.1 c.renumber.ensures
+returns c = renamed_is c.args.bytes.now c.names_of-n.new.names _ _ c.names_of-n.ensures.1 c.renumber.ensures
