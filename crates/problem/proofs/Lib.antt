@@ -1,3 +1,4 @@
+pub mod Handed
 pub mod Reading
 pub mod Fields
 pub mod Pairs

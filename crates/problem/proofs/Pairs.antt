@@ -7,10 +7,14 @@ use native.Mathlib.Omega.{arith}
 use lib.ListN.{length, drop, length-drop}
 use Rattle.terms.specs.Term.{Pair}
 use Rattle.reading.specs.Forms.{read_pair}
-use Rattle.reading.specs.Answers.{DueTo, between, PairAt}
+use Rattle.reading.specs.Answers.{DueTo, between, PairAt, IsPair}
 use Rattle.reading.proofs.Reading.{bind_ok, bind_refused}
 use Rattle.problem.specs.Problem.{ok, refused, ◌>>=◌, ReadField, due, Symbol, equation_field, equation_fields}
-use Rattle.problem.specs.Parser.{field_at, symbols_of, FieldAt}
+use Rattle.std.specs.Prelude.{Err}
+use Rattle.reading.specs.declared.PairError.{PairError}
+use Rattle.reading.specs.declared.PairError.TheVariants.{Wrong, Large}
+use Rattle.problem.specs.Reasons.{refusal_of_pair}
+use Rattle.problem.specs.Parser.{field_at, symbols_of, FieldAt, IsEquation}
 
 pub equation_is : (Σ : List Symbol) (l : List ℕ) (at e : ℕ) →
     equation_field Σ (field_at 0x03 l at e) ≡ (read_pair Σ (at + 3) (between l (at + 3) e) >>= λ p. ok (record { first = at; sides = p }))
@@ -48,12 +52,17 @@ module _ (tab l : List ℕ) (at count : ℕ) (h : at < length l) where
     equation_seventeenth k = let z : 16 - count ≡ 0 = omega arith in rw z (seventeenth (symbols_of tab) at (drop at l) (field_at 0x03 l at e) some_left d.0)
 
     module _ (k : count ≡ 16 → ⊥) (s : count ≤ 16) where
-      pub equation_refused : (n p : ℕ) → read_pair (symbols_of tab) (at + 3) (between l (at + 3) e) ≡ refused n p →
+      refused_with : (n p : ℕ) → read_pair (symbols_of tab) (at + 3) (between l (at + 3) e) ≡ refused n p →
           equation_fields (symbols_of tab) (16 - count) at (drop at l) ≡ refused n p
-      equation_refused n p q =
+      refused_with n p q =
           let z : 16 - count ≡ suc (15 - count) = omega (arith, k) in
           rw z (one_more (symbols_of tab) at (15 - count) (drop at l) (field_at 0x03 l at e) some_left d.0
           ∙ bind_refused _ (equation_is (symbols_of tab) l at e ∙ bind_refused _ q))
+
+      -- its pair is
+      pub equation_refused : (r : PairError) → IsPair tab l (at + 3) e (Err r) → IsEquation tab l at count (Err (refusal_of_pair r))
+      equation_refused (Wrong p) q = refused_with _ p q
+      equation_refused (Large p) q = refused_with _ p q
 
       pub equation_fine : (m : ℕ) (p : Pair) → PairAt tab l (at + 3) e m p → FieldAt tab l at count e
       equation_fine m p q = record {

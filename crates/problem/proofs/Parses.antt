@@ -6,11 +6,15 @@ use Prim.Native.Nat.{ℕ, zero, suc, ◌+◌, ◌-◌, ◌<◌, ◌≤◌}
 use native.Mathlib.Omega.{arith}
 use lib.ListN.{length, take, drop, length-append, length-drop, length-take, drop_of_length-le}
 use borrow.Author.Tests.{lt-ltb, le-ltb}
+use Rattle.limits.specs.Limits.{most_equations}
 use Rattle.problem.specs.Problem.{Reading, ok, refused, ◌>>=◌, refuse_if, due, Symbol, symbol_field, budget_field, Equation, equation_fields, Problem}
 use Rattle.problem.specs.Problem.{parse}
-use Rattle.problem.specs.Parser.{field_at, symbols_of, Table, SymbolsAt, FieldAt, parse_rest, RestAt, IsParsed, begins_at, parsed_of}
+use Rattle.problem.specs.Parser.{field_at, symbols_of, Table, SymbolsAt, FieldAt, IsParsed, begins_at, told, parsed_of}
+use Rattle.std.specs.Prelude.{Result, Ok, Err}
+use Rattle.problem.specs.Reasons.{number_of_reason}
 use Rattle.problem.specs.declared.Input.{Input}
-use Rattle.problem.specs.declared.Input.TheVariants.{Fine, Refused as Bad}
+use Rattle.problem.specs.declared.Reason.TheVariants.{LongProblem}
+use Rattle.problem.specs.declared.Refusal.{Refusal}
 use Rattle.reading.specs.Answers.{DueTo}
 use Rattle.reading.proofs.Reading.{bind_ok, bind_refused}
 use Rattle.problem.proofs.Pairs.{one_more}
@@ -69,14 +73,32 @@ module _ (tab l : List ℕ) (at : ℕ) where
     unfolding prepend
     fields_end h = (s.done ++ [], s.is ∙ rw (drop_of_length-le l h, none_behind (16 - count)) refl, ap length (append-nil s.done) ∙ s.number)
 
--- `rest` returns
+-- `parse` behind the symbol field, over given symbols
+unfoldable pub parse_rest : List Symbol → ℕ → List ℕ → Reading Problem
+parse_rest Σ at bytes = do
+  b ← due 0x02 at bytes
+  budget ← budget_field b
+  es ← equation_fields Σ most_equations b.end b.rest
+  ok (record { symbols = Σ; budget = budget; equations = es })
+
+-- the rest of a problem from `at` on: its budget field, which ends at e, its budget, and n equations from e on
+pub record RestAt (tab l : List ℕ) (at b e n : ℕ) (P : Problem) : Type 0 where
+  pub is : parse_rest (symbols_of tab) at (drop at l) ≡ ok P
+  pub symbols_are : P.symbols ≡ symbols_of tab
+  pub budget_is : P.budget ≡ b
+  pub field : due 0x02 at (drop at l) ≡ ok (field_at 0x02 l at e)
+  pub within : e ≤ length l
+  pub equations_are : equation_fields (symbols_of tab) most_equations e (drop e l) ≡ ok P.equations
+  pub number : length P.equations ≡ n
+
+-- What `parse` finds behind the symbol field.
 module _ (tab l : List ℕ) (at : ℕ) where
-  pub rest_not_due : (n p : ℕ) → due 0x02 at (drop at l) ≡ refused n p → parse_rest (symbols_of tab) at (drop at l) ≡ refused n p
+  rest_not_due : (n p : ℕ) → due 0x02 at (drop at l) ≡ refused n p → parse_rest (symbols_of tab) at (drop at l) ≡ refused n p
   unfolding parse_rest
   rest_not_due n p h = bind_refused _ h
 
   module _ (e : ℕ) (d : DueTo 0x02 l at e) where
-    pub rest_budget_refused : (n p : ℕ) → budget_field (field_at 0x02 l at e) ≡ refused n p → parse_rest (symbols_of tab) at (drop at l) ≡ refused n p
+    rest_budget_refused : (n p : ℕ) → budget_field (field_at 0x02 l at e) ≡ refused n p → parse_rest (symbols_of tab) at (drop at l) ≡ refused n p
     unfolding parse_rest
     rest_budget_refused n p h = bind_ok _ d.0 ∙ bind_refused _ h
 
@@ -86,11 +108,11 @@ module _ (tab l : List ℕ) (at : ℕ) where
       unfolding parse_rest field_at
       behind = bind_ok _ d.0 ∙ bind_ok _ B
 
-      pub rest_equations_refused : (n p : ℕ) → equation_fields (symbols_of tab) 16 e (drop e l) ≡ refused n p →
+      rest_equations_refused : (n p : ℕ) → equation_fields (symbols_of tab) 16 e (drop e l) ≡ refused n p →
           parse_rest (symbols_of tab) at (drop at l) ≡ refused n p
       rest_equations_refused n p q = behind ∙ bind_refused _ q
 
-      pub rest_fine : (n : ℕ) → ((es : List Equation) × (equation_fields (symbols_of tab) 16 e (drop e l) ≡ ok es) × (length es ≡ n)) →
+      rest_fine : (n : ℕ) → ((es : List Equation) × (equation_fields (symbols_of tab) 16 e (drop e l) ≡ ok es) × (length es ≡ n)) →
           (P : Problem) × RestAt tab l at b e n P
       rest_fine n q = (
         record { symbols = symbols_of tab; budget = b; equations = q.0 },
@@ -118,28 +140,30 @@ unfolding ◌>>=◌
 bind_both (ok a) f g n p h = rw h refl
 bind_both (refused k q) f g n p h = cc
 
-equal_bad : (l : List ℕ) (n p : ℕ) → parse l ≡ refused n p → Bad n p ≡ parsed_of (length l) (parse l)
+equal_bad : (l : List ℕ) (n p : ℕ) → parse l ≡ refused n p → refused n p ≡ parsed_of (length l) (parse l)
 unfolding parsed_of
 equal_bad l n p h = rw h refl
 
-abbrev Answer : List ℕ → Input → Type 0
-Answer l r = (r ≡ parsed_of (length l) (parse l)) × IsParsed l r
+-- what `parse` answers
+abbrev pub Answer : List ℕ → Result Input Refusal → Type 0
+Answer l r = (told r ≡ parsed_of (length l) (parse l)) × IsParsed l r
 
 module _ (l : List ℕ) where
-  answer_bad : (n p : ℕ) → parse l ≡ refused n p → Answer l (Bad n p)
-  answer_bad n p h = (equal_bad l n p h, h)
+  answer_bad : (r : Refusal) → parse l ≡ refused (number_of_reason r.reason) r.place → Answer l (Err r)
+  answer_bad r h = (equal_bad l (number_of_reason r.reason) r.place h, h)
 
-  pub parse_long : 8192 < length l → Answer l (Bad 2 8192)
+  pub parse_long : 8192 < length l → Answer l (Err (record { reason = LongProblem; place = 8192 }))
   unfolding parse ◌>>=◌ refuse_if
-  parse_long h = answer_bad 2 8192 (rw (lt-ltb 8192 (length l) h) refl)
+  parse_long h = answer_bad (record { reason = LongProblem; place = 8192 }) (rw (lt-ltb 8192 (length l) h) refl)
 
   module _ (h : length l ≤ 8192) where
     parse_is : parse l ≡ (due 0x01 0 l >>= λ s. symbol_field s >>= λ Σ. parse_rest Σ s.end s.rest)
     unfolding parse ◌>>=◌ refuse_if parse_rest
     parse_is = rw (le-ltb 8192 (length l) h) refl
 
-    pub parse_symbols_refused : (n p : ℕ) → (due 0x01 0 l >>= symbol_field) ≡ refused n p → Answer l (Bad n p)
-    parse_symbols_refused n p e = answer_bad n p (parse_is ∙ bind_both (due 0x01 0 l) symbol_field (λ s Σ. parse_rest Σ s.end s.rest) n p e)
+    pub parse_symbols_refused : (r : Refusal) → (due 0x01 0 l >>= symbol_field) ≡ refused (number_of_reason r.reason) r.place → Answer l (Err r)
+    parse_symbols_refused r e =
+        answer_bad r (parse_is ∙ bind_both (due 0x01 0 l) symbol_field (λ s Σ. parse_rest Σ s.end s.rest) (number_of_reason r.reason) r.place e)
 
     module _ (e : ℕ) (S : SymbolsAt l e) where
       abbrev tab : List ℕ
@@ -149,12 +173,9 @@ module _ (l : List ℕ) where
       unfolding field_at
       parse_then = parse_is ∙ bind_ok _ S.field ∙ bind_ok _ S.read
 
-      pub parse_rest_refused : (n p : ℕ) → parse_rest (symbols_of tab) e (drop e l) ≡ refused n p → Answer l (Bad n p)
-      parse_rest_refused n p q = answer_bad n p (parse_then ∙ q)
-
-      pub parse_fine : (b at n : ℕ) (P : Problem) → RestAt tab l e b at n P → Answer l (Fine e b at n)
+      parse_read : (b at n : ℕ) (P : Problem) → RestAt tab l e b at n P → Answer l (Ok (record { table_end = e; budget = b; equations = at; count = n }))
       unfolding parsed_of
-      parse_fine b at n P R =
+      parse_read b at n P R =
           let is : parse l ≡ ok P = parse_then ∙ R.is in
           let z : 3 + (length P.symbols + length P.symbols) ≡ e =
           ap (λ (Σ : List Symbol). 3 + (length Σ + length Σ)) R.symbols_are
@@ -175,3 +196,19 @@ module _ (l : List ℕ) where
               },
             ),
           )
+
+      pub parse_not_due : (r : Refusal) → due 0x02 e (drop e l) ≡ refused (number_of_reason r.reason) r.place → Answer l (Err r)
+      parse_not_due r q = answer_bad r (parse_then ∙ rest_not_due tab l e (number_of_reason r.reason) r.place q)
+
+      module _ (at : ℕ) (d : DueTo 0x02 l e at) where
+        pub parse_budget_refused : (r : Refusal) → budget_field (field_at 0x02 l e at) ≡ refused (number_of_reason r.reason) r.place → Answer l (Err r)
+        parse_budget_refused r q = answer_bad r (parse_then ∙ rest_budget_refused tab l e at d (number_of_reason r.reason) r.place q)
+
+        module _ (b : ℕ) (B : budget_field (field_at 0x02 l e at) ≡ ok b) where
+          pub parse_equations_refused : (r : Refusal) →
+              equation_fields (symbols_of tab) 16 at (drop at l) ≡ refused (number_of_reason r.reason) r.place → Answer l (Err r)
+          parse_equations_refused r q = answer_bad r (parse_then ∙ rest_equations_refused tab l e at d b B (number_of_reason r.reason) r.place q)
+
+          pub parse_fine : (n : ℕ) → ((es : List Equation) × (equation_fields (symbols_of tab) 16 at (drop at l) ≡ ok es) × (length es ≡ n)) →
+              Answer l (Ok (record { table_end = e; budget = b; equations = at; count = n }))
+          parse_fine n q = let w = rest_fine tab l e at d b B n q in parse_read b at n w.0 w.1

@@ -1,12 +1,9 @@
--- `due`: what `reading::due` answers, with the numbers of the refusals. Assumes nothing.
+-- `due`: what `reading::due` answers, with the reasons of the refusals. Assumes nothing.
 -- Read first: specs/Parser (IsDue), reading/specs/Answers (IsDue).
 use Rattle.problem.proofs.due.Goals as goal
 
-pub returns-in-At : goal.returns-in-At
-returns-in-At c = c.in-At.ensures
+pub returns-in-Err-Cut : goal.returns-in-Err-Cut
+returns-in-Err-Cut c = rw c.in-Err-Cut.field-0-is at c.in-Err-Cut.ensures
 
-pub returns-in-Cut : goal.returns-in-Cut
-returns-in-Cut c = c.in-Cut.ensures
-
-pub returns-in-Other : goal.returns-in-Other
-returns-in-Other c = c.in-Other.ensures
+pub returns-in-Err-Other : goal.returns-in-Err-Other
+returns-in-Err-Other c = rw c.in-Err-Other.field-0-is at c.in-Err-Other.ensures

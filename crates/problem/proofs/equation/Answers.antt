@@ -1,38 +1,26 @@
--- `equation`: what `due` and `pair_at` answer, with the numbers of the refusals. Assumes nothing.
+-- `equation`: what `due` and `pair_at` answer, with the reasons of the refusals. Assumes nothing.
 -- Read first: specs/Parser (IsEquation, FieldAt), proofs/Pairs.
-use native.Mathlib.Omega.{arith}
+use Rattle.problem.specs.Parser.{IsEquation}
+use Rattle.problem.proofs.Handed.{handed_on}
 use Rattle.problem.proofs.Pairs.{equation_not_due, equation_seventeenth, equation_refused, equation_fine}
 use Rattle.problem.proofs.equation.Goals as goal
 
+pub returns-in_err-end : goal.returns-in_err-end
+returns-in_err-end c =
+    handed_on (IsEquation c.args.table.now c.args.problem.now c.args.at c.args.count) _ _ c.from_residual.ensures.1
+    (equation_not_due _ _ _ _ c.requires.at_in_bounds.0 _ _ c.in_err-end.ensures)
+
 pub returns-then-count-eq-EQUATIONS : goal.returns-then-count-eq-EQUATIONS
-returns-then-count-eq-EQUATIONS c = equation_seventeenth _ _ _ _ c.requires.at_in_bounds.0 _ c.in-Value.ensures c.if-count-eq-EQUATIONS.true
+returns-then-count-eq-EQUATIONS c = equation_seventeenth _ _ _ _ c.requires.at_in_bounds.0 _ c.in_ok-end.ensures c.if-count-eq-EQUATIONS.true
 
-pub overflow_add-at : goal.overflow_add-at
-overflow_add-at c = let d = c.in-Value.ensures in omega (arith, d.1, d.2)
+pub returns-in_err-pair_at : goal.returns-in_err-pair_at
+returns-in_err-pair_at c =
+    handed_on (IsEquation c.args.table.now c.args.problem.now c.args.at c.args.count) _ _ c.from_residual-in_err-pair_at.ensures.1
+    (equation_refused _ _ _ _ c.requires.at_in_bounds.0 _ c.in_ok-end.ensures c.if-count-eq-EQUATIONS.false
+    c.requires.at_in_bounds.2 _ c.in_err-pair_at.ensures)
 
-pub pair_at-requires : goal.pair_at-requires
-pair_at-requires c =
-    let d = c.in-Value.ensures in
-    record {
-      table = c.requires.table;
-      at_le_end = (d.1, d.2, omega (arith, c.requires.at_in_bounds.1));
-    }
-
-pub returns-in-Refused : goal.returns-in-Refused
-returns-in-Refused c = equation_not_due _ _ _ _ c.requires.at_in_bounds.0 _ _ c.in-Refused.ensures
-
-pub returns-in-Wrong : goal.returns-in-Wrong
-returns-in-Wrong c =
-    equation_refused _ _ _ _ c.requires.at_in_bounds.0 _ c.in-Value.ensures c.if-count-eq-EQUATIONS.false
-    c.requires.at_in_bounds.2 _ _ c.in-Wrong.ensures
-
-pub returns-in-Large : goal.returns-in-Large
-returns-in-Large c =
-    equation_refused _ _ _ _ c.requires.at_in_bounds.0 _ c.in-Value.ensures c.if-count-eq-EQUATIONS.false
-    c.requires.at_in_bounds.2 _ _ c.in-Large.ensures
-
-pub returns-in-Filled : goal.returns-in-Filled
-returns-in-Filled c =
-    let p = c.in-Filled.ensures in
-    equation_fine _ _ _ _ c.requires.at_in_bounds.0 _ c.in-Value.ensures c.if-count-eq-EQUATIONS.false
+pub returns : goal.returns
+returns c =
+    let p = c.in_ok-pair_at.ensures in
+    equation_fine _ _ _ _ c.requires.at_in_bounds.0 _ c.in_ok-end.ensures c.if-count-eq-EQUATIONS.false
     c.requires.at_in_bounds.2 _ p.0 p.1
