@@ -1,6 +1,6 @@
 -- A problem with one equation: a lemma for each return of `sides`. Assumes nothing.
 -- Read first: specs/Places (SidesAt), problem/proofs/Laid, terms/specs/Flat (Starts).
-use mathlib.Core.Path.{◌≡◌, refl, ap, sym, subst, ◌∙◌}
+use mathlib.Core.Path.{◌≡◌, refl, ap, sym, ◌∙◌}
 use mathlib.Core.List.{List, [], ◌∷◌}
 use Prim.Native.Nat.{ℕ, ◌+◌, ◌<◌, ◌≤◌}
 use native.Mathlib.Omega.{arith}
@@ -16,7 +16,7 @@ use Rattle.problem.proofs.Laid.{Laid, parsed_laid}
 use Rattle.completion.specs.Calls.{Single, parse_single}
 use Rattle.only_equation.specs.Places.{table, SidesAt, Found, IsSides}
 use Rattle.only_equation.specs.declared.Equation.{Equation as Sides}
-use Rattle.only_equation.specs.declared.Equation.TheVariants.{At}
+use Rattle.std.specs.Prelude.{Ok}
 
 module _ (l : List ℕ) where
   single_is : (P : Problem) → parse l ≡ ok P →
@@ -95,9 +95,8 @@ module _ (l : List ℕ) where
               )
 
 -- what `sides` found where it refuses nothing
-pub found : (l : List ℕ) (r : Sides) (e a b c u : ℕ) → IsSides l r → r ≡ At e a b c u → Found l e a b c
-found l r e a b c u h q =
-    let A = subst (IsSides l) q h in
+pub found : (l : List ℕ) (q : Sides) → IsSides l (Ok q) → Found l q.table_end q.left q.right q.end
+found l q A =
     let P = A.1 in
     record {
       single = A.0;

@@ -7,7 +7,9 @@ use Rattle.reading.specs.Answers.{symbols_of, Table}
 use Rattle.problem.specs.Problem.{ok, refused}
 use Rattle.completion.specs.Calls.{Single, parse_single}
 use Rattle.only_equation.specs.declared.Equation.{Equation}
-use Rattle.only_equation.specs.declared.Equation.TheVariants.{At, Refused}
+use Rattle.problem.specs.Reasons.{number_of_reason}
+use Rattle.problem.specs.declared.Refusal.{Refusal}
+use Rattle.std.specs.Prelude.{Result, Ok, Err}
 
 -- the table of a problem, and the two sides of its only equation
 abbrev pub table : List ℕ → ℕ → List ℕ
@@ -44,6 +46,6 @@ pub record Found (l : List ℕ) (e a b c : ℕ) : Type 0 where
 abbrev pub Stands : List ℕ → ℕ → ℕ → ℕ → Type 0
 Stands l e a b = (c : ℕ) × Found l e a b c
 
-abbrev pub IsSides : List ℕ → Equation → Type 0
-IsSides l (At e a b c u) = (S : Single) × SidesAt l e a b c S × (S.budget ≡ u)
-IsSides l (Refused n p) = parse_single l ≡ refused n p
+abbrev pub IsSides : List ℕ → Result Equation Refusal → Type 0
+IsSides l (Ok q) = (S : Single) × SidesAt l q.table_end q.left q.right q.end S × (S.budget ≡ q.budget)
+IsSides l (Err r) = parse_single l ≡ refused (number_of_reason r.reason) r.place
