@@ -7,7 +7,6 @@ use mathlib.Core.Option.{Option, none, some}
 use Prim.Native.Nat.{ℕ, zero, suc, ◌+◌, ◌≤◌}
 use lib.Dec.{eqb}
 use lib.ListN.{length, drop}
-use Rattle.std.specs.Prelude.{if◌then◌else◌}
 use Rattle.reading.specs.Answers.{field_at}
 use Rattle.reading.proofs.Reading.{from_bind, ok_injective}
 use Rattle.reading.proofs.Fields.{due_at}

@@ -20,7 +20,9 @@ use Rattle.terms.proofs.Lists.{take_drop}
 use Rattle.terms.proofs.Flats.{widen}
 use Rattle.order.specs.Order.{above}
 use Rattle.order.specs.Walk.{IsAbove}
-use Rattle.reading.specs.Answers.{symbols_of, Table, between, PairAt, IsRenamed}
+use Rattle.reading.specs.Answers.{symbols_of, Table, between, PairAt, IsPair, IsRenamed}
+use Rattle.reading.specs.declared.Pair.{Pair as Filling}
+use Rattle.reading.specs.declared.Pair.TheVariants.{Filled, Wrong, Large}
 use Rattle.reading.proofs.Reading.{bind_ok}
 use Rattle.reading.proofs.Standing.{PairStands, pair_stands}
 use Rattle.problem.specs.Problem.{Reading, ok, refused, ◌>>=◌, Symbol, rank_of, read_term, read_side, read_pair}
@@ -33,9 +35,16 @@ use Rattle.items.specs.Readers.{Unread, part, SidesFill}
 use Rattle.items.proofs.Parts.{renamed_dec}
 use Rattle.items.proofs.OneField.{unread_is, unread_bind, unread_then, demand_kept, demand_broken}
 
-pub pair_refused : (Σ : List Symbol) (at : ℕ) (m : List ℕ) (n p : ℕ) → read_pair Σ at m ≡ refused n p → Unread (renamed_pair Σ at m)
+pair_refused : (Σ : List Symbol) (at : ℕ) (m : List ℕ) (n p : ℕ) → read_pair Σ at m ≡ refused n p → Unread (renamed_pair Σ at m)
 unfolding renamed_pair
 pair_refused Σ at m n p h = unread_bind (read_pair Σ at m) _ (unread_is h)
+
+-- no pair fills the bytes from `at` to `end`
+pub pair_unfilled : (tab l : List ℕ) (at end : ℕ) (r : Filling) → IsPair tab l at end r → ((m : ℕ) → r ≡ Filled m → ⊥) →
+    Unread (renamed_pair (symbols_of tab) at (between l at end))
+pair_unfilled tab l at end (Filled m) R n = absurd (n m refl)
+pair_unfilled tab l at end (Wrong p) R n = pair_refused (symbols_of tab) at (between l at end) _ p R
+pair_unfilled tab l at end (Large p) R n = pair_refused (symbols_of tab) at (between l at end) _ p R
 
 -- a pair that fills the bytes from `at` to `end`
 module _ (tab l : List ℕ) (at end : ℕ) (T : Table tab) (m : ℕ) (p : Pair) (P : PairAt tab l at end m p) where

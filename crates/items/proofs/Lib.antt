@@ -8,3 +8,4 @@ pub mod Refusals
 pub mod Computes
 pub mod Writing
 pub mod Each
+pub mod Passed

@@ -10,7 +10,6 @@ use native.Mathlib.Omega.{arith}
 use lib.Dec.{eqb, ltb, leb}
 use lib.ListN.{length, take, drop, length-drop, length-append}
 use borrow.Author.Tests.{ltb-true, leb-true}
-use Rattle.std.specs.Prelude.{if◌then◌else◌}
 use Rattle.terms.specs.Base.{number_from, Field, Every, of_none, of_cons}
 use Rattle.terms.specs.Term.{Pair, renamed, Term, term_bytes}
 use Rattle.terms.proofs.Shape.{Decides, dec_map, dec_and, same_dec, both_true}

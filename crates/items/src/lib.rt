@@ -33,55 +33,40 @@ pub const RULE_HEAD: usize = FIELD_HEAD + 2;
 // An entry in the log, the contents of its field 13: an origin, and the number of the rule made. 8
 pub const LOGGED: usize = limits::ORIGIN + 2;
 
-#[derive(Drop)]
-pub enum Outcome {
-    // A number, or the place behind what was read.
-    Value(usize),
-    // The first byte of a bad field, or the end where one is due.
-    Bad(usize),
+// A bad field, by its first byte, or the end where one is due.
+#[derive(Clone, Copy, Debug, PartialEq, Eq)]
+pub struct BadField {
+    pub place: usize,
 }
 
 // A number that fills its field, in so many bytes.
-pub fn number_field(kept: &[u8], at: usize, tag: u8, width: usize) -> Outcome
+pub fn number_field(kept: &[u8], at: usize, tag: u8, width: usize) -> Result<usize, BadField>
     requires { width ≤ 4 }
     ensures { IsNumber tag width kept.now at result }
 {
-    match reading::due(kept, at, tag) {
-        reading::DueField::At(e) => {
-            let start = at + FIELD_HEAD;
-            if e - start != width {
-                return Outcome::Bad(at);
-            }
-            Outcome::Value(reading::number(kept, start, width))
-        }
-        _ => Outcome::Bad(at),
+    let reading::DueField::At(e) = reading::due(kept, at, tag) else {
+        return Err(BadField { place: at });
+    };
+    let start = at + FIELD_HEAD;
+    if e - start != width {
+        return Err(BadField { place: at });
     }
+    Ok(reading::number(kept, start, width))
 }
 
-#[derive(Drop)]
-pub enum PairFound {
-    // Where the right side begins.
-    Filled(usize),
-    // They are not so.
-    Bad,
-}
-
-// Two sides, renamed as a pair, which fill the bytes from a place to an end.
-pub fn renamed_pair(kept: &[u8], table: &[u8], at: usize, end: usize) -> PairFound
+// Two sides, renamed as a pair, which fill the bytes from a place to an end: where the right one begins, if they are so.
+pub fn renamed_pair(kept: &[u8], table: &[u8], at: usize, end: usize) -> Option<usize>
     requires table { Table table.now }
     requires at_le_end { (at ≤ end) × (end ≤ length kept.now) × (length kept.now ≤ two_byte_values) }
     ensures { IsPairFound table.now kept.now at end result }
 {
-    match reading::pair_at(kept, table, at, end) {
-        reading::Pair::Wrong(_) => PairFound::Bad,
-        reading::Pair::Large(_) => PairFound::Bad,
-        reading::Pair::Filled(middle) => {
-            if reading::is_renamed(kept, at, end) {
-                return PairFound::Filled(middle);
-            }
-            PairFound::Bad
-        }
+    let reading::Pair::Filled(middle) = reading::pair_at(kept, table, at, end) else {
+        return None;
+    };
+    if !reading::is_renamed(kept, at, end) {
+        return None;
     }
+    Some(middle)
 }
 
 // A field of the pair in slot k: some bytes, at most an origin, and the two sides behind them.
@@ -120,38 +105,27 @@ pub fn hold_pair(
 }
 
 // The same of a rule's sides: where rules are to be ordered, the left side is above the right side.
-fn rule_sides(kept: &[u8], table: &[u8], at: usize, end: usize, ordered: bool) -> PairFound
+fn rule_sides(kept: &[u8], table: &[u8], at: usize, end: usize, ordered: bool) -> Option<usize>
     requires table { Table table.now }
     requires at_le_end { (at ≤ end) × (end ≤ length kept.now) × (length kept.now ≤ two_byte_values) }
     ensures { AreRuleSides table.now ordered kept.now at end result }
 {
-    match renamed_pair(kept, table, at, end) {
-        PairFound::Bad => PairFound::Bad,
-        PairFound::Filled(middle) => {
-            if !ordered {
-                return PairFound::Filled(middle);
-            }
-            if order::above(&kept[at..middle], &kept[middle..end], table) {
-                return PairFound::Filled(middle);
-            }
-            PairFound::Bad
-        }
+    let middle = renamed_pair(kept, table, at, end)?;
+    if ordered && !order::above(&kept[at..middle], &kept[middle..end], table) {
+        return None;
     }
+    Some(middle)
 }
 
-#[derive(Drop)]
-pub enum RuleFound {
-    // Where the right side begins, and where the field ends.
-    At {
-        number: usize,
-        middle: usize,
-        end: usize,
-    },
-    // The field is bad.
-    Bad,
+// A rule's number, where its right side begins, and where its field ends.
+#[derive(Clone, Copy, Debug, PartialEq, Eq)]
+pub struct RuleField {
+    pub number: usize,
+    pub middle: usize,
+    pub end: usize,
 }
 
-// Field 12: a rule whose number is above that of the rule before, and at most so much.
+// Field 12: a rule whose number is above that of the rule before, and at most so much; none if it is bad.
 pub fn rule_field(
     kept: &[u8],
     table: &[u8],
@@ -159,43 +133,35 @@ pub fn rule_field(
     before: usize,
     most: usize,
     ordered: bool,
-) -> RuleFound
+) -> Option<RuleField>
     requires table { Table table.now }
     requires kept_len_bound { length kept.now ≤ two_byte_values }
     ensures { IsRule table.now ordered most kept.now at before result }
 {
-    match reading::due(kept, at, RULE) {
-        reading::DueField::At(end) => {
-            let start = at + RULE_HEAD;
-            if end < start {
-                return RuleFound::Bad;
-            }
-            let number = reading::number(kept, at + FIELD_HEAD, 2);
-            if number <= before {
-                return RuleFound::Bad;
-            }
-            if number > most {
-                return RuleFound::Bad;
-            }
-            match rule_sides(kept, table, start, end, ordered) {
-                PairFound::Bad => RuleFound::Bad,
-                PairFound::Filled(middle) => RuleFound::At {
-                    number,
-                    middle,
-                    end,
-                },
-            }
-        }
-        _ => RuleFound::Bad,
+    let reading::DueField::At(end) = reading::due(kept, at, RULE) else {
+        return None;
+    };
+    let start = at + RULE_HEAD;
+    if end < start {
+        return None;
     }
+    let number = reading::number(kept, at + FIELD_HEAD, 2);
+    if number <= before || number > most {
+        return None;
+    }
+    let middle = rule_sides(kept, table, start, end, ordered)?;
+    Some(RuleField {
+        number,
+        middle,
+        end,
+    })
 }
 
-#[derive(Drop)]
-pub enum RulesFound {
-    // So many, and the place behind them.
-    Fine { count: usize, end: usize },
-    // The first byte of a bad field.
-    Bad(usize),
+// Fields of one tag, one behind the other: so many, and the place behind them.
+#[derive(Clone, Copy, Debug, PartialEq, Eq)]
+pub struct Group {
+    pub count: usize,
+    pub end: usize,
 }
 
 // The rules' fields from a place on, at most 32, with numbers of at most so much: into slots, each marked as it will be once it is removed.
@@ -206,7 +172,7 @@ pub fn read_rules(
     most: usize,
     ordered: bool,
     slots: &mut [u8],
-) -> RulesFound
+) -> Result<Group, BadField>
     requires table { Table table.now }
     requires at_in_bounds { (at ≤ length kept.now) × (length kept.now ≤ two_byte_values) }
     requires most_rules_in_bounds { slot_width * most_rules ≤ length slots.old }
@@ -215,29 +181,25 @@ pub fn read_rules(
     let mut count: usize = 0;
     let mut before: usize = 0;
     let mut i = at;
-    while i < kept.len() {
-        if count == limits::RULES {
-            return RulesFound::Fine { count, end: i };
-        }
-        if kept[i] != RULE {
-            return RulesFound::Fine { count, end: i };
-        }
-        match rule_field(kept, table, i, before, most, ordered) {
-            RuleFound::Bad => return RulesFound::Bad(i),
-            RuleFound::At {
-                number,
-                middle,
-                end,
-            } => {
-                let mark = origins::numbered(origins::REMOVED_RULE, number as u16);
-                hold_pair(kept, i + RULE_HEAD, middle, end, &mark, slots, count);
-                count += 1;
-                before = number;
-                i = end;
-            }
-        }
+    while i < kept.len() && kept[i] == RULE && count < limits::RULES {
+        let Some(rule) = rule_field(kept, table, i, before, most, ordered) else {
+            return Err(BadField { place: i });
+        };
+        let mark = origins::numbered(origins::REMOVED_RULE, rule.number as u16);
+        hold_pair(
+            kept,
+            i + RULE_HEAD,
+            rule.middle,
+            rule.end,
+            &mark,
+            slots,
+            count,
+        );
+        count += 1;
+        before = rule.number;
+        i = rule.end;
     }
-    RulesFound::Fine { count, end: i }
+    Ok(Group { count, end: i })
 }
 
 // Field 12 of the rule in slot k.
@@ -257,62 +219,42 @@ pub fn put_rules(out: &mut [u8], at: usize, rules: &[u8], count: usize) -> usize
     ensures { PutsSome rule_width out.old at count (flat_map field_bytes (each (slot_field rules.now) 0 count))
         out.new result }
 {
-    let mut i = 0;
     let mut a = at;
-    while i < count {
+    for i in 0..count {
         a = put_rule(out, a, rules, i);
-        i += 1;
     }
     a
 }
 
 // Field 13: the place behind it. Only its length and its kind are read.
-pub fn entry_field(kept: &[u8], at: usize) -> Outcome
+pub fn entry_field(kept: &[u8], at: usize) -> Result<usize, BadField>
     ensures { IsEntry kept.now at result }
 {
-    match reading::due(kept, at, ENTRY) {
-        reading::DueField::At(e) => {
-            if e - at != limits::ENTRY {
-                return Outcome::Bad(at);
-            }
-            let kind = kept[at + FIELD_HEAD];
-            if kind == 0 {
-                return Outcome::Bad(at);
-            }
-            if kind > origins::OVERLAPPING {
-                return Outcome::Bad(at);
-            }
-            Outcome::Value(e)
-        }
-        _ => Outcome::Bad(at),
+    let reading::DueField::At(e) = reading::due(kept, at, ENTRY) else {
+        return Err(BadField { place: at });
+    };
+    if e - at != limits::ENTRY {
+        return Err(BadField { place: at });
     }
+    let kind = kept[at + FIELD_HEAD];
+    if kind == 0 || kind > origins::OVERLAPPING {
+        return Err(BadField { place: at });
+    }
+    Ok(e)
 }
 
 // The log's fields from a place on, at most 512: the place behind them.
-pub fn read_entries(kept: &[u8], at: usize) -> Outcome
+pub fn read_entries(kept: &[u8], at: usize) -> Result<usize, BadField>
     requires { at ≤ length kept.now }
     ensures { IsEntries kept.now at result }
 {
     let mut count: usize = 0;
     let mut i = at;
-    while i < kept.len() {
-        if count == limits::ENTRIES {
-            return Outcome::Value(i);
-        }
-        if kept[i] != ENTRY {
-            return Outcome::Value(i);
-        }
-        match entry_field(kept, i) {
-            Outcome::Bad(place) => {
-                return Outcome::Bad(place);
-            }
-            Outcome::Value(end) => {
-                count += 1;
-                i = end;
-            }
-        }
+    while i < kept.len() && kept[i] == ENTRY && count < limits::ENTRIES {
+        i = entry_field(kept, i)?;
+        count += 1;
     }
-    Outcome::Value(i)
+    Ok(i)
 }
 
 // Field 13, once an entry.
@@ -322,27 +264,25 @@ pub fn put_log(out: &mut [u8], at: usize, log: &[u8], count: usize) -> usize
     ensures { PutsSome entry_width out.old at count (flat_map field_bytes (each (logged_field log.now) 0 count))
         out.new result }
 {
-    let mut i = 0;
     let mut a = at;
-    while i < count {
+    for i in 0..count {
         let e = LOGGED * i;
         a = fields::put_field(out, a, ENTRY, &log[e..e + LOGGED]);
-        i += 1;
     }
     a
 }
 
 // Field 14: the place behind it.
-pub fn forms_field(kept: &[u8], table: &[u8], at: usize) -> Outcome
+pub fn forms_field(kept: &[u8], table: &[u8], at: usize) -> Result<usize, BadField>
     requires table { Table table.now }
     requires kept_len_bound { length kept.now ≤ two_byte_values }
     ensures { IsForms table.now kept.now at result }
 {
-    match reading::due(kept, at, FORMS) {
-        reading::DueField::At(e) => match renamed_pair(kept, table, at + FIELD_HEAD, e) {
-            PairFound::Bad => Outcome::Bad(at),
-            PairFound::Filled(_) => Outcome::Value(e),
-        },
-        _ => Outcome::Bad(at),
-    }
+    let reading::DueField::At(e) = reading::due(kept, at, FORMS) else {
+        return Err(BadField { place: at });
+    };
+    let Some(_) = renamed_pair(kept, table, at + FIELD_HEAD, e) else {
+        return Err(BadField { place: at });
+    };
+    Ok(e)
 }

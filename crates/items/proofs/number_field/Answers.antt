@@ -7,25 +7,21 @@ use Rattle.items.proofs.number_field.Goals as goal
 
 pub overflow_add-start : goal.overflow_add-start
 overflow_add-start c =
-    let found = c.in-At.ensures in
-    let d = found in omega (arith, d.1, d.2)
+    let d = c.in-At.ensures in omega (arith, d.1, d.2)
 
 pub returns-then-e-start : goal.returns-then-e-start
 returns-then-e-start c =
-    let found = c.in-At.ensures in
-    let d = found in
+    let d = c.in-At.ensures in
     one_unread _ (read_number _) _ _ _ d (number_length _ _ _ _ _ d.1 d.2 c.if-e-start.true)
 
 pub number-requires : goal.number-requires
 number-requires c =
-    let found = c.in-At.ensures in
-    let d = found in
+    let d = c.in-At.ensures in
     (omega (arith, c.if-e-start.false, d.1, d.2), c.requires)
 
-pub returns-else-e-start : goal.returns-else-e-start
-returns-else-e-start c =
-    let found = c.in-At.ensures in
-    let d = found in
+pub returns : goal.returns
+returns c =
+    let d = c.in-At.ensures in
     let f = c.if-e-start.false in
     one_ends (omega (arith, d.1, f))
     (one_read _ (read_number _) _ _ _ d _ (number_is _ _ _ _ _ d.1 d.2 f _ c.number.ensures.value))

@@ -1,6 +1,5 @@
--- `put_log`: the invariant is that the fields of the entries from i on, put at a, give the whole list; count - i falls. Assumes nothing.
+-- `put_log`: the invariant is that the fields of the entries from i on, put at a, give the whole list. Assumes nothing.
 -- Read first: specs/Written (logged_field), fields/specs/Puts (PutsSome), proofs/Writing (puts_entry, Listing).
-use Prim.Native.Nat.{◌-◌}
 use Rattle.items.proofs.Writing.{puts_entry}
 use Rattle.items.proofs.Writing.{listing_start, listing_more, listing_end}
 use Rattle.std.proofs.Common.{rules}

@@ -1,6 +1,5 @@
--- `put_rules`: the invariant is that the fields of the slots from i on, put at a, give the whole list; count - i falls. Assumes nothing.
+-- `put_rules`: the invariant is that the fields of the slots from i on, put at a, give the whole list. Assumes nothing.
 -- Read first: specs/Written (slot_field), fields/specs/Puts (PutsSome), proofs/Writing (Listing).
-use Prim.Native.Nat.{◌-◌}
 use Rattle.slots.proofs.Layouts.{layout_less}
 use Rattle.items.proofs.Writing.{listing_start, listing_more, listing_end}
 use Rattle.std.proofs.Common.{rules}

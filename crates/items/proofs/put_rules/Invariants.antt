@@ -1,6 +1,5 @@
--- `put_rules`: the invariant is that the fields of the slots from i on, put at a, give the whole list; count - i falls. Assumes nothing.
+-- `put_rules`: the invariant is that the fields of the slots from i on, put at a, give the whole list. Assumes nothing.
 -- Read first: specs/Written (slot_field), fields/specs/Puts (PutsSome), proofs/Writing (Listing).
-use Prim.Native.Nat.{◌-◌}
 use Rattle.limits.specs.Limits.{rule_width}
 use Rattle.items.specs.Written.{slot_field}
 use Rattle.items.proofs.Writing.{Listing}
@@ -8,6 +7,3 @@ use Rattle.items.proofs.put_rules.Given as goal
 
 abbrev pub invariant-loop-i : goal.invariant-loop-i
 invariant-loop-i l = Listing (slot_field l.rules) rule_width l.initial.out l.at l.count l.out l.i l.a
-
-abbrev pub decreases-loop-i : goal.decreases-loop-i
-decreases-loop-i l = l.count - l.i
