@@ -3,6 +3,6 @@ use mathlib.Core.Path.{◌≡◌, ap}
 use Rattle.std.proofs.Common.{Result, Ok, Err}
 use Rattle.std.specs.Result.{IsErrAnd}
 
-pub passed : {T E : Type 0} (r : Result T E) {e : E} → IsErrAnd r (λ y. y ≡ e) → r ≡ Err e
-passed (Ok x) i = absurd i
-passed (Err y) i = ap Err i
+pub err_passed : {T E : Type 0} (r : Result T E) {e : E} → IsErrAnd r (λ y. y ≡ e) → r ≡ Err e
+err_passed (Ok x) i = absurd i
+err_passed (Err y) i = ap Err i

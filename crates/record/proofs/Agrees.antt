@@ -11,7 +11,6 @@ use lib.Dec.{eqb}
 use lib.ListN.{length}
 use borrow.Author.Tests.{eqb-true, ltb-false}
 use Rattle.limits.specs.Limits.{most_rules, most_entries, most_number}
-use Rattle.std.specs.Prelude.{if◌then◌else◌}
 use Rattle.terms.specs.Base.{number_from, Field, Every, of_none}
 use Rattle.terms.proofs.Every.{every_one, every_append}
 use Rattle.reading.specs.Stops.{wrong_record}

@@ -11,7 +11,6 @@ use lib.Dec.{eqb}
 use lib.ListN.{length, get_or, length-map}
 use borrow.Author.Tests.{le-ltb, le-leb}
 use Rattle.limits.specs.Limits.{most_symbols, most_rules, most_entries, most_number, most_record, most_budget}
-use Rattle.std.specs.Prelude.{if◌then◌else◌}
 use Rattle.terms.specs.Base.{number_bytes, field_bytes, member, Field}
 use Rattle.terms.proofs.Lists.{flat_map_append}
 use Rattle.terms.proofs.Limits.{length_number_bytes}

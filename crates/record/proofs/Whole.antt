@@ -9,8 +9,8 @@ use native.Mathlib.Omega.{arith}
 use lib.ListN.{length, drop, length-drop}
 use borrow.Author.Tests.{lt-ltb, le-ltb, eq-eqb, ne_eqb, leb-true, leb-false}
 use lib.Dec.{leb}
+use Rattle.std.proofs.Common.{Result, Ok, Err}
 use Rattle.limits.specs.Limits.{most_rules, most_number, most_entries}
-use Rattle.std.specs.Prelude.{if◌then◌else◌}
 use Rattle.terms.specs.Base.{member, Every, of_none, of_cons}
 use Rattle.terms.specs.Term.{Pair}
 use Rattle.reading.specs.Answers.{symbols_of}
@@ -19,12 +19,10 @@ use Rattle.problem.specs.Problem.{ok, refused, ◌>>=◌, refuse_if}
 use Rattle.rewriting.specs.Overlap.{Rule}
 use Rattle.items.specs.Fields.{one_field, read_forms, read_rule_at, read_kind}
 use Rattle.items.specs.Readers.{OneAt, OneBad, There, ThereBad, rules_at}
-use Rattle.items.specs.declared.Outcome.{Outcome}
-use Rattle.items.specs.declared.Outcome.TheVariants.{Value, Bad}
+use Rattle.items.specs.declared.BadField.{BadField}
 use Rattle.record.specs.Record.{read_end, read_units, nothing_behind, last_field, read_record, listed_end}
 use Rattle.record.specs.Reader.{IsNothing, IsLast, read_behind, IsBehind, IsRecord}
-use Rattle.record.specs.declared.RecordFound.{RecordFound}
-use Rattle.record.specs.declared.RecordFound.TheVariants.{Fine, Bad as BadRecord}
+use Rattle.record.specs.declared.Record.{Record as Found}
 
 -- `listed`: 0 and 20 to 24
 pub listed_none : (n : ℕ) → n ≡ 0 → true ≡ listed_end n
@@ -76,11 +74,11 @@ module _ (l : List ℕ) (at : ℕ) where
 -- `last_field`
 module _ (tab l : List ℕ) (end at : ℕ) where
   -- as what is due at e is answered
-  as_nothing : (e : ℕ) → last_field (symbols_of tab) end at (drop at l) ≡ nothing_behind e (drop e l) → (r : Outcome) → IsNothing l e r → IsLast tab l end at r
-  as_nothing e q (Value v) h = q ∙ h
-  as_nothing e q (Bad p) h = q ∙ h
+  as_nothing : (e : ℕ) → last_field (symbols_of tab) end at (drop at l) ≡ nothing_behind e (drop e l) → (r : Result (Unit {0}) BadField) → IsNothing l e r → IsLast tab l end at r
+  as_nothing e q (Ok u) h = q ∙ h
+  as_nothing e q (Err bad) h = q ∙ h
 
-  pub last_without : (end ≡ 20 → ⊥) → (r : Outcome) → IsNothing l at r → IsLast tab l end at r
+  pub last_without : (end ≡ 20 → ⊥) → (r : Result (Unit {0}) BadField) → IsNothing l at r → IsLast tab l end at r
   unfolding last_field
   last_without h = as_nothing at (rw (ne_eqb end 20 h) refl)
 
@@ -93,7 +91,7 @@ module _ (tab l : List ℕ) (end at : ℕ) where
     pub last_bad : (p : ℕ) → OneBad 0x14 (read_forms (symbols_of tab)) l at p → last_field (symbols_of tab) end at (drop at l) ≡ refused 13 p
     last_bad p B = last_is ∙ bind_refused _ (B 13)
 
-    pub last_forms : (forms : Pair) (e : ℕ) → OneAt 0x14 (read_forms (symbols_of tab)) l at forms e → (r : Outcome) → IsNothing l e r → IsLast tab l end at r
+    pub last_forms : (forms : Pair) (e : ℕ) → OneAt 0x14 (read_forms (symbols_of tab)) l at forms e → (r : Result (Unit {0}) BadField) → IsNothing l e r → IsLast tab l end at r
     last_forms forms e O = as_nothing e (last_is ∙ bind_ok _ (O.is 13))
 
 -- `read_behind`
@@ -140,13 +138,13 @@ module _ (tab l : List ℕ) where
       pub record_units_bad : (p : ℕ) → OneBad 0x11 read_units l 4 p → read_record (symbols_of tab) l ≡ refused 13 p
       record_units_bad p B = record_is ∙ bind_ok _ (E.is 13) ∙ bind_refused _ (B 13)
 
-      pub record_behind : (units : ℕ) → OneAt 0x11 read_units l 4 units 11 → (slots : List ℕ) (r : RecordFound) →
+      pub record_behind : (units : ℕ) → OneAt 0x11 read_units l 4 units 11 → (slots : List ℕ) (r : Result Found BadField) →
           IsBehind tab l end slots r → IsRecord tab l slots r
       record_behind units U slots r = go r
         where
           is : read_record (symbols_of tab) l ≡ read_behind (symbols_of tab) end units 11 (drop 11 l)
           is = record_is ∙ bind_ok _ (E.is 13) ∙ bind_ok _ (U.is 13)
 
-          go : (r : RecordFound) → IsBehind tab l end slots r → IsRecord tab l slots r
-          go (Fine e count) B = (units, B.1, is ∙ B.2 units ∙ rw B.0 refl, B.3)
-          go (BadRecord p) B = is ∙ B units
+          go : (r : Result Found BadField) → IsBehind tab l end slots r → IsRecord tab l slots r
+          go (Ok r) B = (units, B.1, is ∙ B.2 units ∙ rw B.0 refl, B.3)
+          go (Err bad) B = is ∙ B units

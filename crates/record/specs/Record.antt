@@ -1,10 +1,10 @@
 -- Document 02, Three: a result record read over a problem's symbols, and refusal 13; section 18 of docs/DEFINITION.md. Assumes nothing.
 -- Read first: items/specs/Fields.
-use Rattle.std.specs.Prelude.{Bool, false, ◌&&◌, List, [], ◌∷◌, ℕ, eqb, ltb, leb, length}
+use Rattle.std.specs.Prelude.{Bool, false, List, [], ◌∷◌, ℕ, eqb, ltb, leb, length}
 use Rattle.std.proofs.Math.Option.{none}
 use Rattle.limits.specs.Limits.{most_budget, most_rules, most_number, most_entries, most_record}
 use Rattle.std.specs.Prelude.{if◌then◌else◌}
-use Rattle.terms.specs.Base.{number_from, member}
+use Rattle.terms.specs.Base.{member}
 use Rattle.reading.specs.Stops.{wrong_record}
 use Rattle.problem.specs.Problem.{Reading, ok, ◌>>=◌, refuse_if, ReadField, Symbol}
 use Rattle.items.specs.Fields.{demand, one_field, read_number, fields_there, RuleAt, read_rule_at, read_kind, read_forms}

@@ -9,7 +9,7 @@ ghost use Rattle.slots.specs.Slots.{slot_width};
 ghost use Rattle.record.specs.Record.{listed_end};
 ghost use Rattle.record.specs.Reader.{IsEnd, IsUnits, IsNothing, IsLast, IsBehind, IsRecord};
 
-use items::{Outcome, RulesFound};
+use items::BadField;
 use limits::FIELD_HEAD;
 
 // The end with which alone field 14 is due: neither side above.
@@ -29,57 +29,43 @@ pub const RULES_AT: usize = UNITS_AT + FIELD_HEAD + 4;
 fn listed(end: usize) -> bool
     ensures { result ≡ listed_end end }
 {
-    if end == 0 {
-        return true;
-    }
-    if end < FIRST_STOP {
-        return false;
-    }
-    end <= LAST_STOP
+    end == 0 || (FIRST_STOP <= end && end <= LAST_STOP)
 }
 
 // Field 10, which stands first: the end.
-fn end_field(kept: &[u8]) -> Outcome
+fn end_field(kept: &[u8]) -> Result<usize, BadField>
     ensures { IsEnd kept.now result }
 {
-    match items::number_field(kept, 0, items::END, 1) {
-        Outcome::Bad(place) => Outcome::Bad(place),
-        Outcome::Value(end) => {
-            if listed(end) {
-                return Outcome::Value(end);
-            }
-            Outcome::Bad(0)
-        }
+    let end = items::number_field(kept, 0, items::END, 1)?;
+    if !listed(end) {
+        return Err(BadField { place: 0 });
     }
+    Ok(end)
 }
 
 // Field 11: the units.
-fn units_field(kept: &[u8], at: usize) -> Outcome
+fn units_field(kept: &[u8], at: usize) -> Result<usize, BadField>
     ensures { IsUnits kept.now at result }
 {
-    match items::number_field(kept, at, items::UNITS, 4) {
-        Outcome::Bad(place) => Outcome::Bad(place),
-        Outcome::Value(units) => {
-            if units > limits::BUDGET {
-                return Outcome::Bad(at);
-            }
-            Outcome::Value(units)
-        }
+    let units = items::number_field(kept, at, items::UNITS, 4)?;
+    if units > limits::BUDGET {
+        return Err(BadField { place: at });
     }
+    Ok(units)
 }
 
 // The place is the last: no byte stands there.
-fn nothing_behind(kept: &[u8], at: usize) -> Outcome
+fn nothing_behind(kept: &[u8], at: usize) -> Result<(), BadField>
     ensures { IsNothing kept.now at result }
 {
     if at < kept.len() {
-        return Outcome::Bad(at);
+        return Err(BadField { place: at });
     }
-    Outcome::Value(at)
+    Ok(())
 }
 
 // What is due behind the log: with end 20 the forms, and nothing else.
-fn last_field(kept: &[u8], table: &[u8], end: usize, at: usize) -> Outcome
+fn last_field(kept: &[u8], table: &[u8], end: usize, at: usize) -> Result<(), BadField>
     requires table { Table table.now }
     requires kept_len_bound { length kept.now ≤ two_byte_values }
     ensures { IsLast table.now kept.now end at result }
@@ -87,53 +73,45 @@ fn last_field(kept: &[u8], table: &[u8], end: usize, at: usize) -> Outcome
     if end != NEITHER {
         return nothing_behind(kept, at);
     }
-    match items::forms_field(kept, table, at) {
-        Outcome::Bad(place) => Outcome::Bad(place),
-        Outcome::Value(e) => nothing_behind(kept, e),
-    }
+    let behind = items::forms_field(kept, table, at)?;
+    nothing_behind(kept, behind)
 }
 
-#[derive(Drop)]
-pub enum RecordFound {
-    // Its end, and how many rules it has.
-    Fine { end: usize, count: usize },
-    // The first byte of the first bad field, or the end where a field is due.
-    Bad(usize),
+// A record's end, and how many rules it has.
+#[derive(Clone, Copy, Debug, PartialEq, Eq)]
+pub struct Record {
+    pub end: usize,
+    pub count: usize,
 }
 
 // The record behind its first two fields.
-fn read_behind(kept: &[u8], table: &[u8], end: usize, slots: &mut [u8]) -> RecordFound
+fn read_behind(kept: &[u8], table: &[u8], end: usize, slots: &mut [u8]) -> Result<Record, BadField>
     requires table { Table table.now }
     requires in_bounds { (11 ≤ length kept.now) × (length kept.now ≤ two_byte_values) }
     requires most_rules_in_bounds { slot_width * most_rules ≤ length slots.old }
     ensures { IsBehind table.now kept.now end slots.new result }
 {
-    match items::read_rules(kept, table, RULES_AT, limits::NUMBERS, false, slots) {
-        RulesFound::Bad(place) => RecordFound::Bad(place),
-        RulesFound::Fine { count, end: log } => match items::read_entries(kept, log) {
-            Outcome::Bad(place) => RecordFound::Bad(place),
-            Outcome::Value(behind) => match last_field(kept, table, end, behind) {
-                Outcome::Bad(place) => RecordFound::Bad(place),
-                Outcome::Value(_) => RecordFound::Fine { end, count },
-            },
-        },
-    }
+    let rules = items::read_rules(kept, table, RULES_AT, limits::NUMBERS, false, slots)?;
+    let behind = items::read_entries(kept, rules.end)?;
+    last_field(kept, table, end, behind)?;
+    Ok(Record {
+        end,
+        count: rules.count,
+    })
 }
 
-// The record: its end and the number of its rules, whose sides go into slots.
-pub fn read(kept: &[u8], table: &[u8], slots: &mut [u8]) -> RecordFound
+// The record, whose rules' sides go into slots. The place of a refusal is the first bad field's first byte, or the end where a field is due.
+pub fn read(kept: &[u8], table: &[u8], slots: &mut [u8]) -> Result<Record, BadField>
     requires table { Table table.now }
     requires most_rules_in_bounds { slot_width * most_rules ≤ length slots.old }
     ensures { IsRecord table.now kept.now slots.new result }
 {
     if kept.len() > limits::RECORD {
-        return RecordFound::Bad(limits::RECORD);
+        return Err(BadField {
+            place: limits::RECORD,
+        });
     }
-    match end_field(kept) {
-        Outcome::Bad(place) => RecordFound::Bad(place),
-        Outcome::Value(end) => match units_field(kept, UNITS_AT) {
-            Outcome::Bad(place) => RecordFound::Bad(place),
-            Outcome::Value(_) => read_behind(kept, table, end, slots),
-        },
-    }
+    let end = end_field(kept)?;
+    units_field(kept, UNITS_AT)?;
+    read_behind(kept, table, end, slots)
 }

@@ -5,7 +5,7 @@ use mathlib.Core.List.{[], ◌∷◌, ◌++◌}
 use mathlib.Core.Option.{none, some}
 use lib.ListN.{length-append}
 use native.Mathlib.Omega.{arith}
-use Rattle.items.proofs.Passed.{passed}
+use Rattle.items.proofs.Passed.{err_passed}
 use Rattle.items.proofs.Walking.{walk_start, walk_full, walk_none, walk_other, walk_bad, walk_more}
 use Rattle.items.proofs.read_entries.Goals as goal
 
@@ -26,7 +26,7 @@ pub returns-in_err-i : goal.returns-in_err-i
 returns-in_err-i c =
     let s = c.loop-i.invariant in
     let t = c.if-count-lt-ENTRIES.true in
-    rw (passed _ c.from_residual.ensures.1)
+    rw (err_passed _ c.from_residual.ensures.1)
     (walk_bad _ _ _ _ _ _ _ _ s.3 c.loop-i-test.true (λ e. omega (arith, s.2, t)) c.if-kept-i-eq-ENTRY.true _ c.in_err-i.ensures)
 
 pub overflow_add-count : goal.overflow_add-count
