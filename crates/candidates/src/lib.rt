@@ -11,7 +11,7 @@ ghost use Rattle.items.specs.Written.{logged_width};
 ghost use Rattle.candidates.specs.Candidates.{origin_test, origin_copy, entry_copy, IsWaiting, IsWaitings, IsEntry, IsLog};
 
 use checkpoint::WAITING;
-use items::{Outcome, PairFound};
+use items::{BadField, Group};
 use limits::{FIELD_HEAD, ORIGIN};
 use slots::origins;
 
@@ -29,17 +29,14 @@ fn is_origin(saved: &[u8], at: usize) -> bool
     ensures { result ≡ origin_test (drop at saved.now) }
 {
     let kind = saved[at];
-    if kind == 0 {
-        return false;
-    }
-    if kind > origins::OVERLAPPING {
+    if kind == 0 || kind > origins::OVERLAPPING {
         return false;
     }
     if kind == origins::OVERLAPPING {
         return true;
     }
     let second = reading::number(saved, at + SECOND, 2);
-    let position = terms::wide(saved[at + POSITION]);
+    let position = usize::from(saved[at + POSITION]);
     second + position == 0
 }
 
@@ -52,56 +49,45 @@ fn origin_at(saved: &[u8], at: usize) -> [u8; ORIGIN]
     mark[0] = saved[at];
     let first = reading::number(saved, at + origins::FIRST, 2);
     let second = reading::number(saved, at + SECOND, 2);
-    let position = terms::wide(saved[at + POSITION]);
+    let position = usize::from(saved[at + POSITION]);
     fields::put_number(&mut mark, origins::FIRST, 2, first as u32);
     fields::put_number(&mut mark, SECOND, 2, second as u32);
     fields::put_number(&mut mark, POSITION, 1, position as u32);
     mark
 }
 
-#[derive(Drop)]
-pub enum WaitingFound {
-    // Where its right side begins, and where the field ends.
-    At { middle: usize, end: usize },
-    // The field is bad.
-    Bad,
+// Where a waiting equation's right side begins, and where its field ends.
+#[derive(Clone, Copy, Debug, PartialEq, Eq)]
+struct WaitingField {
+    middle: usize,
+    end: usize,
 }
 
-// Field 21, a waiting equation.
-fn waiting_field(saved: &[u8], table: &[u8], at: usize) -> WaitingFound
+// Field 21, a waiting equation; none if it is bad.
+fn waiting_field(saved: &[u8], table: &[u8], at: usize) -> Option<WaitingField>
     requires table { Table table.now }
     requires saved_len_bound { length saved.now ≤ most_saved }
     ensures { IsWaiting table.now saved.now at result }
 {
-    match reading::due(saved, at, WAITING) {
-        reading::DueField::At(end) => {
-            let start = at + WAITING_HEAD;
-            if end < start {
-                return WaitingFound::Bad;
-            }
-            if is_origin(saved, at + FIELD_HEAD) {
-                match items::renamed_pair(saved, table, start, end) {
-                    PairFound::Bad => WaitingFound::Bad,
-                    PairFound::Filled(middle) => WaitingFound::At { middle, end },
-                }
-            } else {
-                WaitingFound::Bad
-            }
-        }
-        _ => WaitingFound::Bad,
+    let reading::DueField::At(end) = reading::due(saved, at, WAITING) else {
+        return None;
+    };
+    let start = at + WAITING_HEAD;
+    if end < start || !is_origin(saved, at + FIELD_HEAD) {
+        return None;
     }
-}
-
-#[derive(Drop)]
-pub enum Group {
-    // So many, and the place behind them.
-    Fine { count: usize, end: usize },
-    // The first byte of a bad field.
-    Bad(usize),
+    let middle = items::renamed_pair(saved, table, start, end)?;
+    Some(WaitingField { middle, end })
 }
 
 // The waiting equations' fields from a place on, into the slots behind the live rules: at most 33 together, and so many are then held.
-pub fn read_waiting(saved: &[u8], table: &[u8], at: usize, live: usize, slots: &mut [u8]) -> Group
+pub fn read_waiting(
+    saved: &[u8],
+    table: &[u8],
+    at: usize,
+    live: usize,
+    slots: &mut [u8],
+) -> Result<Group, BadField>
     requires table { Table table.now }
     requires at_in_bounds { (at ≤ length saved.now) × (length saved.now ≤ most_saved) × (live ≤ most_rules) }
     requires most_pairs_in_bounds { slot_width * most_pairs ≤ length slots.old }
@@ -109,44 +95,37 @@ pub fn read_waiting(saved: &[u8], table: &[u8], at: usize, live: usize, slots: &
 {
     let mut k = live;
     let mut i = at;
-    while i < saved.len() {
-        if k == limits::PAIRS {
-            return Group::Fine { count: k, end: i };
-        }
-        if saved[i] != WAITING {
-            return Group::Fine { count: k, end: i };
-        }
-        match waiting_field(saved, table, i) {
-            WaitingFound::Bad => {
-                return Group::Bad(i);
-            }
-            WaitingFound::At { middle, end } => {
-                let mark = origin_at(saved, i + FIELD_HEAD);
-                items::hold_pair(saved, i + WAITING_HEAD, middle, end, &mark, slots, k);
-                k += 1;
-                i = end;
-            }
-        }
+    while i < saved.len() && saved[i] == WAITING && k < limits::PAIRS {
+        let Some(field) = waiting_field(saved, table, i) else {
+            return Err(BadField { place: i });
+        };
+        let mark = origin_at(saved, i + FIELD_HEAD);
+        items::hold_pair(
+            saved,
+            i + WAITING_HEAD,
+            field.middle,
+            field.end,
+            &mark,
+            slots,
+            k,
+        );
+        k += 1;
+        i = field.end;
     }
-    Group::Fine { count: k, end: i }
+    Ok(Group { count: k, end: i })
 }
 
 // Field 13, with an origin: the place behind it.
-fn entry_field(saved: &[u8], at: usize) -> Outcome
+fn entry_field(saved: &[u8], at: usize) -> Result<usize, BadField>
     ensures { IsEntry saved.now at result }
 {
-    match reading::due(saved, at, items::ENTRY) {
-        reading::DueField::At(e) => {
-            if e - at != limits::ENTRY {
-                return Outcome::Bad(at);
-            }
-            if is_origin(saved, at + FIELD_HEAD) {
-                return Outcome::Value(e);
-            }
-            Outcome::Bad(at)
-        }
-        _ => Outcome::Bad(at),
+    let reading::DueField::At(e) = reading::due(saved, at, items::ENTRY) else {
+        return Err(BadField { place: at });
+    };
+    if e - at != limits::ENTRY || !is_origin(saved, at + FIELD_HEAD) {
+        return Err(BadField { place: at });
     }
+    Ok(e)
 }
 
 // The n-th entry of the log, from the eight bytes at a place.
@@ -162,30 +141,18 @@ fn put_entry(saved: &[u8], at: usize, log: &mut [u8], n: usize)
 }
 
 // The log's fields from a place on, at most 512: their contents, one behind the other.
-pub fn read_log(saved: &[u8], at: usize, log: &mut [u8]) -> Group
+pub fn read_log(saved: &[u8], at: usize, log: &mut [u8]) -> Result<Group, BadField>
     requires at_in_bounds { at ≤ length saved.now }
     requires most_entries_in_bounds { logged_width * most_entries ≤ length log.old }
     ensures { IsLog saved.now at log.new result }
 {
     let mut count: usize = 0;
     let mut i = at;
-    while i < saved.len() {
-        if count == limits::ENTRIES {
-            return Group::Fine { count, end: i };
-        }
-        if saved[i] != items::ENTRY {
-            return Group::Fine { count, end: i };
-        }
-        match entry_field(saved, i) {
-            Outcome::Bad(place) => {
-                return Group::Bad(place);
-            }
-            Outcome::Value(end) => {
-                put_entry(saved, i + FIELD_HEAD, log, count);
-                count += 1;
-                i = end;
-            }
-        }
+    while i < saved.len() && saved[i] == items::ENTRY && count < limits::ENTRIES {
+        let end = entry_field(saved, i)?;
+        put_entry(saved, i + FIELD_HEAD, log, count);
+        count += 1;
+        i = end;
     }
-    Group::Fine { count, end: i }
+    Ok(Group { count, end: i })
 }

@@ -1,6 +1,6 @@
 -- Single fields of a saved record: the symbols, an equation, the next rule number. Assumes nothing.
 -- Read first: specs/Loads (IsFirst, IsEquation, IsNext), items/proofs/OneField (one_read, tested-fine).
-use mathlib.Core.Path.{◌≡◌, refl, ap}
+use mathlib.Core.Path.{◌≡◌, refl, ap, ◌∙◌}
 use mathlib.Core.Bool.{Bool, true, false, ◌&&◌, and-false}
 use mathlib.Core.List.{List}
 use Prim.Native.Nat.{ℕ, ◌+◌, ◌<◌, ◌≤◌}
@@ -8,13 +8,17 @@ use native.Mathlib.Omega.{arith}
 use lib.Dec.{leb}
 use borrow.Author.Tests.{le-leb, lt-leb}
 use Rattle.limits.specs.Limits.{most_next}
-use Rattle.reading.specs.Answers.{symbols_of, between, field_at}
+use Rattle.reading.specs.Answers.{symbols_of, between, field_at, IsPair}
+use Rattle.reading.specs.declared.Pair.{Pair as Filling}
+use Rattle.reading.specs.declared.Pair.TheVariants.{Filled, Wrong, Large}
 use Rattle.reading.proofs.Reading.{bind_refused}
 use Rattle.problem.specs.Problem.{Reading, ok, refused, ◌>>=◌, ReadField, ReadPart, due, Symbol, symbol_field, read_pair}
-use Rattle.problem.specs.Parser.{SymbolsAt}
+use Rattle.problem.specs.Parser.{SymbolsAt, IsSymbols}
+use Rattle.problem.specs.declared.Read.{Read}
+use Rattle.problem.specs.declared.Read.TheVariants.{Value, Refused}
 use Rattle.items.specs.Fields.{or_refuse, one_field}
-use Rattle.items.specs.Readers.{part, OneAt, OneBad}
-use Rattle.items.proofs.OneField.{one_read}
+use Rattle.items.specs.Readers.{Unread, part, OneAt, OneBad}
+use Rattle.items.proofs.OneField.{unread_is, one_read}
 use Rattle.checkpoint.specs.Checkpoint.{read_equation}
 
 -- 01: whatever refuses it, and wherever, as a problem's field
@@ -24,9 +28,10 @@ unfolding ◌>>=◌ or_refuse
 first_due n (ok f) m p h = ap (or_refuse n 0) (bind_refused _ h)
 first_due n (refused k q) m p h = refl
 
-pub first_bad : (l : List ℕ) (m p : ℕ) → (due 0x01 0 l >>= symbol_field) ≡ refused m p → OneBad 0x01 symbol_field l 0 0
+pub first_bad : (l : List ℕ) (r : Read) → IsSymbols l r → ((e : ℕ) → r ≡ Value e → ⊥) → OneBad 0x01 symbol_field l 0 0
 unfolding one_field
-first_bad l m p h n = first_due n (due 0x01 0 l) m p h
+first_bad l (Value e) h none = absurd (none e refl)
+first_bad l (Refused m p) h none = λ n. first_due n (due 0x01 0 l) m p h
 
 pub first_one : (l : List ℕ) (e : ℕ) → SymbolsAt l e → OneAt 0x01 symbol_field l 0 (symbols_of (part l 3 e)) e
 first_one l e S = one_read 0x01 symbol_field l 0 e (S.field, omega (arith, S.low), S.within) _ S.read
@@ -36,6 +41,12 @@ pub equation_is : (tab l : List ℕ) (at e : ℕ) →
     read_equation (symbols_of tab) (field_at 0x03 l at e) ≡ read_pair (symbols_of tab) (at + 3) (between l (at + 3) e)
 unfolding read_equation field_at
 equation_is tab l at e = refl
+
+pub equation_unfilled : (tab l : List ℕ) (at e : ℕ) (r : Filling) → IsPair tab l (at + 3) e r → ((m : ℕ) → r ≡ Filled m → ⊥) →
+    Unread (read_equation (symbols_of tab) (field_at 0x03 l at e))
+equation_unfilled tab l at e (Filled m) h none = absurd (none m refl)
+equation_unfilled tab l at e (Wrong p) h none = unread_is (equation_is tab l at e ∙ h)
+equation_unfilled tab l at e (Large p) h none = unread_is (equation_is tab l at e ∙ h)
 
 -- 20: the test of the number
 abbrev pub next_fits : ℕ → Bool

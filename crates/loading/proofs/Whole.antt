@@ -8,7 +8,7 @@ use Prim.Native.Nat.{ℕ, suc, ◌+◌, ◌-◌, ◌<◌, ◌≤◌}
 use native.Mathlib.Omega.{arith}
 use lib.ListN.{length, drop, length-drop, length-map}
 use borrow.Author.Tests.{lt-ltb, le-ltb}
-use Rattle.limits.specs.Limits.{most_equations, most_rules, most_pairs, most_entries, most_saved}
+use Rattle.limits.specs.Limits.{most_equations, most_rules, most_pairs, most_entries, most_next, most_saved}
 use Rattle.terms.specs.Term.{Pair}
 use Rattle.reading.specs.Stops.{long_problem, wrong_saved}
 use Rattle.reading.specs.Answers.{symbols_of}
@@ -177,6 +177,14 @@ module _ (l : List ℕ) (front : Front) (F : FrontAt l front) where
             back_few = omega (arith, E.back_few, P.count_few);
           },
         )
+
+-- the front, from its parts
+pub front_at : (l : List ℕ) → length l ≤ most_saved → (t : ℕ) → SymbolsAt l t → (es : List Pair) (e count : ℕ) →
+    There 0x03 (λ _ f. read_equation (symbols_of (part l 3 t)) f) most_equations l t e es → length es ≡ count →
+    (next : ℕ) → OneAt 0x20 read_next l e next (e + 5) → 1 ≤ next → next ≤ most_next →
+    FrontAt l (record { table = t; equations = count; end = e; next = next })
+front_at l small t S es e count Q n next N some few =
+    record { small = small; table = S; equations = es; there = Q; number = n; next = N; next_some = some; next_few = few }
 
 -- `load`, and what stands before the rules
 module _ (l : List ℕ) where

@@ -1,6 +1,6 @@
 -- What each reader of a saved record answers, said by the definitions of checkpoint/specs/Checkpoint. Assumes nothing.
 -- Read first: checkpoint/specs/Checkpoint, items/specs/Readers (OneAt, OneBad, There, ThereBad, rules_at), candidates/specs/Candidates (InRows).
-use Rattle.std.specs.Prelude.{◌≡◌, true, ℕ, suc, ◌+◌, ◌-◌, ◌*◌, ◌≤◌, ltb, length, take, drop}
+use Rattle.std.specs.Prelude.{Result, Ok, Err, ◌≡◌, true, ℕ, suc, ◌+◌, ◌-◌, ◌*◌, ◌≤◌, ltb, length, take, drop}
 use mathlib.Core.List.{List, ◌++◌, map, flat_map}
 use Rattle.std.proofs.Math.Option.{none}
 use Rattle.limits.specs.Limits.{most_equations, most_rules, most_pairs, most_entries, most_next, most_saved}
@@ -14,46 +14,43 @@ use Rattle.completion.specs.Turn.{Candidate, Entry}
 use Rattle.items.specs.Fields.{one_field, fields_there, read_rule_at, rules_of}
 use Rattle.items.specs.Written.{row, logged_width, logged}
 use Rattle.items.specs.Readers.{part, OneAt, OneBad, There, ThereBad, rules_at}
-use Rattle.items.specs.declared.Outcome.{Outcome}
-use Rattle.items.specs.declared.Outcome.TheVariants.{Value, Bad}
+use Rattle.items.specs.declared.BadField.{BadField}
+use Rattle.items.specs.declared.Group.{Group}
 use Rattle.checkpoint.specs.Checkpoint.{Checkpoint, read_equation, read_next, read_waiting, read_entry, read_put_back, few_entries, read_checkpoint}
 use Rattle.inputs.specs.Inputs.{marked, InFields}
 use Rattle.candidates.specs.Candidates.{InRows}
-use Rattle.candidates.specs.declared.Group.{Group}
-use Rattle.candidates.specs.declared.Group.TheVariants.{Fine as FineGroup, Bad as BadGroup}
 use Rattle.loading.specs.declared.Ended.{Ended}
-use Rattle.loading.specs.declared.Ended.TheVariants.{Fine as FineEnd, Bad as BadEnd}
 use Rattle.loading.specs.declared.PairsFound.{PairsFound}
-use Rattle.loading.specs.declared.PairsFound.TheVariants.{Fine as FinePairs, Bad as BadPairs}
 use Rattle.loading.specs.declared.Loaded.{Loaded}
-use Rattle.loading.specs.declared.Loaded.TheVariants.{Fine, Bad as BadRecord, Long}
+use Rattle.loading.specs.declared.LoadError.{LoadError}
+use Rattle.loading.specs.declared.LoadError.TheVariants.{Bad, Long}
 use Rattle.loading.specs.declared.Front.{Front}
 use Rattle.loading.specs.declared.Counts.{Counts}
 
 -- `symbols_field`: the place behind it
-abbrev pub IsFirst : List ℕ → Outcome → Type 0
-IsFirst l (Value e) = SymbolsAt l e × OneAt 0x01 symbol_field l 0 (symbols_of (part l 3 e)) e
-IsFirst l (Bad p) = OneBad 0x01 symbol_field l 0 p
+abbrev pub IsFirst : List ℕ → Result ℕ BadField → Type 0
+IsFirst l (Ok e) = SymbolsAt l e × OneAt 0x01 symbol_field l 0 (symbols_of (part l 3 e)) e
+IsFirst l (Err bad) = OneBad 0x01 symbol_field l 0 bad.place
 
 -- `equation_field`, `read_equations`
-abbrev pub IsEquation : List ℕ → List ℕ → ℕ → Outcome → Type 0
-IsEquation tab l at (Value e) = (p : Pair) × OneAt 0x03 (read_equation (symbols_of tab)) l at p e
-IsEquation tab l at (Bad p) = OneBad 0x03 (read_equation (symbols_of tab)) l at p
+abbrev pub IsEquation : List ℕ → List ℕ → ℕ → Result ℕ BadField → Type 0
+IsEquation tab l at (Ok e) = (p : Pair) × OneAt 0x03 (read_equation (symbols_of tab)) l at p e
+IsEquation tab l at (Err bad) = OneBad 0x03 (read_equation (symbols_of tab)) l at bad.place
 
-abbrev pub IsEquations : List ℕ → List ℕ → ℕ → Group → Type 0
-IsEquations tab l at (FineGroup count e) =
-    (es : List Pair) × There 0x03 (λ _ f. read_equation (symbols_of tab) f) most_equations l at e es × (length es ≡ count)
-IsEquations tab l at (BadGroup p) = ThereBad 0x03 (λ _ f. read_equation (symbols_of tab) f) most_equations l at p
+abbrev pub IsEquations : List ℕ → List ℕ → ℕ → Result Group BadField → Type 0
+IsEquations tab l at (Ok g) =
+    (es : List Pair) × There 0x03 (λ _ f. read_equation (symbols_of tab) f) most_equations l at g.end es × (length es ≡ g.count)
+IsEquations tab l at (Err bad) = ThereBad 0x03 (λ _ f. read_equation (symbols_of tab) f) most_equations l at bad.place
 
 -- `next_field`
-abbrev pub IsNext : List ℕ → ℕ → Outcome → Type 0
-IsNext l at (Value next) = OneAt 0x20 read_next l at next (at + 5) × (1 ≤ next) × (next ≤ most_next)
-IsNext l at (Bad p) = OneBad 0x20 read_next l at p
+abbrev pub IsNext : List ℕ → ℕ → Result ℕ BadField → Type 0
+IsNext l at (Ok next) = OneAt 0x20 read_next l at next (at + 5) × (1 ≤ next) × (next ≤ most_next)
+IsNext l at (Err bad) = OneBad 0x20 read_next l at bad.place
 
 -- `back_field`
-abbrev pub IsBack : List ℕ → ℕ → ℕ → Outcome → Type 0
-IsBack l at waiting (Value back) = OneAt 0x22 (read_put_back waiting) l at back (at + 4) × (back ≤ waiting)
-IsBack l at waiting (Bad p) = OneBad 0x22 (read_put_back waiting) l at p
+abbrev pub IsBack : List ℕ → ℕ → ℕ → Result ℕ BadField → Type 0
+IsBack l at waiting (Ok back) = OneAt 0x22 (read_put_back waiting) l at back (at + 4) × (back ≤ waiting)
+IsBack l at waiting (Err bad) = OneBad 0x22 (read_put_back waiting) l at bad.place
 
 -- `read_end`: `read_checkpoint` behind its waiting equations, whatever is made of the log and the count
 unfoldable pub read_end : (List Entry → ℕ → Checkpoint) → ℕ → ℕ → ℕ → List ℕ → Reading Checkpoint
@@ -73,9 +70,9 @@ pub record EndIs (l : List ℕ) (at next waiting : ℕ) (log : List ℕ) (entrie
   pub back_few : back ≤ waiting
   pub log_is : take (logged_width * entries) log ≡ flat_map logged entered
 
-abbrev pub IsEnd : List ℕ → ℕ → ℕ → ℕ → List ℕ → Ended → Type 0
-IsEnd l at next waiting log (FineEnd entries back) = EndIs l at next waiting log entries back
-IsEnd l at next waiting log (BadEnd p) = (k : List Entry → ℕ → Checkpoint) → read_end k next waiting at (drop at l) ≡ refused wrong_saved p
+abbrev pub IsEnd : List ℕ → ℕ → ℕ → ℕ → List ℕ → Result Ended BadField → Type 0
+IsEnd l at next waiting log (Ok r) = EndIs l at next waiting log r.entries r.back
+IsEnd l at next waiting log (Err bad) = (k : List Entry → ℕ → Checkpoint) → read_end k next waiting at (drop at l) ≡ refused wrong_saved bad.place
 
 -- `read_pairs`
 pub record PairsAre (tab l : List ℕ) (at next : ℕ) (slots : List ℕ) (live count e : ℕ) : Type 0 where
@@ -97,10 +94,10 @@ read_pairs k Σ next at bytes = do
   waiting ← fields_there wrong_saved 0x21 (λ _ f. read_waiting Σ f) (most_pairs - length rules.part) none rules.end rules.rest
   k (rules_of rules.part) waiting.part waiting.end waiting.rest
 
-abbrev pub IsPairs : List ℕ → List ℕ → ℕ → ℕ → List ℕ → PairsFound → Type 0
-IsPairs tab l at next slots (FinePairs live count e) = PairsAre tab l at next slots live count e
-IsPairs tab l at next slots (BadPairs p) = (k : List Rule → List Candidate → ℕ → List ℕ → Reading Checkpoint) →
-    read_pairs k (symbols_of tab) next at (drop at l) ≡ refused wrong_saved p
+abbrev pub IsPairs : List ℕ → List ℕ → ℕ → ℕ → List ℕ → Result PairsFound BadField → Type 0
+IsPairs tab l at next slots (Ok r) = PairsAre tab l at next slots r.live r.count r.end
+IsPairs tab l at next slots (Err bad) = (k : List Rule → List Candidate → ℕ → List ℕ → Reading Checkpoint) →
+    read_pairs k (symbols_of tab) next at (drop at l) ≡ refused wrong_saved bad.place
 
 -- what stands before the rules was read so
 pub record FrontAt (l : List ℕ) (front : Front) : Type 0 where
@@ -136,7 +133,7 @@ pub record LoadedAt (l : List ℕ) (front : Front) (slots log : List ℕ) (count
   pub back_few : counts.back ≤ most_pairs
 
 -- `load`
-abbrev pub IsLoaded : List ℕ → List ℕ → List ℕ → Loaded → Type 0
-IsLoaded l slots log (Fine front counts) = (c : Checkpoint) × LoadedAt l front slots log counts c
-IsLoaded l slots log (BadRecord p) = read_checkpoint l ≡ refused wrong_saved p
-IsLoaded l slots log Long = read_checkpoint l ≡ refused long_problem most_saved
+abbrev pub IsLoaded : List ℕ → List ℕ → List ℕ → Result Loaded LoadError → Type 0
+IsLoaded l slots log (Ok r) = (c : Checkpoint) × LoadedAt l r.front slots log r.counts c
+IsLoaded l slots log (Err (Bad p)) = read_checkpoint l ≡ refused wrong_saved p
+IsLoaded l slots log (Err Long) = read_checkpoint l ≡ refused long_problem most_saved

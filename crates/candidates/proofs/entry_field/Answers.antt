@@ -5,30 +5,31 @@ use native.Mathlib.Omega.{arith}
 use Rattle.items.proofs.OneField.{one_undue, one_read, one_unread}
 use Rattle.checkpoint.specs.Checkpoint.{read_entry}
 use Rattle.candidates.proofs.Logged.{entry_long, entry_unmarked, entry_fine, entry_bytes}
+use Rattle.candidates.proofs.entry_field.Goals.{then-e-at-ne-ENTRY-via-then-e-at-ne-ENTRY, then-e-at-ne-ENTRY-via-else-e-at-ne-ENTRY+then-not-is_origin}
 use Rattle.candidates.proofs.entry_field.Goals as goal
 
 pub overflow_sub-e : goal.overflow_sub-e
 overflow_sub-e c =
-    let found = c.in-At.ensures in
-    let d = found in omega (arith, d.1)
+    let d = c.in-At.ensures in omega (arith, d.1)
 
 pub returns-then-e-at-ne-ENTRY : goal.returns-then-e-at-ne-ENTRY
 returns-then-e-at-ne-ENTRY c =
-    let found = c.in-At.ensures in
-    let d = found in
-    one_unread _ read_entry _ _ _ d (entry_long _ _ _ d.1 d.2 c.if-e-at-ne-ENTRY.true)
+    let d = c.in-At.ensures in
+    one_unread _ read_entry _ _ _ d (elim c.then-e-at-ne-ENTRY.branch [
+      | then-e-at-ne-ENTRY-via-then-e-at-ne-ENTRY w ↦ entry_long _ _ _ d.1 d.2 w.if-e-at-ne-ENTRY.true
+      | then-e-at-ne-ENTRY-via-else-e-at-ne-ENTRY+then-not-is_origin w ↦
+          entry_unmarked _ _ _ d.1 d.2 w.if-e-at-ne-ENTRY.false (sym w.is_origin.ensures ∙ w.if-not-is_origin.true)
+    ])
 
 pub is_origin-requires : goal.is_origin-requires
 is_origin-requires c =
-    let found = c.in-At.ensures in
-    let d = found in
+    let d = c.in-At.ensures in
     omega (arith, c.if-e-at-ne-ENTRY.false, d.1, d.2)
 
-pub returns-then-is_origin : goal.returns-then-is_origin
-returns-then-is_origin c =
-    let found = c.in-At.ensures in
-    let d = found in
-    let t = sym c.is_origin.ensures ∙ c.if-is_origin.true in
+pub returns : goal.returns
+returns c =
+    let d = c.in-At.ensures in
+    let t = sym c.is_origin.ensures ∙ c.if-not-is_origin.false in
     let f = c.if-e-at-ne-ENTRY.false in (
       _,
       record {
@@ -37,13 +38,6 @@ returns-then-is_origin c =
         bytes = entry_bytes _ _ _ d.1 d.2 f t;
       },
     )
-
-pub returns-else-is_origin : goal.returns-else-is_origin
-returns-else-is_origin c =
-    let found = c.in-At.ensures in
-    let d = found in
-    one_unread _ read_entry _ _ _ d
-    (entry_unmarked _ _ _ d.1 d.2 c.if-e-at-ne-ENTRY.false (sym c.is_origin.ensures ∙ c.if-is_origin.false))
 
 pub returns-in_default : goal.returns-in_default
 returns-in_default c = one_undue _ read_entry _ _ c.due.result c.due.ensures c.in_default.not-At

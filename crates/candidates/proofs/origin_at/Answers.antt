@@ -7,5 +7,5 @@ use Rattle.candidates.proofs.origin_at.Goals as goal
 pub returns : goal.returns
 returns c =
     origin_put c.args.saved.now c.args.at _ _ _ _ refl c.number-first.ensures.value c.number-second.ensures.value
-    c.wide-position.ensures.0 _ _ _ _ refl c.put_number.ensures.bytes c.put_number-2.ensures.bytes
+    c.from-position.ensures _ _ _ _ refl c.put_number.ensures.bytes c.put_number-2.ensures.bytes
     c.put_number-3.ensures.bytes

@@ -8,19 +8,19 @@ use Rattle.std.proofs.Common.{rules}
 use Rattle.items.proofs.read_rules.Goals as goal
 
 pub loop-i-init : goal.loop-i-init
-loop-i-init c = (refl, rules_start _ _ _ _ _ _ c.requires.at_in_bounds.0)
+loop-i-init c = rules_start _ _ _ _ _ _ c.requires.at_in_bounds.0
 
 pub returns-else-count-lt-RULES : goal.returns-else-count-lt-RULES
 returns-else-count-lt-RULES c =
-    let s = c.loop-i.invariant.1 in
+    let s = c.loop-i.invariant in
     rules_full _ _ _ _ _ _ _ _ _ s (omega (arith, s.slotted.few, c.if-count-lt-RULES.false))
 
 pub returns-else-kept-i-eq-RULE : goal.returns-else-kept-i-eq-RULE
-returns-else-kept-i-eq-RULE c = rules_other _ _ _ _ _ _ _ _ _ c.loop-i.invariant.1 c.loop-i-test.true c.if-kept-i-eq-RULE.false
+returns-else-kept-i-eq-RULE c = rules_other _ _ _ _ _ _ _ _ _ c.loop-i.invariant c.loop-i-test.true c.if-kept-i-eq-RULE.false
 
 pub returns-in_default : goal.returns-in_default
 returns-in_default c =
-    rules_bad _ _ _ _ _ _ _ _ _ c.loop-i.invariant.1 c.loop-i-test.true (λ e. omega arith) c.if-kept-i-eq-RULE.true
+    rules_bad _ _ _ _ _ _ _ _ _ c.loop-i.invariant c.loop-i-test.true (λ e. omega arith) c.if-kept-i-eq-RULE.true
     c.in_default.ensures
 
 pub overflow_cast-rule : goal.overflow_cast-rule
@@ -30,8 +30,7 @@ overflow_cast-rule c =
 -- its left side stands from i + 5 to m, its right side from there to e
 pub overflow_add-i : goal.overflow_add-i
 overflow_add-i c =
-    let found = c.in-Some.ensures in
-    let R = found.1 in
+    let R = c.in-Some.ensures.1 in
     omega (arith, R.held.middle, R.held.ends, R.one.within, c.requires.at_in_bounds.1)
 
 pub hold_pair-requires : goal.hold_pair-requires
@@ -49,45 +48,21 @@ hold_pair-requires c =
         omega (arith, F.ends, F.right_small),
         R.one.within,
       );
-      mark_len = (search rules, omega (arith, room, s.0, s.1.slotted.few, c.if-count-lt-RULES.true));
+      mark_len = (search rules, omega (arith, room, c.loop-i.auto.slots, c.if-count-lt-RULES.true));
     }
 
 pub overflow_add-count : goal.overflow_add-count
-overflow_add-count c = omega (arith, c.loop-i.invariant.1.slotted.few)
+overflow_add-count c = omega arith
 
 pub loop-i-smaller : goal.loop-i-smaller
 loop-i-smaller c =
-    let found = c.in-Some.ensures in
-    let R = found.1 in omega (arith, R.one.low, R.one.within)
+    let R = c.in-Some.ensures.1 in omega (arith, R.one.low, R.one.within)
 
 pub loop-i-preserved : goal.loop-i-preserved
 loop-i-preserved c =
-    let found = c.in-Some.ensures in
-    let s = c.loop-i.invariant in
-    let room = c.requires.most_rules_in_bounds in
-    let H = c.hold_pair.ensures in (
-      H.only.same ∙ s.0,
-      rules_more _ _ _ _ _ _ _ _ _ s.1 c.loop-i-test.true (λ e. omega arith) c.if-kept-i-eq-RULE.true _ _ _ _ found.1 _ _
-          c.numbered-mark.ensures H (omega (arith, room, s.0)),
-    )
+    let R = c.in-Some.ensures.1 in
+    rules_more _ _ _ _ _ _ _ _ _ c.loop-i.invariant c.loop-i-test.true (λ e. omega arith) c.if-kept-i-eq-RULE.true _ _ _ _ R _ _
+    c.numbered-mark.ensures c.hold_pair.ensures (omega (arith, c.requires.most_rules_in_bounds, c.loop-i.auto.slots))
 
 pub returns-after-loop-i : goal.returns-after-loop-i
-returns-after-loop-i c = rules_none _ _ _ _ _ _ _ _ _ c.loop-i.invariant.1 c.loop-i-test.false
-
-pub shape_of-slots-else-count-lt-RULES : goal.shape_of-slots-else-count-lt-RULES
-shape_of-slots-else-count-lt-RULES c =
-    let same : length c.loop-i.slots ≡ length c.args.slots.now = c.loop-i.invariant.0 in
-    same
-
-pub shape_of-slots-else-kept-i-eq-RULE : goal.shape_of-slots-else-kept-i-eq-RULE
-shape_of-slots-else-kept-i-eq-RULE c =
-    let same : length c.loop-i.slots ≡ length c.args.slots.now = c.loop-i.invariant.0 in
-    same
-
-pub shape_of-slots-in_default : goal.shape_of-slots-in_default
-shape_of-slots-in_default c =
-    let same : length c.loop-i.slots ≡ length c.args.slots.now = c.loop-i.invariant.0 in
-    same
-
-pub shape_of-slots-after-loop-i : goal.shape_of-slots-after-loop-i
-shape_of-slots-after-loop-i c = c.loop-i.invariant.0
+returns-after-loop-i c = rules_none _ _ _ _ _ _ _ _ _ c.loop-i.invariant c.loop-i-test.false

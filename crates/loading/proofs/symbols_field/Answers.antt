@@ -3,10 +3,10 @@
 use Rattle.loading.proofs.Singles.{first_bad, first_one}
 use Rattle.loading.proofs.symbols_field.Goals as goal
 
-pub returns-in-Refused : goal.returns-in-Refused
-returns-in-Refused c = first_bad _ _ _ c.in-Refused.ensures
+pub returns-in_default : goal.returns-in_default
+returns-in_default c = first_bad _ c.symbols.result c.symbols.ensures c.in_default.not-Value
 
-pub returns-in-Value : goal.returns-in-Value
-returns-in-Value c =
+pub returns : goal.returns
+returns c =
     let S = c.in-Value.ensures in
     (S, first_one _ _ S)
