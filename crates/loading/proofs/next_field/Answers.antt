@@ -13,7 +13,7 @@ unfolding read_next
 returns-then-next-eq0 c =
     let n = c.in_ok-next.next in
     tested_broken 0x20 2 next_fits _ _ _ _ c.in_ok-next.ensures (elim c.then-next-eq0.branch [
-      then-next-eq0-via-then-next-eq0 w ↦ next_none n w.if-next-eq0.true
+      | then-next-eq0-via-then-next-eq0 w ↦ next_none n w.if-next-eq0.true
       | then-next-eq0-via-else-next-eq0+then-next-gt-NEXT w ↦ next_large n (omega (arith, w.if-next-gt-NEXT.true))
     ])
 
