@@ -69,7 +69,7 @@ fn waiting_field(saved: &[u8], table: &[u8], at: usize) -> Option<WaitingField>
     requires saved_len_bound { length saved.now ≤ most_saved }
     ensures { IsWaiting table.now saved.now at result }
 {
-    let reading::DueField::At(end) = reading::due(saved, at, WAITING) else {
+    let Ok(end) = reading::due(saved, at, WAITING) else {
         return None;
     };
     let start = at + WAITING_HEAD;
@@ -119,7 +119,7 @@ pub fn read_waiting(
 fn entry_field(saved: &[u8], at: usize) -> Result<usize, BadField>
     ensures { IsEntry saved.now at result }
 {
-    let reading::DueField::At(e) = reading::due(saved, at, items::ENTRY) else {
+    let Ok(e) = reading::due(saved, at, items::ENTRY) else {
         return Err(BadField { place: at });
     };
     if e - at != limits::ENTRY || !is_origin(saved, at + FIELD_HEAD) {

@@ -72,5 +72,8 @@ module _ (tab l : List ℕ) (at e : ℕ) (within : e ≤ length l) (ends : (x : 
       let u = every_at (wf_bytes 16 tab x w) (i - at) 0 (omega arith) in
       absurd (omega arith))
 
-  pub side_whole : (i : ℕ) → SideWalk l at e i → e ≤ i → SideEnd tab l at i
-  side_whole i g h = let b = g.below in stop i g (λ x rest w s q k. omega arith)
+  pub side_whole : (i : ℕ) → SideWalk l at e i → e ≤ i → SideEnd tab l at e
+  side_whole i g h =
+      let b = g.below in
+      let q : i ≡ e = omega arith in
+      subst (SideEnd tab l at) q (stop i g (λ x rest w s q k. omega arith))

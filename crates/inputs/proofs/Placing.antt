@@ -1,7 +1,7 @@
 -- Two sides, found in the problem's bytes, renamed together and put into a slot: what each of the functions that do so leaves behind. Assumes
 -- nothing.
 -- Read first: specs/Inputs (SidesAt, PutsSides, PutsEquation), naming/proofs/Pairs, slots/proofs/Layouts.
-use mathlib.Core.Path.{◌≡◌, sym, ap, ◌∙◌, subst}
+use mathlib.Core.Path.{◌≡◌, refl, sym, ap, ◌∙◌, subst}
 use mathlib.Core.List.{List, [], ◌++◌, append_assoc}
 use Prim.Native.Nat.{ℕ, ◌+◌, ◌-◌, ◌≤◌}
 use native.Mathlib.Omega.{arith}
@@ -17,7 +17,10 @@ use Rattle.naming.proofs.Pairs.{wf_low, left_cut, right_cut, wf_few, renamed_lef
 use Rattle.slots.specs.Slots.{Sides, PutSides, PutMark, numbered_bytes}
 use Rattle.slots.proofs.Layouts.{pair_put}
 use Rattle.reading.specs.Forms.{ok, refused, ReadField, due}
-use Rattle.reading.specs.Answers.{field_at}
+use Rattle.reading.specs.Answers.{field_at, IsDue}
+use Rattle.std.proofs.Common.{Result, Ok, Err}
+use Rattle.reading.specs.declared.DueError.{DueError}
+use Rattle.reading.specs.declared.DueError.TheVariants.{Cut, Other}
 use Rattle.reading.proofs.Reading.{no_ok, ok_injective}
 use Rattle.inputs.specs.Inputs.{KnownBytes, SidesAt, SideEnd, PutsSides, PutsEquation}
 
@@ -86,8 +89,13 @@ same_end l at e f q = ap (λ (x : ReadField). x.end) q
 
 module _ (tab l : List ℕ) (at : ℕ) (slots : List ℕ) (k : ℕ) (mark slots' : List ℕ) (m : mark ≡ numbered_bytes 1 (k + 1))
     (p : PutMark slots k mark slots') where
-  pub field_none : (n place : ℕ) → due 0x03 at (drop at l) ≡ refused n place → PutsEquation tab l at slots k slots' at
+  field_none : (n place : ℕ) → due 0x03 at (drop at l) ≡ refused n place → PutsEquation tab l at slots k slots' at
   field_none n place d = record { only = p.only; mark = p.mark_is ∙ m; short = p.short; answer = λ e p q S. absurd (no_ok (sym d ∙ q)) }
+
+  pub undue_field : (r : Result ℕ DueError) → IsDue 0x03 l at r → ((e : ℕ) → r ≡ Ok e → ⊥) → PutsEquation tab l at slots k slots' at
+  undue_field (Ok e) d none = absurd (none e refl)
+  undue_field (Err Cut) d none = field_none _ _ d
+  undue_field (Err Other) d none = field_none _ _ d
 
   pub field_one : (slots₂ : List ℕ) (r : ℕ) → due 0x03 at (drop at l) ≡ ok (field_at 0x03 l at r) → PutsSides tab l (at + 3) slots' k slots₂ →
       PutsEquation tab l at slots k slots₂ r

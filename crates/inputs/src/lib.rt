@@ -15,17 +15,12 @@ fn side_end(source: &[u8], table: &[u8], at: usize) -> usize
     ensures { SideEnd table.now source.now at result }
 {
     let e = terms::term_end(source, table, at);
-    let mut i = at;
-    while i < e {
-        if i - at >= NODES {
+    for i in at..e {
+        if i - at >= NODES || source[i] > limits::LAST_VARIABLE {
             return i;
         }
-        if source[i] > limits::LAST_VARIABLE {
-            return i;
-        }
-        i += 1;
     }
-    i
+    e
 }
 
 // The two sides that start at `at`, renamed together, into slot k.
@@ -53,14 +48,11 @@ fn put_equation(source: &[u8], table: &[u8], at: usize, slots: &mut [u8], k: usi
 {
     let mark = origins::numbered(origins::WAITING_INPUT, (k + 1) as u16);
     slots::put_mark(slots, k, &mark);
-    match reading::due(source, at, problem::EQUATION_TAG) {
-        reading::DueField::Cut => at,
-        reading::DueField::Other => at,
-        reading::DueField::At(e) => {
-            put_sides(source, table, at + FIELD_HEAD, slots, k);
-            e
-        }
-    }
+    let Ok(e) = reading::due(source, at, problem::EQUATION_TAG) else {
+        return at;
+    };
+    put_sides(source, table, at + FIELD_HEAD, slots, k);
+    e
 }
 
 // The equations whose fields start at `at`, over the symbols of the table.

@@ -21,8 +21,9 @@ use Rattle.terms.proofs.Flats.{widen}
 use Rattle.order.specs.Order.{above}
 use Rattle.order.specs.Walk.{IsAbove}
 use Rattle.reading.specs.Answers.{symbols_of, Table, between, PairAt, IsPair, IsRenamed}
-use Rattle.reading.specs.declared.Pair.{Pair as Filling}
-use Rattle.reading.specs.declared.Pair.TheVariants.{Filled, Wrong, Large}
+use Rattle.std.proofs.Common.{Result, Ok, Err}
+use Rattle.reading.specs.declared.PairError.{PairError}
+use Rattle.reading.specs.declared.PairError.TheVariants.{Wrong, Large}
 use Rattle.reading.proofs.Reading.{bind_ok}
 use Rattle.reading.proofs.Standing.{PairStands, pair_stands}
 use Rattle.problem.specs.Problem.{Reading, ok, refused, ◌>>=◌, Symbol, rank_of, read_term, read_side, read_pair}
@@ -40,11 +41,11 @@ unfolding renamed_pair
 pair_refused Σ at m n p h = unread_bind (read_pair Σ at m) _ (unread_is h)
 
 -- no pair fills the bytes from `at` to `end`
-pub pair_unfilled : (tab l : List ℕ) (at end : ℕ) (r : Filling) → IsPair tab l at end r → ((m : ℕ) → r ≡ Filled m → ⊥) →
+pub pair_unfilled : (tab l : List ℕ) (at end : ℕ) (r : Result ℕ PairError) → IsPair tab l at end r → ((m : ℕ) → r ≡ Ok m → ⊥) →
     Unread (renamed_pair (symbols_of tab) at (between l at end))
-pair_unfilled tab l at end (Filled m) R n = absurd (n m refl)
-pair_unfilled tab l at end (Wrong p) R n = pair_refused (symbols_of tab) at (between l at end) _ p R
-pair_unfilled tab l at end (Large p) R n = pair_refused (symbols_of tab) at (between l at end) _ p R
+pair_unfilled tab l at end (Ok m) R n = absurd (n m refl)
+pair_unfilled tab l at end (Err (Wrong p)) R n = pair_refused (symbols_of tab) at (between l at end) _ p R
+pair_unfilled tab l at end (Err (Large p)) R n = pair_refused (symbols_of tab) at (between l at end) _ p R
 
 -- a pair that fills the bytes from `at` to `end`
 module _ (tab l : List ℕ) (at end : ℕ) (T : Table tab) (m : ℕ) (p : Pair) (P : PairAt tab l at end m p) where

@@ -15,8 +15,9 @@ use Rattle.terms.proofs.Lists.{take_drop}
 use Rattle.reading.proofs.Reading.{bind_ok, bind_refused}
 use Rattle.problem.specs.Problem.{Reading, ok, refused, ◌>>=◌, refuse_if, ReadField, ReadPart, due}
 use Rattle.reading.specs.Answers.{field_at, DueTo, IsDue}
-use Rattle.reading.specs.declared.DueField.{DueField}
-use Rattle.reading.specs.declared.DueField.TheVariants.{At, Cut, Other}
+use Rattle.std.proofs.Common.{Result, Ok, Err}
+use Rattle.reading.specs.declared.DueError.{DueError}
+use Rattle.reading.specs.declared.DueError.TheVariants.{Cut, Other}
 use Rattle.reading.proofs.Fields.{contents_length, due_at}
 use Rattle.items.specs.Fields.{or_refuse, demand, one_field, read_number, read_kind}
 use Rattle.items.specs.Readers.{Unread, OneAt, OneBad}
@@ -59,11 +60,11 @@ one_ends {tag = tag} {read = read} {l = l} {at = at} {a = a} q o = subst (OneAt 
 
 -- what is due at `at` is refused; or it is the field to e, which is read or not
 module _ {A : Type 0} (tag : ℕ) (read : ReadField → Reading A) (l : List ℕ) (at : ℕ) where
-  pub one_undue : (r : DueField) → IsDue tag l at r → ((e : ℕ) → r ≡ At e → ⊥) → OneBad tag read l at at
+  pub one_undue : (r : Result ℕ DueError) → IsDue tag l at r → ((e : ℕ) → r ≡ Ok e → ⊥) → OneBad tag read l at at
   unfolding one_field or_refuse
-  one_undue (At e) d h = absurd (h e refl)
-  one_undue Cut d h = λ n. ap (or_refuse n at) (bind_refused _ d)
-  one_undue Other d h = λ n. ap (or_refuse n at) (bind_refused _ d)
+  one_undue (Ok e) d h = absurd (h e refl)
+  one_undue (Err Cut) d h = λ n. ap (or_refuse n at) (bind_refused _ d)
+  one_undue (Err Other) d h = λ n. ap (or_refuse n at) (bind_refused _ d)
 
   module _ (e : ℕ) (d : DueTo tag l at e) where
     one_is : (n : ℕ) → one_field n tag read at (drop at l) ≡ or_refuse n at

@@ -44,7 +44,7 @@ pub fn number_field(kept: &[u8], at: usize, tag: u8, width: usize) -> Result<usi
     requires { width ≤ 4 }
     ensures { IsNumber tag width kept.now at result }
 {
-    let reading::DueField::At(e) = reading::due(kept, at, tag) else {
+    let Ok(e) = reading::due(kept, at, tag) else {
         return Err(BadField { place: at });
     };
     let start = at + FIELD_HEAD;
@@ -60,7 +60,7 @@ pub fn renamed_pair(kept: &[u8], table: &[u8], at: usize, end: usize) -> Option<
     requires at_le_end { (at ≤ end) × (end ≤ length kept.now) × (length kept.now ≤ two_byte_values) }
     ensures { IsPairFound table.now kept.now at end result }
 {
-    let reading::Pair::Filled(middle) = reading::pair_at(kept, table, at, end) else {
+    let Ok(middle) = reading::pair_at(kept, table, at, end) else {
         return None;
     };
     if !reading::is_renamed(kept, at, end) {
@@ -138,7 +138,7 @@ pub fn rule_field(
     requires kept_len_bound { length kept.now ≤ two_byte_values }
     ensures { IsRule table.now ordered most kept.now at before result }
 {
-    let reading::DueField::At(end) = reading::due(kept, at, RULE) else {
+    let Ok(end) = reading::due(kept, at, RULE) else {
         return None;
     };
     let start = at + RULE_HEAD;
@@ -230,7 +230,7 @@ pub fn put_rules(out: &mut [u8], at: usize, rules: &[u8], count: usize) -> usize
 pub fn entry_field(kept: &[u8], at: usize) -> Result<usize, BadField>
     ensures { IsEntry kept.now at result }
 {
-    let reading::DueField::At(e) = reading::due(kept, at, ENTRY) else {
+    let Ok(e) = reading::due(kept, at, ENTRY) else {
         return Err(BadField { place: at });
     };
     if e - at != limits::ENTRY {
@@ -278,7 +278,7 @@ pub fn forms_field(kept: &[u8], table: &[u8], at: usize) -> Result<usize, BadFie
     requires kept_len_bound { length kept.now ≤ two_byte_values }
     ensures { IsForms table.now kept.now at result }
 {
-    let reading::DueField::At(e) = reading::due(kept, at, FORMS) else {
+    let Ok(e) = reading::due(kept, at, FORMS) else {
         return Err(BadField { place: at });
     };
     let Some(_) = renamed_pair(kept, table, at + FIELD_HEAD, e) else {

@@ -9,8 +9,9 @@ use lib.Dec.{leb}
 use borrow.Author.Tests.{le-leb, lt-leb}
 use Rattle.limits.specs.Limits.{most_next}
 use Rattle.reading.specs.Answers.{symbols_of, between, field_at, IsPair}
-use Rattle.reading.specs.declared.Pair.{Pair as Filling}
-use Rattle.reading.specs.declared.Pair.TheVariants.{Filled, Wrong, Large}
+use Rattle.std.proofs.Common.{Result, Ok, Err}
+use Rattle.reading.specs.declared.PairError.{PairError}
+use Rattle.reading.specs.declared.PairError.TheVariants.{Wrong, Large}
 use Rattle.reading.proofs.Reading.{bind_refused}
 use Rattle.problem.specs.Problem.{Reading, ok, refused, ◌>>=◌, ReadField, ReadPart, due, Symbol, symbol_field, read_pair}
 use Rattle.problem.specs.Parser.{SymbolsAt, IsSymbols}
@@ -42,11 +43,11 @@ pub equation_is : (tab l : List ℕ) (at e : ℕ) →
 unfolding read_equation field_at
 equation_is tab l at e = refl
 
-pub equation_unfilled : (tab l : List ℕ) (at e : ℕ) (r : Filling) → IsPair tab l (at + 3) e r → ((m : ℕ) → r ≡ Filled m → ⊥) →
+pub equation_unfilled : (tab l : List ℕ) (at e : ℕ) (r : Result ℕ PairError) → IsPair tab l (at + 3) e r → ((m : ℕ) → r ≡ Ok m → ⊥) →
     Unread (read_equation (symbols_of tab) (field_at 0x03 l at e))
-equation_unfilled tab l at e (Filled m) h none = absurd (none m refl)
-equation_unfilled tab l at e (Wrong p) h none = unread_is (equation_is tab l at e ∙ h)
-equation_unfilled tab l at e (Large p) h none = unread_is (equation_is tab l at e ∙ h)
+equation_unfilled tab l at e (Ok m) h none = absurd (none m refl)
+equation_unfilled tab l at e (Err (Wrong p)) h none = unread_is (equation_is tab l at e ∙ h)
+equation_unfilled tab l at e (Err (Large p)) h none = unread_is (equation_is tab l at e ∙ h)
 
 -- 20: the test of the number
 abbrev pub next_fits : ℕ → Bool

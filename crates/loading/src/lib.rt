@@ -34,10 +34,10 @@ fn equation_field(saved: &[u8], table: &[u8], at: usize) -> Result<usize, BadFie
     requires saved_len_bound { length saved.now ≤ most_saved }
     ensures { IsEquation table.now saved.now at result }
 {
-    let reading::DueField::At(e) = reading::due(saved, at, problem::EQUATION_TAG) else {
+    let Ok(e) = reading::due(saved, at, problem::EQUATION_TAG) else {
         return Err(BadField { place: at });
     };
-    let reading::Pair::Filled(_) = reading::pair_at(saved, table, at + FIELD_HEAD, e) else {
+    let Ok(_) = reading::pair_at(saved, table, at + FIELD_HEAD, e) else {
         return Err(BadField { place: at });
     };
     Ok(e)

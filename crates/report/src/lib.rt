@@ -31,7 +31,7 @@ pub fn report(state: State, end: End, paid: u32, out: &mut [u8]) -> usize
     requires fine { Fine state }
     ensures { Reports state end paid out.old out.new result }
 {
-    let a = fields::put_number_field(out, 0, items::END, 1, rewriting::number(end) as u32);
+    let a = fields::put_number_field(out, 0, items::END, 1, u8::from(end) as u32);
     let b = fields::put_number_field(out, a, items::UNITS, 4, paid);
     let live = state.live;
     let c = items::put_rules(out, b, &state.pairs.bytes, live);

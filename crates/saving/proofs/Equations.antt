@@ -13,8 +13,9 @@ use Rattle.fields.proofs.Appending.{patched_none}
 use Rattle.fields.proofs.Putting.{puts_length, puts_then, puts_counted}
 use Rattle.reading.specs.Forms.{ok, ReadField, due}
 use Rattle.reading.specs.Answers.{field_at, DueTo, IsDue}
-use Rattle.reading.specs.declared.DueField.{DueField}
-use Rattle.reading.specs.declared.DueField.TheVariants.{At, Cut, Other}
+use Rattle.std.proofs.Common.{Result, Ok, Err}
+use Rattle.reading.specs.declared.DueError.{DueError}
+use Rattle.reading.specs.declared.DueError.TheVariants.{Cut, Other}
 use Rattle.reading.proofs.Reading.{no_ok, ok_injective}
 use Rattle.completion.specs.Calls.{pair_bytes}
 use Rattle.items.specs.Readers.{part}
@@ -68,11 +69,11 @@ so_far_start l from count out at = record {
 }
 
 -- no field 03 is there
-not_ok : (tag : ℕ) (l : List ℕ) (at : ℕ) (r : DueField) → IsDue tag l at r → ((e : ℕ) → r ≡ At e → ⊥) → (f : ReadField) →
+not_ok : (tag : ℕ) (l : List ℕ) (at : ℕ) (r : Result ℕ DueError) → IsDue tag l at r → ((e : ℕ) → r ≡ Ok e → ⊥) → (f : ReadField) →
     due tag at (drop at l) ≡ ok f → ⊥
-not_ok tag l at (At e) d h f q = h e refl
-not_ok tag l at Cut d h f q = no_ok (sym d ∙ q)
-not_ok tag l at Other d h f q = no_ok (sym d ∙ q)
+not_ok tag l at (Ok e) d h f q = h e refl
+not_ok tag l at (Err Cut) d h f q = no_ok (sym d ∙ q)
+not_ok tag l at (Err Other) d h f q = no_ok (sym d ∙ q)
 
 module _ (l : List ℕ) (from count : ℕ) (out₀ : List ℕ) (at : ℕ) (room : at + forms_width * count ≤ length out₀) (out : List ℕ) (k i a : ℕ)
     (s : SoFar l from count out₀ at out k i a) where
@@ -119,7 +120,7 @@ module _ (l : List ℕ) (from count : ℕ) (out₀ : List ℕ) (at : ℕ) (room 
   }
 
   -- the fields end too early: then no equations fill so many
-  pub put_stopped : k < count → (r : DueField) → IsDue 0x03 l i r → ((e : ℕ) → r ≡ At e → ⊥) → All
+  pub put_stopped : k < count → (r : Result ℕ DueError) → IsDue 0x03 l i r → ((e : ℕ) → r ≡ Ok e → ⊥) → All
   unfolding FillFields
   put_stopped h r d u = put_so_far (λ es c t. go es c t.rest t.number t.filled)
     where

@@ -34,15 +34,11 @@ fn put_equations(out: &mut [u8], at: usize, source: &[u8], from: usize, count: u
     let mut a = at;
     let mut i = from;
     for k in 0..count {
-        match reading::due(source, i, problem::EQUATION_TAG) {
-            reading::DueField::At(e) => {
-                a = put_equation(out, a, source, i, e);
-                i = e;
-            }
-            _ => {
-                return a;
-            }
-        }
+        let Ok(e) = reading::due(source, i, problem::EQUATION_TAG) else {
+            return a;
+        };
+        a = put_equation(out, a, source, i, e);
+        i = e;
     }
     a
 }
@@ -64,11 +60,9 @@ fn put_waiting(out: &mut [u8], at: usize, pairs: &[u8], live: usize, count: usiz
     ensures { PutsSome waiting_width out.old at count (flat_map field_bytes (each (waiting_slot pairs.now) live count))
         out.new result }
 {
-    let mut i = 0;
     let mut a = at;
-    while i < count {
+    for i in 0..count {
         a = put_candidate(out, a, pairs, live + i);
-        i += 1;
     }
     a
 }

@@ -10,11 +10,11 @@ use Rattle.candidates.proofs.entry_field.Goals as goal
 
 pub overflow_sub-e : goal.overflow_sub-e
 overflow_sub-e c =
-    let d = c.in-At.ensures in omega (arith, d.1)
+    let d = c.in-Ok.ensures in omega (arith, d.1)
 
 pub returns-then-e-at-ne-ENTRY : goal.returns-then-e-at-ne-ENTRY
 returns-then-e-at-ne-ENTRY c =
-    let d = c.in-At.ensures in
+    let d = c.in-Ok.ensures in
     one_unread _ read_entry _ _ _ d (elim c.then-e-at-ne-ENTRY.branch [
       | then-e-at-ne-ENTRY-via-then-e-at-ne-ENTRY w ↦ entry_long _ _ _ d.1 d.2 w.if-e-at-ne-ENTRY.true
       | then-e-at-ne-ENTRY-via-else-e-at-ne-ENTRY+then-not-is_origin w ↦
@@ -23,12 +23,12 @@ returns-then-e-at-ne-ENTRY c =
 
 pub is_origin-requires : goal.is_origin-requires
 is_origin-requires c =
-    let d = c.in-At.ensures in
+    let d = c.in-Ok.ensures in
     omega (arith, c.if-e-at-ne-ENTRY.false, d.1, d.2)
 
 pub returns : goal.returns
 returns c =
-    let d = c.in-At.ensures in
+    let d = c.in-Ok.ensures in
     let t = sym c.is_origin.ensures ∙ c.if-not-is_origin.false in
     let f = c.if-e-at-ne-ENTRY.false in (
       _,
@@ -40,4 +40,4 @@ returns c =
     )
 
 pub returns-in_default : goal.returns-in_default
-returns-in_default c = one_undue _ read_entry _ _ c.due.result c.due.ensures c.in_default.not-At
+returns-in_default c = one_undue _ read_entry _ _ c.due.result c.due.ensures c.in_default.not-Ok

@@ -1,4 +1,4 @@
--- `read`: the invariant is that the first k equations are in their slots and the rest is laid out from i on; count - k falls. Assumes nothing.
+-- `read`: the invariant is that the first k equations are in their slots and the rest is laid out from i on. Assumes nothing.
 -- Read first: specs/Inputs (InputsRead), proofs/Fields (SoFar).
 use Rattle.inputs.proofs.Fields.{read_start, read_more, read_end}
 use Rattle.slots.proofs.Layouts.{layout_room}

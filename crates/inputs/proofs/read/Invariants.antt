@@ -1,4 +1,4 @@
--- `read`: the invariant is that the first k equations are in their slots and the rest is laid out from i on; count - k falls. Assumes nothing.
+-- `read`: the invariant is that the first k equations are in their slots and the rest is laid out from i on. Assumes nothing.
 -- Read first: specs/Inputs (InputsRead), proofs/Fields (SoFar).
 use Rattle.inputs.proofs.Fields.{SoFar}
 use Rattle.limits.specs.Limits.{most_pairs}
@@ -10,6 +10,3 @@ use Rattle.inputs.proofs.read.Given as goal
 
 abbrev pub invariant-loop-k : goal.invariant-loop-k
 invariant-loop-k l = (l.k ≤ l.count) × (length l.slots ≡ most_pairs * slot_width) × SoFar l.table l.source l.at l.count l.slots l.k l.i
-
-abbrev pub decreases-loop-k : goal.decreases-loop-k
-decreases-loop-k l = l.count - l.k

@@ -1,11 +1,7 @@
--- `side_end`: the invariant is that the bytes passed are known and at most 120; e - i falls. A lemma for each return. Assumes nothing.
+-- `side_end`: the invariant is that the bytes passed are known and at most 120. A lemma for each return. Assumes nothing.
 -- Read first: specs/Inputs (SideEnd), proofs/Ending (SideWalk).
 use Rattle.inputs.proofs.Ending.{SideWalk}
-use Prim.Native.Nat.{◌-◌}
 use Rattle.inputs.proofs.side_end.Given as goal
 
 abbrev pub invariant-loop-i : goal.invariant-loop-i
 invariant-loop-i l = SideWalk l.source l.at l.e l.i
-
-abbrev pub decreases-loop-i : goal.decreases-loop-i
-decreases-loop-i l = l.e - l.i

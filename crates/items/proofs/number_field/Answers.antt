@@ -7,29 +7,29 @@ use Rattle.items.proofs.number_field.Goals as goal
 
 pub overflow_add-start : goal.overflow_add-start
 overflow_add-start c =
-    let d = c.in-At.ensures in omega (arith, d.1, d.2)
+    let d = c.in-Ok.ensures in omega (arith, d.1, d.2)
 
 pub returns-then-e-start : goal.returns-then-e-start
 returns-then-e-start c =
-    let d = c.in-At.ensures in
+    let d = c.in-Ok.ensures in
     one_unread _ (read_number _) _ _ _ d (number_length _ _ _ _ _ d.1 d.2 c.if-e-start.true)
 
 pub number-requires : goal.number-requires
 number-requires c =
-    let d = c.in-At.ensures in
+    let d = c.in-Ok.ensures in
     (omega (arith, c.if-e-start.false, d.1, d.2), c.requires)
 
 pub returns : goal.returns
 returns c =
-    let d = c.in-At.ensures in
+    let d = c.in-Ok.ensures in
     let f = c.if-e-start.false in
     one_ends (omega (arith, d.1, f))
     (one_read _ (read_number _) _ _ _ d _ (number_is _ _ _ _ _ d.1 d.2 f _ c.number.ensures.value))
 
 pub returns-in_default : goal.returns-in_default
-returns-in_default c = one_undue _ (read_number _) _ _ c.due.result c.due.ensures c.in_default.not-At
+returns-in_default c = one_undue _ (read_number _) _ _ c.due.result c.due.ensures c.in_default.not-Ok
 
 pub overflow_sub-e : goal.overflow_sub-e
 overflow_sub-e c =
-    let found = c.in-At.ensures in
+    let found = c.in-Ok.ensures in
     found.1

@@ -12,22 +12,22 @@ use Rattle.items.proofs.rule_field.Goals as goal
 
 pub overflow_add-start : goal.overflow_add-start
 overflow_add-start c =
-    let d = c.in-At.ensures in
+    let d = c.in-Ok.ensures in
     omega (arith, d.1, d.2, c.requires.kept_len_bound)
 
 pub returns-then-end-start : goal.returns-then-end-start
 returns-then-end-start c =
-    let d = c.in-At.ensures in
+    let d = c.in-Ok.ensures in
     one_unread _ (read_rule _ _ _ _) _ _ _ d (rule_short _ _ _ _ _ _ _ d.2 c.if-end-start.true)
 
 pub number-number-requires : goal.number-number-requires
 number-number-requires c =
-    let d = c.in-At.ensures in
+    let d = c.in-Ok.ensures in
     (omega (arith, c.if-end-start.false, d.2), omega arith)
 
 pub returns-then-number-before : goal.returns-then-number-before
 returns-then-number-before c =
-    let d = c.in-At.ensures in
+    let d = c.in-Ok.ensures in
     let n = c.number-number.ensures.value in
     let long = c.if-end-start.false in
     one_unread _ (read_rule _ _ _ _) _ _ _ d (elim c.then-number-before.branch [
@@ -38,7 +38,7 @@ returns-then-number-before c =
 
 pub rule_sides-requires : goal.rule_sides-requires
 rule_sides-requires c =
-    let found = c.in-At.ensures in
+    let found = c.in-Ok.ensures in
     record {
       table = c.requires.table;
       at_le_end = (c.if-end-start.false, found.2, c.requires.kept_len_bound);
@@ -46,7 +46,7 @@ rule_sides-requires c =
 
 pub returns-in_err-middle : goal.returns-in_err-middle
 returns-in_err-middle c =
-    let d = c.in-At.ensures in
+    let d = c.in-Ok.ensures in
     let gone : c.from_residual.result ≡ None = grind arith in
     rw gone
     (one_unread _ (read_rule _ _ _ _) _ _ _ d
@@ -54,10 +54,10 @@ returns-in_err-middle c =
 
 pub returns : goal.returns
 returns c =
-    let d = c.in-At.ensures in
+    let d = c.in-Ok.ensures in
     let h = c.in_ok-middle.ensures in
     let r = rule_fine _ _ _ _ _ _ _ d.2 c.if-end-start.false _ c.number-number.ensures.value c.if-number-before.false c.if-number-most.false _ h.1 in
     (h.0, record { one = one_read _ (read_rule _ _ _ _) _ _ _ d _ r; held = h.2; fits = c.number-number.ensures.fits })
 
 pub returns-in_default : goal.returns-in_default
-returns-in_default c = one_undue _ (read_rule _ _ _ _) _ _ c.due.result c.due.ensures c.in_default.not-At
+returns-in_default c = one_undue _ (read_rule _ _ _ _) _ _ c.due.result c.due.ensures c.in_default.not-Ok

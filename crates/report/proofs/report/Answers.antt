@@ -27,7 +27,7 @@ returns c =
     let fine = c.requires.fine in
     record {
       writes = λ tab f is.
-          reported tab f _ _ _ is _ _ _ _ c.number.ensures
+          reported tab f _ _ _ is _ _ _ _ c.from.ensures
           (wrote_all _ _ _ _ _ _ _ _ _ _ _ _ _ _ _ _ _ _ c.requires.most_result_in_bounds fine.live_few fine.log_few c.put_number_field-a.ensures
           c.put_number_field-b.ensures c.put_rules-c.ensures c.put_log-d.ensures c.put_oldest.ensures);
       few = omega (

@@ -1,6 +1,5 @@
--- `put_equations`: the invariant is that the first k fields are put and those of the others stand from i on (`SoFar`); count - k falls. Assumes nothing.
+-- `put_equations`: the invariant is that the first k fields are put and those of the others stand from i on (`SoFar`). Assumes nothing.
 -- Read first: specs/Saves (FillFields, PutsEquations), proofs/Equations.
-use Prim.Native.Nat.{◌-◌}
 use native.Mathlib.Omega.{arith}
 use Rattle.saving.proofs.Equations.{so_far_start, so_far_more, put_stopped, put_all}
 use Rattle.saving.proofs.put_equations.Goals as goal
@@ -10,20 +9,18 @@ loop-k-init c = so_far_start _ _ _ _ _
 
 pub put_equation-a-requires : goal.put_equation-a-requires
 put_equation-a-requires c =
-    let found = c.in-At.ensures in
+    let d = c.in-Ok.ensures in
     let s = c.loop-k.invariant in
-    let d = found in
     (omega (arith, s.puts.room, s.same, c.loop-k-test.true, c.requires), d.1, d.2)
 
 pub returns-in_default : goal.returns-in_default
 returns-in_default c =
     put_stopped _ _ _ _ _ c.requires _ _ _ _ c.loop-k.invariant c.loop-k-test.true c.due.result c.due.ensures
-    c.in_default.not-At
+    c.in_default.not-Ok
 
 pub loop-k-preserved : goal.loop-k-preserved
 loop-k-preserved c =
-    let found = c.in-At.ensures in
-    so_far_more _ _ _ _ _ c.requires _ _ _ _ c.loop-k.invariant c.loop-k-test.true _ found _ _
+    so_far_more _ _ _ _ _ c.requires _ _ _ _ c.loop-k.invariant c.loop-k-test.true _ c.in-Ok.ensures _ _
     c.put_equation-a.ensures
 
 pub shape_of-out : goal.shape_of-out

@@ -1,11 +1,7 @@
--- `put_equations`: the invariant is that the first k fields are put and those of the others stand from i on (`SoFar`); count - k falls. Assumes nothing.
+-- `put_equations`: the invariant is that the first k fields are put and those of the others stand from i on (`SoFar`). Assumes nothing.
 -- Read first: specs/Saves (FillFields, PutsEquations), proofs/Equations.
-use Prim.Native.Nat.{◌-◌}
 use Rattle.saving.proofs.Equations.{SoFar}
 use Rattle.saving.proofs.put_equations.Given as goal
 
 abbrev pub invariant-loop-k : goal.invariant-loop-k
 invariant-loop-k l = SoFar l.source l.from l.count l.initial.out l.at l.out l.k l.i l.a
-
-abbrev pub decreases-loop-k : goal.decreases-loop-k
-decreases-loop-k l = l.count - l.k

@@ -1,6 +1,5 @@
--- `put_waiting`: the invariant is that the fields of the pairs from the i-th on, put at a, give the whole list; count - i falls. Assumes nothing.
+-- `put_waiting`: the invariant is that the fields of the pairs from the i-th on, put at a, give the whole list. Assumes nothing.
 -- Read first: specs/Saves (waiting-slot), fields/specs/Puts (PutsSome), items/proofs/Writing (Listing), proofs/Putting.
-use Prim.Native.Nat.{◌-◌}
 use Rattle.slots.proofs.Layouts.{layout_less}
 use Rattle.items.proofs.Writing.{listing_start, listing_more, listing_end}
 use Rattle.saving.proofs.Putting.{puts_waiting}
