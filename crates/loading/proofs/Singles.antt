@@ -15,8 +15,7 @@ use Rattle.reading.specs.declared.PairError.TheVariants.{Wrong, Large}
 use Rattle.reading.proofs.Reading.{bind_refused}
 use Rattle.problem.specs.Problem.{Reading, ok, refused, ◌>>=◌, ReadField, ReadPart, due, Symbol, symbol_field, read_pair}
 use Rattle.problem.specs.Parser.{SymbolsAt, IsSymbols}
-use Rattle.problem.specs.declared.Read.{Read}
-use Rattle.problem.specs.declared.Read.TheVariants.{Value, Refused}
+use Rattle.problem.specs.declared.Refusal.{Refusal}
 use Rattle.items.specs.Fields.{or_refuse, one_field}
 use Rattle.items.specs.Readers.{Unread, part, OneAt, OneBad}
 use Rattle.items.proofs.OneField.{unread_is, one_read}
@@ -29,10 +28,10 @@ unfolding ◌>>=◌ or_refuse
 first_due n (ok f) m p h = ap (or_refuse n 0) (bind_refused _ h)
 first_due n (refused k q) m p h = refl
 
-pub first_bad : (l : List ℕ) (r : Read) → IsSymbols l r → ((e : ℕ) → r ≡ Value e → ⊥) → OneBad 0x01 symbol_field l 0 0
+pub first_bad : (l : List ℕ) (r : Result ℕ Refusal) → IsSymbols l r → ((e : ℕ) → r ≡ Ok e → ⊥) → OneBad 0x01 symbol_field l 0 0
 unfolding one_field
-first_bad l (Value e) h none = absurd (none e refl)
-first_bad l (Refused m p) h none = λ n. first_due n (due 0x01 0 l) m p h
+first_bad l (Ok e) h none = absurd (none e refl)
+first_bad l (Err r) h none = λ n. first_due n (due 0x01 0 l) _ _ h
 
 pub first_one : (l : List ℕ) (e : ℕ) → SymbolsAt l e → OneAt 0x01 symbol_field l 0 (symbols_of (part l 3 e)) e
 first_one l e S = one_read 0x01 symbol_field l 0 e (S.field, omega (arith, S.low), S.within) _ S.read

@@ -22,7 +22,7 @@ const BACK_WIDTH: usize = FIELD_HEAD + 1;
 fn symbols_field(saved: &[u8]) -> Result<usize, BadField>
     ensures { IsFirst saved.now result }
 {
-    let problem::Read::Value(e) = problem::symbols(saved) else {
+    let Ok(e) = problem::symbols(saved) else {
         return Err(BadField { place: 0 });
     };
     Ok(e)

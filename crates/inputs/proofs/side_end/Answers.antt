@@ -15,7 +15,7 @@ pub returns-then-i-at-ge-NODES : goal.returns-then-i-at-ge-NODES
 returns-then-i-at-ge-NODES c =
     let T = c.term_end-e.ensures in
     elim c.then-i-at-ge-NODES.branch [
-      then-i-at-ge-NODES-via-then-i-at-ge-NODES w ↦
+      | then-i-at-ge-NODES-via-then-i-at-ge-NODES w ↦
           side_far _ _ _ _ T.within.1 T.term _ c.loop-i.invariant c.loop-i-test.true w.if-i-at-ge-NODES.true
       | then-i-at-ge-NODES-via-else-i-at-ge-NODES+then-source-i-gt-LAST_VARIABLE w ↦
           side_bad _ _ _ _ T.within.1 T.term _ c.loop-i.invariant c.loop-i-test.true w.if-source-i-gt-LAST_VARIABLE.true
