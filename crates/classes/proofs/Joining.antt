@@ -1,5 +1,5 @@
 -- Two classes become one, the root with the larger key going to the other: the classes stay right, and the sum of the keys falls. Assumes nothing.
--- Read first: specs/Steps (key, joined, weight, Grown), specs/Arena (Classes), proofs/Arena.
+-- Read first: specs/Steps (key, joined, weight, Grown), specs/Arena (Classes), specs/Unique.
 use mathlib.Core.Path.{◌≡◌, refl, sym, ap, subst, subst₂, ◌∙◌}
 use mathlib.Core.Bool.{Bool, true, false}
 use mathlib.Core.Logic.{◌⊎◌, inl, inr, ⊎_elim}
@@ -8,14 +8,15 @@ use Prim.Native.Nat.{ℕ, zero, suc, ◌+◌, ◌≤◌, ◌<◌}
 use native.Mathlib.Omega.{arith}
 use native.Mathlib.Nat.{le_of_suc-le-suc}
 use lib.Dec.{eqb, ltb}
-use lib.ListN.{length, length-map}
+use lib.ListN.{length, set, length-map}
 use borrow.Author.Tests.{ltb-true, ltb-false, lt-ltb, le-ltb}
 use Rattle.std.specs.Prelude.{if◌then◌else◌}
+use Rattle.naming.proofs.Filling.{Mapped, mapped_more}
 use Rattle.terms.proofs.Shape.{Says, eqb_says}
 use Rattle.terms.proofs.Subst.{Subst}
 use Rattle.classes.specs.Arena.{Arena, NodesSpell, Joins, Classes}
 use Rattle.classes.specs.Steps.{at, arena, Ready, Linked, key, relabelled, joined, Grown, weight}
-use Rattle.classes.proofs.Arena.{spells_within}
+use Rattle.classes.specs.Unique.{spells_within}
 
 abbrev Cases : ℕ → ℕ → ℕ → Type 0
 Cases from to b = ((b ≡ from) × (relabelled from to b ≡ to)) ⊎ ((b ≡ from → ⊥) × (relabelled from to b ≡ b))
@@ -34,6 +35,12 @@ relabelled_yes from to b e = ⊎_elim (λ h. sym h.1) (λ h. absurd (h.0 e)) (re
 
 pub relabelled_no : (from to b : ℕ) → (b ≡ from → ⊥) → b ≡ relabelled from to b
 relabelled_no from to b e = ⊎_elim (λ h. absurd (e h.0)) (λ h. sym h.1) (relabelled_cases from to b)
+
+-- one entry relabelled
+pub relabel_turn : (from to : ℕ) (cs ds es : List ℕ) (i v : ℕ) → Mapped (relabelled from to) cs ds i → i < length cs →
+    v ≡ relabelled from to (at ds i) → es ≡ set ds i v → Mapped (relabelled from to) cs es (i + 1)
+relabel_turn from to cs ds es i v m h q e =
+    subst (λ z. Mapped (relabelled from to) cs z (i + 1)) (sym e) (mapped_more (relabelled from to) cs ds i v m h q)
 
 key_symbol : (l : List ℕ) (r : ℕ) → at l r < 128 → key l r ≡ r
 unfolding key

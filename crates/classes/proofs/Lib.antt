@@ -1,5 +1,5 @@
 pub mod Ranges
-pub mod Arena
+pub mod Solution
 pub mod Walks
 pub mod Joining
 pub mod Closing

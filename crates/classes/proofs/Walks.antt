@@ -1,5 +1,5 @@
 -- The steps that look for two nodes to join: along the arguments of two nodes (`Walk`), at a node and its root, and over all nodes. Assumes nothing.
--- Read first: specs/Arena (Agree, AllClosed), specs/Steps (Apart, StepIs), proofs/Arena.
+-- Read first: specs/Arena (Agree, AllClosed), specs/Steps (Apart, StepIs), specs/Unique.
 use mathlib.Core.Path.{◌≡◌, refl, sym, ap, subst, subst₂, ◌∙◌}
 use mathlib.Core.List.{List}
 use Prim.Native.Nat.{ℕ, zero, suc, ◌+◌, ◌-◌, ◌≤◌, ◌<◌}
@@ -15,7 +15,7 @@ use Rattle.classes.specs.Steps.{at, arena, Ready, SpellsSome, JoinsAll, Apart, C
 use Rattle.classes.specs.declared.Step.{Step}
 use Rattle.classes.specs.declared.Step.TheVariants.{Done, Clash, Join}
 use Rattle.classes.proofs.Ranges.{below_more}
-use Rattle.classes.proofs.Arena.{spells_within, unmake}
+use Rattle.classes.specs.Unique.{spells_within, unmake}
 
 -- n arguments from p on are those that are left of k from a on, and n from q on those of k from b on
 pub record Walk (A : Arena) (c : ℕ → ℕ) (a b k p q n : ℕ) : Type 0 where
@@ -117,13 +117,10 @@ ready_clash l tab ends cs y i r h e k n = (i, h, k, λ q. n (ap (at l) e ∙ q))
 
 pub ready_arguments : (l tab ends cs : List ℕ) → Ready l tab ends cs → (i r k : ℕ) → i < length l → r ≡ at cs i → at l i < 128 → at l r ≡ at l i →
     k ≡ owes tab (at l i) →
-    Ready l tab ends cs × (SpellsSome (arena l tab ends) (i + 1) k × SpellsSome (arena l tab ends) (r + 1) k)
+    SpellsSome (arena l tab ends) (i + 1) k × SpellsSome (arena l tab ends) (r + 1) k
 ready_arguments l tab ends cs y i r k h e f b q = (
-  y,
-  (
-    arguments (arena l tab ends) y.whole i (at l i) k (i + 1) h refl f q refl,
-    arguments (arena l tab ends) y.whole r (at l i) k (r + 1) (ready_within l tab ends cs y i r h e) b f q refl,
-  ),
+  arguments (arena l tab ends) y.whole i (at l i) k (i + 1) h refl f q refl,
+  arguments (arena l tab ends) y.whole r (at l i) k (r + 1) (ready_within l tab ends cs y i r h e) b f q refl,
 )
 
 pub ready_step : (l tab ends cs : List ℕ) → Ready l tab ends cs → (i r k : ℕ) → i < length l → r ≡ at cs i → at l i < 128 → at l r ≡ at l i →

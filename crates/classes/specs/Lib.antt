@@ -1,2 +1,4 @@
 pub mod Arena
 pub mod Steps
+pub mod Unique
+pub mod Read

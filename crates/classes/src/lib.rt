@@ -2,15 +2,19 @@
 #![tactic(auto)]
 
 ghost use Rattle.std.specs.Prelude.{◌≡◌, map, ◌<◌, ◌≤◌, length};
-ghost use Rattle.limits.specs.Limits.{two_byte_values, arena_width};
+ghost use Rattle.limits.specs.Limits.{arena_width};
 ghost use Rattle.classes.specs.Steps.{at, arena, Ready, SpellsSome, Apart, StepIs, key, relabelled, joined, ClosedTo};
+ghost use Rattle.classes.specs.Read.{arena_of, root_of};
 
+mod arena;
+
+pub use crate::arena::Arena;
 use limits::VARIABLE;
 
 // What the key of a variable's node has above its place: more than an arena has nodes.
 const BEHIND_SYMBOLS: usize = 1024;
 
-#[derive(Drop)]
+#[derive(Clone, Copy, Debug, PartialEq, Eq)]
 pub enum Step {
     // Nothing is to be joined here.
     Done,
@@ -20,60 +24,38 @@ pub enum Step {
     Join(usize, usize),
 }
 
-// A node as an index.
-pub fn wide(b: u16) -> usize
-    ensures { (result ≡ b) × (result < two_byte_values) }
-{
-    b as usize
-}
-
 // The first of k arguments from a on that is not in the class of its fellow from b on.
-fn apart(
-    nodes: &[u8],
-    table: &[u8],
-    ends: &[u16],
-    class: &[u16],
-    a: usize,
-    b: usize,
-    k: usize,
-) -> Step
-    requires ready { Ready nodes.now table.now ends.now class.now }
-    requires spells_some { SpellsSome (arena nodes.now table.now ends.now) a k × SpellsSome (arena nodes.now table.now ends.now) b k }
-    ensures { Apart (arena nodes.now table.now ends.now) (at class.now) a b k result }
+fn apart(arena: &Arena, a: usize, b: usize, k: usize) -> Step
+    requires { SpellsSome (arena_of arena.now) a k × SpellsSome (arena_of arena.now) b k }
+    ensures { Apart (arena_of arena.now) (root_of arena.now) a b k result }
 {
     let mut p = a;
     let mut q = b;
-    let mut left = k;
-    while left > 0 {
-        if class[p] != class[q] {
+    for left in (0..k).rev() {
+        if arena.class[p] != arena.class[q] {
             return Step::Join(p, q);
         }
-        p = wide(ends[p]);
-        q = wide(ends[q]);
-        left -= 1;
+        p = usize::from(arena.ends[p]);
+        q = usize::from(arena.ends[q]);
     }
     Step::Done
 }
 
 // What node i and the root of its class ask for.
-fn step_at(nodes: &[u8], table: &[u8], ends: &[u16], class: &[u16], i: usize) -> Step
-    requires ready { Ready nodes.now table.now ends.now class.now }
-    requires i_in_bounds { i < length nodes.now }
-    ensures { StepIs (arena nodes.now table.now ends.now) (at class.now) i result }
+fn step_at(arena: &Arena, i: usize) -> Step
+    requires { i < length arena.now.nodes.now }
+    ensures { StepIs (arena_of arena.now) (root_of arena.now) i result }
 {
-    let r = wide(class[i]);
-    if r == i {
+    let r = usize::from(arena.class[i]);
+    let f = arena.nodes[i];
+    if r == i || f >= VARIABLE {
         return Step::Done;
     }
-    let f = nodes[i];
-    if f >= VARIABLE {
-        return Step::Done;
-    }
-    if nodes[r] != f {
+    if arena.nodes[r] != f {
         return Step::Clash;
     }
-    let k = terms::owed_by(table, f);
-    apart(nodes, table, ends, class, i + 1, r + 1, k)
+    let k = terms::owed_by(arena.table, f);
+    apart(arena, i + 1, r + 1, k)
 }
 
 // Symbols come before variables, and smaller nodes before larger.
@@ -81,29 +63,22 @@ fn key(nodes: &[u8], r: u16) -> usize
     requires { (r < length nodes.now) × (length nodes.now ≤ arena_width) }
     ensures { result ≡ key nodes.now r }
 {
-    let i = wide(r);
+    let i = usize::from(r);
     if nodes[i] < VARIABLE {
-        return i;
+        i
+    } else {
+        i + BEHIND_SYMBOLS
     }
-    i + BEHIND_SYMBOLS
 }
 
-fn relabel_node(b: u16, from: u16, to: u16) -> u16
-    ensures { result ≡ relabelled from to b }
-{
-    if b == from {
-        return to;
-    }
-    b
-}
-
+// The class whose root is `from` gets the root `to`.
 fn relabel(class: &mut [u16], from: u16, to: u16)
     ensures { class.new ≡ map (relabelled from to) class.old }
 {
-    let n = class.len();
-    for i in 0..n {
-        let b = class[i];
-        class[i] = relabel_node(b, from, to);
+    for b in class.iter_mut() {
+        if *b == from {
+            *b = to;
+        }
     }
 }
 
@@ -117,9 +92,9 @@ pub fn join(nodes: &[u8], class: &mut [u16], a: usize, b: usize)
     let rb = class[b];
     if key(nodes, ra) < key(nodes, rb) {
         relabel(class, rb, ra);
-        return;
+    } else {
+        relabel(class, ra, rb);
     }
-    relabel(class, ra, rb);
 }
 
 // Joins until the classes are closed, or two symbols meet: passes over the nodes, until one joins nothing.
@@ -129,28 +104,30 @@ pub fn close(nodes: &[u8], table: &[u8], ends: &[u16], class: &mut [u16]) -> boo
     ensures closed_to { ClosedTo (arena nodes.now table.now ends.now) (at class.old) (at class.new) result }
 {
     let mut i = 0;
-    let mut again: usize = 0;
+    let mut again = false;
+    // Kept: i stays at a node until it joins nothing there, and goes back to the first node after a pass that joined, which a `for` does not say.
     loop {
         if i < nodes.len() {
-            let s = step_at(nodes, table, ends, class, i);
-            match s {
-                Step::Done => {
-                    i += 1;
-                }
-                Step::Clash => {
-                    return false;
-                }
+            let arena = Arena {
+                nodes,
+                table,
+                ends,
+                class,
+            };
+            match step_at(&arena, i) {
+                Step::Done => i += 1,
+                Step::Clash => return false,
                 Step::Join(a, b) => {
                     join(nodes, class, a, b);
-                    again = 1;
+                    again = true;
                 }
             }
         } else {
-            if again == 0 {
+            if !again {
                 return true;
             }
             i = 0;
-            again = 0;
+            again = false;
         }
     }
 }

@@ -17,7 +17,7 @@ use Rattle.naming.proofs.Renaming.{Lows, length_renamed}
 use Rattle.naming.proofs.Pairs.{left_cut, right_cut}
 use Rattle.naming.proofs.Few.{terms_few}
 use Rattle.mgu.specs.Written.{put, RoomFor, WritesTerm}
-use Rattle.classes.proofs.Arena.{spells_one}
+use Rattle.classes.specs.Unique.{spells_one}
 use Rattle.mgu.proofs.Instance.{spells_lows}
 use Rattle.mgu.proofs.Writing.{put_append, put_reads}
 use Rattle.slots.specs.Slots.{PutSides}

@@ -9,7 +9,7 @@ use Rattle.terms.specs.Term.{Term, Terms, nil, cons, size, subst_term, subst_ter
 use Rattle.classes.specs.Arena.{Arena, Spells, free, made, SpellsAll, none, more, same}
 use Rattle.classes.specs.Steps.{at, arena}
 use Rattle.mgu.specs.Result.{Solved}
-use Rattle.classes.proofs.Arena.{spells_within}
+use Rattle.classes.specs.Unique.{spells_within}
 use Rattle.mgu.proofs.Verdict.{the_mgu, solved_spells, solved_image, solved_renames}
 use Rattle.sizing.specs.Sizes.{cap}
 use Rattle.sizing.proofs.Sizing.{known_size}

@@ -1,6 +1,6 @@
 -- How unification begins: first classes (a variable with its first node), then the two terms joined; where the ends are right, the bytes spell the
 -- terms. Assumes nothing.
--- Read first: specs/Result (Laid, EndAt, FirstClass), classes/specs/Arena (Spells, Classes), classes/proofs/Arena.
+-- Read first: specs/Result (Laid, EndAt, FirstClass), classes/specs/Arena (Spells, Classes), classes/specs/Unique.
 use mathlib.Core.Path.{◌≡◌, sym, ap, subst, ◌∙◌}
 use mathlib.Core.List.{List, [], ◌∷◌, ◌++◌, append_assoc, append-nil}
 use Prim.Native.Nat.{ℕ, suc, ◌+◌, ◌-◌, ◌≤◌, ◌<◌}
@@ -19,7 +19,7 @@ use Rattle.terms.proofs.Subst.{Subst}
 use Rattle.classes.specs.Arena.{Spells, free, made, SpellsAll, none, more, same, NodesSpell, Joins, Classes}
 use Rattle.classes.specs.Steps.{at, Each, arena, Ready, joined}
 use Rattle.mgu.specs.Result.{Laid, LaidOut, EndAt, FirstLike, FirstClass, Firsts, Joined}
-use Rattle.classes.proofs.Arena.{spells_within, spells_one, unfree}
+use Rattle.classes.specs.Unique.{spells_within, spells_one, unfree}
 use Rattle.classes.proofs.Filled.{FilledTo, filled_start, filled_more}
 use Rattle.classes.proofs.Joining.{join_ready, join_classes, join_joins}
 use Rattle.mgu.proofs.Firsts.{firsts_start, firsts_more}

@@ -1,6 +1,6 @@
 -- The answer of unification, and what it leaves: the classes give a most general unifier, whose instances are the definition's up to renaming. Assumes
 -- nothing.
--- Read first: specs/Result (Solved, Decided), unify/proofs/Unique, classes/proofs/Arena, proofs/Starting.
+-- Read first: specs/Result (Solved, Decided), unify/proofs/Unique, classes/proofs/Solution, proofs/Starting.
 use mathlib.Core.Path.{◌≡◌, refl, sym, ap, subst, ◌∙◌}
 use mathlib.Core.Bool.{Bool, true, false}
 use mathlib.Core.Option.{Option, none, some}
@@ -19,7 +19,7 @@ use Rattle.sizing.specs.Sizes.{Sized, Unknown, SizesKnown, SizedTo}
 use Rattle.mgu.specs.Result.{EndAt, Joined, Solved, SolvedIf, Decided}
 use Rattle.unify.proofs.Correct.{Mgu, unifier, mgu_right, mgu_none}
 use Rattle.unify.proofs.Unique.{most_general, mgu_unique, mgu_unique_pair}
-use Rattle.classes.proofs.Arena.{unifies_joins, solution, solution_mgu, image, never_circle}
+use Rattle.classes.proofs.Solution.{unifies_joins, solution, solution_mgu, image, never_circle}
 use Rattle.mgu.proofs.Starting.{laid_at}
 
 never_none : (A : Arena) (n₁ n₂ : ℕ) (s t : Term) → Spells A same n₁ s → Spells A same n₂ t → Never A n₁ n₂ → (o : Option (List Binding)) → mgu s t ≡ o →

@@ -17,7 +17,7 @@ use Rattle.terms.proofs.Every.{every_head, every_tail}
 use Rattle.terms.proofs.Several.{join, join_bytes, join_sizes}
 use Rattle.classes.specs.Arena.{Arena, Spells, free, made, SpellsAll, none, more}
 use Rattle.classes.specs.Steps.{at, arena, Ready}
-use Rattle.classes.proofs.Arena.{spells_within, spells_one}
+use Rattle.classes.specs.Unique.{spells_within, spells_one}
 use Rattle.mgu.specs.Written.{put, hops, HopsWithin, RoomFor, WritesTerm}
 
 pub put_append : (to : ℕ) (xs ys d : List ℕ) → put to (xs ++ ys) d ≡ put (to + length xs) ys (put to xs d)

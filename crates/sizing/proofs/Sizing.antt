@@ -19,7 +19,7 @@ use Rattle.classes.specs.Steps.{at, Each, arena, Ready, SpellsSome}
 use Rattle.sizing.specs.Sizes.{Sized, Unknown, Total, Lacks, SizeAt, SizesKnown, SizedTo, cap}
 use Rattle.classes.proofs.Ranges.{from_less}
 use Rattle.classes.proofs.Walks.{rest_spells, some_within, arguments, ready_within}
-use Rattle.classes.proofs.Arena.{spells_one, spells_within}
+use Rattle.classes.specs.Unique.{spells_one, spells_within}
 
 -- n arguments from p on are left of k from a on, and the others, and one more, have the sum
 pub record Adding (A : Arena) (c z : ℕ → ℕ) (a k p n sum : ℕ) : Type 0 where

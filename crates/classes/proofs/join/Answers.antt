@@ -6,5 +6,5 @@ use Rattle.classes.proofs.join.Goals as goal
 pub returns-then-key : goal.returns-then-key
 returns-then-key c = joined_first _ _ _ _ _ _ _ c.key.ensures c.key-2.ensures c.if-key.true c.relabel.ensures
 
-pub returns : goal.returns
-returns c = joined_second _ _ _ _ _ _ _ c.key.ensures c.key-2.ensures c.if-key.false c.relabel-2.ensures
+pub returns-else-key : goal.returns-else-key
+returns-else-key c = joined_second _ _ _ _ _ _ _ c.key.ensures c.key-2.ensures c.if-key.false c.relabel-else-key.ensures

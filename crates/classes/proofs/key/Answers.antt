@@ -4,7 +4,7 @@ use Rattle.classes.proofs.Joining.{key_first, key_second}
 use Rattle.classes.proofs.key.Goals as goal
 
 pub returns-then-nodes-i-lt-VARIABLE : goal.returns-then-nodes-i-lt-VARIABLE
-returns-then-nodes-i-lt-VARIABLE c = key_first _ _ _ c.wide-i.ensures.0 c.if-nodes-i-lt-VARIABLE.true
+returns-then-nodes-i-lt-VARIABLE c = key_first _ _ _ c.from-i.ensures c.if-nodes-i-lt-VARIABLE.true
 
-pub returns : goal.returns
-returns c = key_second _ _ _ c.wide-i.ensures.0 c.if-nodes-i-lt-VARIABLE.false
+pub returns-else-nodes-i-lt-VARIABLE : goal.returns-else-nodes-i-lt-VARIABLE
+returns-else-nodes-i-lt-VARIABLE c = key_second _ _ _ c.from-i.ensures c.if-nodes-i-lt-VARIABLE.false

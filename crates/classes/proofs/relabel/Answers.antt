@@ -1,14 +1,19 @@
--- `relabel`: the invariant is that the first i entries are relabelled and the others are as they were; n - i falls. Assumes nothing.
+-- `relabel`: the invariant is that the entries passed are relabelled and the others are as they were. Assumes nothing.
 -- Read first: specs/Steps (relabelled), naming/proofs/Filling (Mapped).
-use Prim.Native.Nat.{◌-◌}
-use Rattle.naming.proofs.Filling.{mapped_start, mapped_more, mapped_end}
+use Rattle.naming.proofs.Filling.{mapped_start, mapped_end}
+use Rattle.classes.proofs.Joining.{relabelled_yes, relabelled_no, relabel_turn}
 use Rattle.classes.proofs.relabel.Goals as goal
+use Rattle.classes.proofs.relabel.Goals.{then-b-from, else-b-from}
 
-pub loop-i-init : goal.loop-i-init
-loop-i-init c = mapped_start _ _
+pub loop-b-init : goal.loop-b-init
+loop-b-init c = mapped_start _ _
 
-pub loop-i-preserved : goal.loop-i-preserved
-loop-i-preserved c = mapped_more _ _ _ _ _ c.loop-i.invariant c.loop-i-test.true c.relabel_node.ensures
+pub loop-b-preserved : goal.loop-b-preserved
+loop-b-preserved c =
+    elim c.if-b-from.branch [
+      | then-b-from w ↦ relabel_turn _ _ _ _ _ _ _ c.loop-b.invariant c.loop-b-test.true (relabelled_yes _ _ _ w.if-b-from.true) w.class-is
+      | else-b-from w ↦ relabel_turn _ _ _ _ _ _ _ c.loop-b.invariant c.loop-b-test.true (relabelled_no _ _ _ w.if-b-from.false) w.class-is
+    ]
 
 pub returns : goal.returns
-returns c = mapped_end _ _ _ _ c.loop-i.invariant c.loop-i-test.false
+returns c = mapped_end _ _ _ _ c.loop-b.invariant c.loop-b-test.false

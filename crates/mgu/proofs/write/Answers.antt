@@ -1,7 +1,7 @@
 -- `write`: the nodes from `first` on spell what is still owed; the invariant is that with it written, the bytes are what is to be left. Assumes nothing.
 -- Read first: specs/Written (RoomFor, WritesTerm), proofs/Writing.
 use Rattle.mgu.proofs.Writing.{write_start, write_done, Next, next, Step, step}
-use Rattle.classes.proofs.Arena.{spells_within}
+use Rattle.classes.specs.Unique.{spells_within}
 use native.Mathlib.Omega.{arith}
 use Prim.Native.Nat.{◌-◌}
 use lib.ListN.{replicate}

@@ -1,6 +1,6 @@
 -- Closed classes whose nodes all spell terms give a most general unifier, and its instances are those terms. Assumes nothing. Two symbols in one
 -- class (clash), or classes that go round in a circle (occurs check), leave no unifier.
--- Read first: specs/Arena.
+-- Read first: specs/Arena, specs/Unique.
 use mathlib.Core.Path.{◌≡◌, refl, sym, ap, ap₂, subst, ◌∙◌}
 use mathlib.Core.Logic.{◌⊎◌, inl, inr, ⊎_elim}
 use Prim.Native.Nat.{ℕ, zero, suc, ◌+◌, ◌≤◌, ◌<◌}
@@ -11,39 +11,14 @@ use Rattle.terms.proofs.Shape.{node_symbol}
 use Rattle.terms.proofs.Subst.{Subst}
 use Rattle.classes.specs.Arena.{Arena, Spells, free, made, SpellsAll, none, more, same, NodesSpell, Joins, Classes, Agree, AllClosed, Never, Among}
 use Rattle.classes.specs.Arena.{Descends}
+use Rattle.classes.specs.Unique.{spells_within, unmake, spells_one}
 use Rattle.classes.proofs.Ranges.{below_more}
 use Rattle.unify.proofs.Correct.{Unifies, Mgu}
 
 module _ (A : Arena) where
-  pub spells_within : {c : ℕ → ℕ} {i : ℕ} {t : Term} → Spells A c i t → i < A.nodes
-  spells_within (free h e) = h
-  spells_within (made h e l r) = h
-
-  -- a node whose root is a symbol
-  pub unmake : {c : ℕ → ℕ} {i : ℕ} {t : Term} (f : ℕ) → Spells A c i t → A.byte (c i) ≡ f → f < 128 →
-      (ts : Terms) × (t ≡ node f ts) × SpellsAll A c (suc (c i)) (A.arity f) ts
-  unmake f (free h e) b l = absurd (omega arith)
-  unmake {c} {i} f (made {ts = ts} h e l r) b k =
-      (ts, ap (λ g. node g ts) (sym e ∙ b), subst (λ g. SpellsAll A c (suc (c i)) (A.arity g) ts) (sym e ∙ b) r)
-
-  -- a node whose root is a variable
-  pub unfree : {c : ℕ → ℕ} {i : ℕ} {t : Term} (x : ℕ) → Spells A c i t → A.byte (c i) ≡ 128 + x → t ≡ var x
-  unfree x (free h e) b = ap var (omega arith)
-  unfree x (made h e l r) b = absurd (omega arith)
-
-  -- no node stands for two terms
-  mutual
-    pub spells_one : {c : ℕ → ℕ} {i : ℕ} {t u : Term} → Spells A c i t → Spells A c i u → t ≡ u
-    spells_one (free {x = x} h e) r = sym (unfree x r e)
-    spells_one (made {f = f} h e l s) r = let k = unmake f r e l in ap (node f) (spells_ones s k.2) ∙ sym k.1
-
-    pub spells_ones : {c : ℕ → ℕ} {p k : ℕ} {ts us : Terms} → SpellsAll A c p k ts → SpellsAll A c p k us → ts ≡ us
-    spells_ones none none = refl
-    spells_ones (more r s) (more r' s') = ap₂ cons (spells_one r r') (spells_ones s s')
-
   -- what makes their terms one joins two nodes
   pub unifies_joins : (τ : Subst) (a b : ℕ) (s t : Term) → Spells A same a s → Spells A same b t → Unifies τ s t → Joins A τ a b
-  unifies_joins τ a b s t p q h s' t' p' q' = ap (subst_term τ) (spells_one p' p) ∙ h ∙ ap (subst_term τ) (spells_one q q')
+  unifies_joins τ a b s t p q h s' t' p' q' = ap (subst_term τ) (spells_one A p' p) ∙ h ∙ ap (subst_term τ) (spells_one A q q')
 
   -- nodes of one class stand for one term
   spells_move : {c : ℕ → ℕ} {i : ℕ} (j : ℕ) {t : Term} → Spells A c i t → c i ≡ c j → j < A.nodes → Spells A c j t
@@ -60,7 +35,7 @@ module _ (A : Arena) where
         absorbs {i} {t} (free {x = x} h e) s = sym (g.respects τ j i t (var x) s (free (g.within i h) e))
         absorbs {i} {t} (made {f = f} {ts = us} h e l r) s =
             let v = w (c i) (g.within i h) in
-            let k = unmake f v.1 e l in
+            let k = unmake A f v.1 e l in
             ap (node f) (absorbss r k.2) ∙ ap (subst_term τ) (sym k.1) ∙ sym (g.respects τ j i t v.0 s v.1)
 
         absorbss : {p k : ℕ} {ts us : Terms} → SpellsAll A c p k us → SpellsAll A same p k ts → subst_terms τ us ≡ subst_terms τ ts
@@ -89,10 +64,10 @@ module _ (A : Arena) where
         unfolding subst_term size
         descend zero i t s u q = omega arith
         descend (suc n) i t s u q =
-            let h = spells_within s in
+            let h = spells_within A s in
             let b = d i h u in
             let v = w (c i) (g.within i h) in
-            let k = unmake (A.byte (c i)) v.1 refl b.0 in
+            let k = unmake A (A.byte (c i)) v.1 refl b.0 in
             let r = smaller k.2 b.1 in
             let e = ap size (g.respects τ j i t v.0 s v.1 ∙ ap (subst_term τ) k.1) in
             descend n r.at r.term r.spells r.holds (omega (arith, r.below, e))
@@ -103,8 +78,8 @@ module _ (A : Arena) where
     never_clash i h l n τ j =
         let s = w i h in
         let t = w (c i) (g.within i h) in
-        let a = unmake (A.byte i) s.1 refl l in
-        let b = unmake (A.byte (c i)) t.1 refl (g.headed i h l) in
+        let a = unmake A (A.byte i) s.1 refl l in
+        let b = unmake A (A.byte (c i)) t.1 refl (g.headed i h l) in
         n (node_symbol (ap (subst_term τ) (sym b.1) ∙ sym (g.respects τ j i s.0 t.0 s.1 t.1) ∙ ap (subst_term τ) a.1))
 
     pub never_circle : (U : ℕ → Type 0) → Descends A c U → (i : ℕ) → i < A.nodes → U i → Never A n₁ n₂
@@ -136,7 +111,7 @@ module _ (A : Arena) where
 
       image_var : (x : ℕ) {i : ℕ} {u : Term} → i < A.nodes → A.byte i ≡ 128 + x → Spells A c i u → (r : Seen x A.nodes) → value x r ≡ u
       unfolding Seen value
-      image_var x {i} h e s (inl (a, l, q)) = spells_one (spells_move i (k a l).1 (g.shared a i l h (omega arith) (q ∙ sym e)) h) s
+      image_var x {i} h e s (inl (a, l, q)) = spells_one A (spells_move i (k a l).1 (g.shared a i l h (omega arith) (q ∙ sym e)) h) s
       image_var x {i} h e s (inr f) = absurd (f i h e)
 
       mutual
@@ -146,12 +121,12 @@ module _ (A : Arena) where
         image (free {x = x} h e) s = image_var x h e s (seek x A.nodes)
         image {i} (made {f = f} h e l r) s =
             let q = o i h (rw e l) in
-            let v = unmake f s (q.0 ∙ e) l in
+            let v = unmake A f s (q.0 ∙ e) l in
             ap (node f) (images r v.2 (subst (λ z. Agree A c (suc i) (suc (c i)) (A.arity z)) e q.1)) ∙ sym v.1
 
         images : {p q n : ℕ} {ts us : Terms} → SpellsAll A same p n ts → SpellsAll A c q n us → Agree A c p q n → subst_terms solution ts ≡ us
         images none none a = refl
-        images {p} (more r s) (more r' s') a = ap₂ cons (image r (spells_move p r' (sym a.0) (spells_within r))) (images s s' a.1)
+        images {p} (more r s) (more r' s') a = ap₂ cons (image r (spells_move p r' (sym a.0) (spells_within A r))) (images s s' a.1)
 
       general_at : (τ : Subst) → Joins A τ n₁ n₂ → (x : ℕ) (r : Seen x A.nodes) → τ x ≡ subst_term τ (value x r)
       unfolding Seen value subst_term
@@ -162,8 +137,8 @@ module _ (A : Arena) where
       pub solution_mgu : (s t : Term) → Spells A same n₁ s → Spells A same n₂ t → c n₁ ≡ c n₂ → Mgu s t solution
       unfolding solution
       solution_mgu s t p q e =
-          let u = k n₁ (spells_within p) in
+          let u = k n₁ (spells_within A p) in
           record {
-            unifies = image p u.1 ∙ sym (image q (spells_move n₂ u.1 e (spells_within q)));
+            unifies = image p u.1 ∙ sym (image q (spells_move n₂ u.1 e (spells_within A q)));
             general = λ τ h x. general_at τ (unifies_joins τ n₁ n₂ s t p q h) x (seek x A.nodes);
           }
