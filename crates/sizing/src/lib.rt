@@ -1,115 +1,92 @@
 // The sizes of the instances that classes of nodes stand for; a node that has none is on a circle.
 #![tactic(auto)]
 
-ghost use Rattle.std.specs.Prelude.{◌≡◌, ◌<◌, ◌≤◌, length};
-ghost use Rattle.classes.specs.Steps.{at, arena, Each, Ready, SpellsSome};
-ghost use Rattle.sizing.specs.Sizes.{cap, Sized, Total, SizeAt, SizedTo};
+ghost use Rattle.std.specs.Prelude.{◌≤◌, ◌<◌, length};
+ghost use Rattle.classes.specs.Steps.{at, SpellsSome};
+ghost use Rattle.classes.specs.Read.{arena_of, root_of};
+ghost use Rattle.sizing.specs.Sizes.{SizedIn, Total, SizeAt, SizedToIn};
+
+use classes::Arena;
 
 // Any size above the limit: 121.
 const TOO_LARGE: usize = limits::NODES + 1;
 
-fn capped(x: usize) -> usize
-    ensures { result ≡ cap x }
-{
-    if x > TOO_LARGE {
-        return TOO_LARGE;
-    }
-    x
-}
-
-// One more than the sizes of k arguments from a on, at most `TOO_LARGE`; 0 where one is not known.
-fn total(
-    nodes: &[u8],
-    table: &[u8],
-    ends: &[u16],
-    class: &[u16],
-    sizes: &[u8],
-    a: usize,
-    k: usize,
-) -> usize
-    requires sized { Sized nodes.now table.now ends.now class.now sizes.now }
-    requires spells_some { SpellsSome (arena nodes.now table.now ends.now) a k }
-    ensures { Total (arena nodes.now table.now ends.now) (at class.now) (at sizes.now) a k result }
+// One more than the sizes of k arguments from a on, at most `TOO_LARGE`, if they are known.
+fn total(arena: &Arena, sizes: &[u8], a: usize, k: usize) -> Option<usize>
+    requires sized { SizedIn arena.now sizes.now }
+    requires spells_some { SpellsSome (arena_of arena.now) a k }
+    ensures { Total (arena_of arena.now) (root_of arena.now) (at sizes.now) a k result }
 {
     let mut p = a;
-    let mut left = k;
     let mut sum: usize = 1;
-    while left > 0 {
-        let s = terms::wide(sizes[p]);
+    for left in (0..k).rev() {
+        let s = usize::from(sizes[p]);
         if s == 0 {
-            return 0;
+            return None;
         }
-        sum = capped(sum + s);
-        p = classes::wide(ends[p]);
-        left -= 1;
+        sum = (sum + s).min(TOO_LARGE);
+        p = usize::from(arena.ends[p]);
     }
-    sum
+    Some(sum)
 }
 
-fn size_at(nodes: &[u8], table: &[u8], ends: &[u16], class: &[u16], sizes: &[u8], i: usize) -> usize
-    requires sized { Sized nodes.now table.now ends.now class.now sizes.now }
-    requires i_in_bounds { i < length nodes.now }
-    ensures { SizeAt (arena nodes.now table.now ends.now) (at class.now) (at sizes.now) i result }
+// The size of node i, at most `TOO_LARGE`, if those of its arguments are known.
+fn size_at(arena: &Arena, sizes: &[u8], i: usize) -> Option<usize>
+    requires sized { SizedIn arena.now sizes.now }
+    requires i_in_bounds { i < length arena.now.nodes.now }
+    ensures { SizeAt (arena_of arena.now) (root_of arena.now) (at sizes.now) i result }
 {
-    let r = classes::wide(class[i]);
-    let f = nodes[r];
+    let r = usize::from(arena.class[i]);
+    let f = arena.nodes[r];
     if f >= limits::VARIABLE {
-        return 1;
+        return Some(1);
     }
-    let k = terms::owed_by(table, f);
-    total(nodes, table, ends, class, sizes, r + 1, k)
+    let k = terms::owed_by(arena.table, f);
+    total(arena, sizes, r + 1, k)
 }
 
 // Passes from the last node to the first, since arguments come after their node, until no size is lacking or one finds none: whether each node has
 // a size.
-fn fill_sizes(nodes: &[u8], table: &[u8], ends: &[u16], class: &[u16], sizes: &mut [u8]) -> bool
-    requires { Sized nodes.now table.now ends.now class.now sizes.old }
-    ensures { SizedTo nodes.now table.now ends.now class.now sizes.new result }
+// Kept: 0 in `sizes` is a size that is not known, so that the sizes are bytes in memory that the caller has.
+fn fill_sizes(arena: &Arena, sizes: &mut [u8]) -> bool
+    requires { SizedIn arena.now sizes.old }
+    ensures { SizedToIn arena.now sizes.new result }
 {
-    let mut i = nodes.len();
-    let mut found: usize = 0;
-    let mut lost: usize = 0;
+    let mut i = arena.nodes.len();
+    let mut found = false;
+    let mut lost = false;
+    // Kept: i goes back to the last node after a pass that found a size, which a `for` does not say.
     loop {
         if i > 0 {
             i -= 1;
             if sizes[i] == 0 {
-                let k = size_at(nodes, table, ends, class, sizes, i);
-                if k > 0 {
-                    sizes[i] = k as u8;
-                    found = 1;
-                } else {
-                    lost = 1;
+                match size_at(arena, sizes, i) {
+                    Some(k) => {
+                        sizes[i] = k as u8;
+                        found = true;
+                    }
+                    None => lost = true,
                 }
             }
         } else {
-            if lost == 0 {
+            if !lost {
                 return true;
             }
-            if found == 0 {
+            if !found {
                 return false;
             }
-            i = nodes.len();
-            found = 0;
-            lost = 0;
+            i = arena.nodes.len();
+            found = false;
+            lost = false;
         }
     }
 }
 
-fn clear(sizes: &mut [u8])
-    ensures sizes_len_unchanged { length sizes.new ≡ length sizes.old }
-    ensures each { Each (λ i b. b ≡ 0) sizes.new (length sizes.old) }
-{
-    let n = sizes.len();
-    for i in 0..n {
-        sizes[i] = 0;
-    }
-}
-
 // The sizes of the instances: whether each node has one.
-pub fn measure(nodes: &[u8], table: &[u8], ends: &[u16], class: &[u16], sizes: &mut [u8]) -> bool
-    requires { Ready nodes.now table.now ends.now class.now × (length nodes.now ≤ length sizes.old) }
-    ensures { SizedTo nodes.now table.now ends.now class.now sizes.new result }
+pub fn measure(arena: &Arena, sizes: &mut [u8]) -> bool
+    requires { length arena.now.nodes.now ≤ length sizes.old }
+    ensures { SizedToIn arena.now sizes.new result }
 {
-    clear(sizes);
-    fill_sizes(nodes, table, ends, class, sizes)
+    sizes.fill(0);
+    fill_sizes(arena, sizes)
 }

@@ -12,8 +12,8 @@ loop-i-init c = sizing_start _ _ _ _ _ c.requires
 pub bounds-sizes-i : goal.bounds-sizes-i
 bounds-sizes-i c = sizing_room _ _ _ _ _ _ _ _ _ c.loop-i.invariant c.if-i-gt0.true
 
-pub size_at-k-requires : goal.size_at-k-requires
-size_at-k-requires c =
+pub size_at-requires : goal.size_at-requires
+size_at-requires c =
     let all = sizing_requires _ _ _ _ _ _ _ _ _ c.loop-i.invariant c.if-i-gt0.true in
     record {
       sized = all.0;
@@ -21,28 +21,22 @@ size_at-k-requires c =
     }
 
 pub overflow_cast-sizes : goal.overflow_cast-sizes
-overflow_cast-sizes c = omega (arith, c.size_at-k.ensures.small)
+overflow_cast-sizes c = omega (arith, c.in-Some.ensures.2)
 
-pub bounds-sizes-i-then-k-gt0 : goal.bounds-sizes-i-then-k-gt0
-bounds-sizes-i-then-k-gt0 c = sizing_room _ _ _ _ _ _ _ _ _ c.loop-i.invariant c.if-i-gt0.true
+pub bounds-sizes-i-in-Some : goal.bounds-sizes-i-in-Some
+bounds-sizes-i-in-Some c = sizing_room _ _ _ _ _ _ _ _ _ c.loop-i.invariant c.if-i-gt0.true
 
-pub loop-i-smaller-then-k-gt0 : goal.loop-i-smaller-then-k-gt0
-loop-i-smaller-then-k-gt0 c =
-    sizing_fewer _ _ _ _ _ _ _ _ _ c.loop-i.invariant c.if-i-gt0.true c.if-sizes-i-eq0.true _
-    c.size_at-k.ensures c.if-k-gt0.true
+pub loop-i-smaller-in-Some : goal.loop-i-smaller-in-Some
+loop-i-smaller-in-Some c = sizing_fewer _ _ _ _ _ _ _ _ _ c.loop-i.invariant c.if-i-gt0.true c.if-sizes-i-eq0.true _ c.in-Some.ensures
 
-pub loop-i-preserved-then-k-gt0 : goal.loop-i-preserved-then-k-gt0
-loop-i-preserved-then-k-gt0 c =
-    sizing_found _ _ _ _ _ _ _ _ _ c.loop-i.invariant c.if-i-gt0.true c.if-sizes-i-eq0.true _
-    c.size_at-k.ensures c.if-k-gt0.true
+pub loop-i-preserved-in-Some : goal.loop-i-preserved-in-Some
+loop-i-preserved-in-Some c = sizing_found _ _ _ _ _ _ _ _ _ c.loop-i.invariant c.if-i-gt0.true c.if-sizes-i-eq0.true _ c.in-Some.ensures
 
-pub loop-i-smaller-else-k-gt0 : goal.loop-i-smaller-else-k-gt0
-loop-i-smaller-else-k-gt0 c = sizing_falls _ _ _ _ _ _ _ _ _ c.loop-i.invariant c.if-i-gt0.true
+pub loop-i-smaller-in-None : goal.loop-i-smaller-in-None
+loop-i-smaller-in-None c = sizing_falls _ _ _ _ _ _ _ _ _ c.loop-i.invariant c.if-i-gt0.true
 
-pub loop-i-preserved-else-k-gt0 : goal.loop-i-preserved-else-k-gt0
-loop-i-preserved-else-k-gt0 c =
-    sizing_lost _ _ _ _ _ _ _ _ _ c.loop-i.invariant c.if-i-gt0.true c.if-sizes-i-eq0.true _
-    c.size_at-k.ensures c.if-k-gt0.false
+pub loop-i-preserved-in-None : goal.loop-i-preserved-in-None
+loop-i-preserved-in-None c = sizing_lost _ _ _ _ _ _ _ _ _ c.loop-i.invariant c.if-i-gt0.true c.if-sizes-i-eq0.true c.in-None.ensures
 
 pub loop-i-smaller-else-sizes-i-eq0 : goal.loop-i-smaller-else-sizes-i-eq0
 loop-i-smaller-else-sizes-i-eq0 c = sizing_falls _ _ _ _ _ _ _ _ _ c.loop-i.invariant c.if-i-gt0.true
@@ -50,20 +44,14 @@ loop-i-smaller-else-sizes-i-eq0 c = sizing_falls _ _ _ _ _ _ _ _ _ c.loop-i.inva
 pub loop-i-preserved-else-sizes-i-eq0 : goal.loop-i-preserved-else-sizes-i-eq0
 loop-i-preserved-else-sizes-i-eq0 c = sizing_old _ _ _ _ _ _ _ _ _ c.loop-i.invariant c.if-i-gt0.true c.if-sizes-i-eq0.false
 
-pub shape_of-sizes-then-lost-eq0 : goal.shape_of-sizes-then-lost-eq0
-shape_of-sizes-then-lost-eq0 c = c.loop-i.invariant.same
+pub returns-then-not-lost : goal.returns-then-not-lost
+returns-then-not-lost c = sizing_all _ _ _ _ _ _ _ _ _ c.loop-i.invariant c.if-i-gt0.false c.if-not-lost.true
 
-pub returns-then-lost-eq0 : goal.returns-then-lost-eq0
-returns-then-lost-eq0 c = sizing_all _ _ _ _ _ _ _ _ _ c.loop-i.invariant c.if-i-gt0.false c.if-lost-eq0.true
-
-pub shape_of-sizes-then-found-eq0 : goal.shape_of-sizes-then-found-eq0
-shape_of-sizes-then-found-eq0 c = c.loop-i.invariant.same
-
-pub returns-then-found-eq0 : goal.returns-then-found-eq0
-returns-then-found-eq0 c = sizing_circle _ _ _ _ _ _ _ _ _ c.loop-i.invariant c.if-i-gt0.false c.if-found-eq0.true c.if-lost-eq0.false
+pub returns-then-not-found : goal.returns-then-not-found
+returns-then-not-found c = sizing_circle _ _ _ _ _ _ _ _ _ c.loop-i.invariant c.if-i-gt0.false c.if-not-found.true c.if-not-lost.false
 
 pub loop-i-smaller : goal.loop-i-smaller
-loop-i-smaller c = sizing_rounds _ _ _ _ _ _ _ _ _ c.loop-i.invariant c.if-found-eq0.false
+loop-i-smaller c = sizing_rounds _ _ _ _ _ _ _ _ _ c.loop-i.invariant c.if-not-found.false
 
 pub loop-i-preserved : goal.loop-i-preserved
 loop-i-preserved c = sizing_again _ _ _ _ _ _ _ _ _ c.loop-i.invariant

@@ -5,7 +5,8 @@ use Rattle.sizing.proofs.Sizing.{Sizing, size_left}
 use Rattle.sizing.proofs.fill_sizes.Given as goal
 
 abbrev pub invariant-loop-i : goal.invariant-loop-i
-invariant-loop-i l = Sizing l.nodes l.table l.ends l.class l.initial.sizes l.sizes l.i l.found l.lost
+invariant-loop-i l =
+    Sizing l.arena.nodes.now l.arena.table.now l.arena.ends.now l.arena.class.now l.initial.sizes l.sizes l.i l.found l.lost
 
 abbrev pub decreases-loop-i : goal.decreases-loop-i
 decreases-loop-i l = size_left l.sizes l.i l.found
