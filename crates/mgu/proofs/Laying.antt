@@ -4,6 +4,7 @@ use mathlib.Core.Path.{◌≡◌, refl, sym, ap, ◌∙◌}
 use mathlib.Core.Bool.{true, false, false≢true}
 use mathlib.Core.List.{List, ◌∷◌, ◌++◌, append_assoc}
 use mathlib.Core.Option.{some}
+use Rattle.std.specs.Prelude.{Some, None}
 use Prim.Native.Nat.{ℕ, zero, suc, ◌+◌, ◌-◌, ◌≤◌, ◌<◌}
 use native.Mathlib.Omega.{arith}
 use lib.ListN.{length, get_or, drop, length-append, drop_of_length-le}
@@ -51,34 +52,27 @@ module _ (tab : List ℕ) (b have : ℕ) where
       let o : owes tab b ≡ count us = ap (owes tab) q.0 ∙ owes_symbol tab f v.0 ∙ sym v.1 in
       (λ h. omega (arith, q.0, v.0), λ h. (omega (arith, q.0, v.0), omega (arith, o)))
 
-  pub formed_high : 160 ≤ b → Formed tab b have 0
-  formed_high h = record { most = omega arith; more = λ z. absurd (z refl); none = λ z ts w n u rest v e. (none_by ts w n u rest v e).0 h }
+  pub formed_high : 160 ≤ b → Formed tab b have None
+  formed_high h = λ ts w n u rest v e. (none_by ts w n u rest v e).0 h
 
-  pub formed_gap : 16 ≤ b → b < 128 → Formed tab b have 0
-  formed_gap h k =
-      record { most = omega arith; more = λ z. absurd (z refl); none = λ z ts w n u rest v e. let q = ((none_by ts w n u rest v e).1 k).0 in omega arith }
+  pub formed_gap : 16 ≤ b → b < 128 → Formed tab b have None
+  formed_gap h k = λ ts w n u rest v e. let q = ((none_by ts w n u rest v e).1 k).0 in omega arith
 
-  pub formed_few : (k : ℕ) → k ≡ owes tab b → b < 16 → have < k → Formed tab b have 0
-  formed_few k q h l = record {
-    most = omega arith;
-    more = λ z. absurd (z refl);
-    none = λ z ts w n u rest v e. let r = ((none_by ts w n u rest v e).1 (omega arith)).1 in omega arith;
-  }
+  pub formed_few : (k : ℕ) → k ≡ owes tab b → b < 16 → have < k → Formed tab b have None
+  formed_few k q h l = λ ts w n u rest v e. let r = ((none_by ts w n u rest v e).1 (omega arith)).1 in omega arith
 
-  pub formed_variable : 128 ≤ b → b < 160 → Formed tab b have (have + 1)
+  pub formed_variable : 128 ≤ b → b < 160 → Formed tab b have (Some (have + 1))
   formed_variable h k = record {
     most = omega arith;
-    more = λ z ts w n.
+    more = λ ts w n.
         let u = begins_variable 32 tab b ts h k w in
         (u.0, u.1, omega (arith, u.2, owes_other tab b (omega arith)), u.3);
-    none = λ z. absurd (omega arith);
   }
 
-  pub formed_symbol : (k : ℕ) → k ≡ owes tab b → b < 16 → k ≤ have → Formed tab b have (have - k + 1)
-  formed_symbol k q h l = record {
+  pub formed_symbol : (k r : ℕ) → k ≡ owes tab b → b < 16 → k ≤ have → r ≡ have - k → Formed tab b have (Some (r + 1))
+  formed_symbol k r q h l e = record {
     most = omega arith;
-    more = λ z ts w n. let u = begins_symbol 32 tab b ts h w (omega arith) in (u.0, u.1, omega (arith, u.2), u.3);
-    none = λ z. absurd (omega arith);
+    more = λ ts w n. let u = begins_symbol 32 tab b ts h w (omega arith) in (u.0, u.1, omega (arith, u.2), u.3);
   }
 
 -- the loop: the bytes from i on are those of `have` terms
@@ -94,19 +88,19 @@ unfolding Wfs count terms_bytes
 forest_start l tab =
     record { within = omega arith; ts = nil; wf = tt; number = refl; bytes = let h : length l ≤ length l = omega arith in drop_of_length-le l h }
 
-module _ (l tab : List ℕ) (i have : ℕ) (f : Forest l tab i have) (h : 0 < i) (r : ℕ) (g : Formed tab (get_or l (i - 1) 0) have r) where
+module _ (l tab : List ℕ) (i have : ℕ) (f : Forest l tab i have) (h : 0 < i) where
   here : drop (i - 1) l ≡ get_or l (i - 1) 0 ∷ terms_bytes f.ts
   here =
       let e : suc (i - 1) ≡ i = omega arith in
       drop-cons l (i - 1) 0 (omega (arith, f.within)) ∙ ap (◌∷◌ (get_or l (i - 1) 0)) (ap (λ z. drop z l) e ∙ f.bytes)
 
-  pub forest_more : (r ≡ 0 → ⊥) → Forest l tab (i - 1) r
-  forest_more z =
-      let m = g.more z f.ts f.wf f.number in
+  pub forest_more : (r : ℕ) → Formed tab (get_or l (i - 1) 0) have (Some r) → Forest l tab (i - 1) r
+  forest_more r g =
+      let m = g.more f.ts f.wf f.number in
       record { within = omega (arith, f.within, g.most); ts = m.0; wf = m.1; number = m.2; bytes = here ∙ m.3 }
 
-  pub forest_bad : r ≡ 0 → IsTerms l tab false
-  forest_bad z = record {
+  pub forest_bad : Formed tab (get_or l (i - 1) 0) have None → IsTerms l tab false
+  forest_bad g = record {
     sound = λ e. absurd (false≢true e);
     complete = λ ts w e.
         let n : i - 1 < sizes ts = omega (arith, f.within, ap length e, length_bytes_all ts) in
@@ -114,7 +108,7 @@ module _ (l tab : List ℕ) (i have : ℕ) (f : Forest l tab i have) (h : 0 < i)
         let a = around_in ts (i - 1) s.0 s.1 in
         let b : get_or l (i - 1) 0 ∷ terms_bytes f.ts ≡ term_bytes s.0 ++ a.after =
         sym here ∙ ap (drop (i - 1)) (e ∙ a.holds) ∙ drop_at a.before (term_bytes s.0 ++ a.after) (i - 1) a.begins in
-        absurd (g.none z f.ts f.wf f.number s.0 a.after (wf_subterm_in 32 tab ts (i - 1) s.0 w s.1) b);
+        absurd (g f.ts f.wf f.number s.0 a.after (wf_subterm_in 32 tab ts (i - 1) s.0 w s.1) b);
   }
 
 pub forest_done : (l tab : List ℕ) (i have : ℕ) → Forest l tab i have → i ≤ 0 → IsTerms l tab true

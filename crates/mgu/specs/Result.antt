@@ -1,6 +1,6 @@
 -- What unification is given, begins with and leaves behind. Assumes nothing.
-use Rattle.std.specs.Prelude.{◌≡◌, Bool, true, false, List, ◌∷◌, ◌++◌, ℕ, ◌+◌, ◌-◌, ◌<◌, ◌≤◌, length, drop}
-use Rattle.std.proofs.Math.Option.{none, some}
+use Rattle.std.specs.Prelude.{◌≡◌, Bool, true, false, List, ◌∷◌, ◌++◌, ℕ, ◌+◌, ◌-◌, ◌<◌, ◌≤◌, length, drop, Option, Some, None}
+use Rattle.std.proofs.Math.Option.{some}
 use Rattle.limits.specs.Limits.{most_apart, byte_values, first_variable, variable_bytes}
 use Rattle.terms.specs.Base.{is_some}
 use Rattle.terms.specs.Term.{Term, Terms, term_bytes, terms_bytes, subterm_in, count}
@@ -19,13 +19,17 @@ pub record Laid (l tab : List ℕ) (ts : Terms) : Type 0 where
 abbrev pub LaidOut : List ℕ → List ℕ → Type 0
 LaidOut l tab = (ts : Terms) × Laid l tab ts
 
--- b and the bytes of `have` terms are those of r terms, or can begin none
-pub record Formed (tab : List ℕ) (b have r : ℕ) : Type 0 where
+-- b and the bytes of `have` terms are those of r terms
+pub record Begins (tab : List ℕ) (b have r : ℕ) : Type 0 where
   pub most : r ≤ have + 1
-  pub more : (r ≡ 0 → ⊥) → (ts : Terms) → Wfs most_apart tab ts → count ts ≡ have →
+  pub more : (ts : Terms) → Wfs most_apart tab ts → count ts ≡ have →
       (us : Terms) × Wfs most_apart tab us × (count us ≡ r) × (b ∷ terms_bytes ts ≡ terms_bytes us)
-  pub none : r ≡ 0 → (ts : Terms) → Wfs most_apart tab ts → count ts ≡ have → (u : Term) (rest : List ℕ) → Wf most_apart tab u →
-      b ∷ terms_bytes ts ≡ term_bytes u ++ rest → ⊥
+
+-- b and the bytes of `have` terms are those of so many terms, or can begin none
+abbrev pub Formed : List ℕ → ℕ → ℕ → Option ℕ → Type 0
+Formed tab b have (Some r) = Begins tab b have r
+Formed tab b have None = (ts : Terms) → Wfs most_apart tab ts → count ts ≡ have → (u : Term) (rest : List ℕ) → Wf most_apart tab u →
+    b ∷ terms_bytes ts ≡ term_bytes u ++ rest → ⊥
 
 -- whether the bytes are those of terms with variables below `most_apart`
 pub record IsTerms (l tab : List ℕ) (r : Bool) : Type 0 where

@@ -12,13 +12,11 @@ fn hop(nodes: &[u8], table: &[u8], ends: &[u16], p: usize, k: usize) -> usize
     ensures { (result ≡ p + skip table.now (drop p nodes.now) k) × (result ≤ length nodes.now) }
 {
     let mut q = p;
-    let mut left = k;
-    while left > 0 {
+    for left in (0..k).rev() {
         if q >= nodes.len() {
             return q;
         }
-        q = classes::wide(ends[q]);
-        left -= 1;
+        q = usize::from(ends[q]);
     }
     q
 }
@@ -29,9 +27,7 @@ fn fill_ends(nodes: &[u8], table: &[u8], ends: &mut [u16])
     ensures ends_len_unchanged { length ends.new ≡ length ends.old }
     ensures each { Each (EndAt nodes.now table.now) ends.new (length nodes.now) }
 {
-    let mut i = nodes.len();
-    while i > 0 {
-        i -= 1;
+    for i in (0..nodes.len()).rev() {
         let k = terms::owed_by(table, nodes[i]);
         ends[i] = hop(nodes, table, ends, i + 1, k) as u16;
     }
@@ -45,8 +41,8 @@ fn first_class(nodes: &[u8], firsts: &[u16], i: usize) -> usize
     if nodes[i] < limits::VARIABLE {
         return i;
     }
-    let b = terms::wide(nodes[i]);
-    let f = classes::wide(firsts[b]);
+    let b = usize::from(nodes[i]);
+    let f = usize::from(firsts[b]);
     if f == 0 {
         return i;
     }
@@ -54,17 +50,17 @@ fn first_class(nodes: &[u8], firsts: &[u16], i: usize) -> usize
 }
 
 // The classes at first: a table has, for each byte, one more than the class of the last node with it.
+// Kept: 0 is a byte that no node has had, since an `Option` would double the table that each call clears.
 fn fill_class(nodes: &[u8], class: &mut [u16])
     requires { (length nodes.now ≤ arena_width) × (length nodes.now ≤ length class.old) }
     ensures class_len_unchanged { length class.new ≡ length class.old }
     ensures each { Each (FirstClass nodes.now) class.new (length nodes.now) }
 {
     let mut firsts = [0u16; limits::BYTES];
-    let n = nodes.len();
-    for i in 0..n {
+    for i in 0..nodes.len() {
         let c = first_class(nodes, &firsts, i);
         class[i] = c as u16;
-        let b = terms::wide(nodes[i]);
+        let b = usize::from(nodes[i]);
         firsts[b] = (c + 1) as u16;
     }
 }

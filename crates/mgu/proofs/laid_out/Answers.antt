@@ -1,4 +1,4 @@
--- `laid_out`: the invariant is that the bytes from i on are those of `have` terms; i falls. Assumes nothing.
+-- `laid_out`: the invariant is that the bytes from i on are those of `have` terms. Assumes nothing.
 -- Read first: specs/Result (IsTerms), proofs/Laying (Forest).
 use native.Mathlib.Omega.{arith}
 use Rattle.mgu.proofs.Laying.{forest_start, forest_more, forest_bad, forest_done}
@@ -10,14 +10,14 @@ loop-i-init c = forest_start _ _
 pub bounds-nodes-i : goal.bounds-nodes-i
 bounds-nodes-i c = omega (arith, c.loop-i-test.true, c.loop-i.invariant.within)
 
-pub formed-have-requires : goal.formed-have-requires
-formed-have-requires c = omega (arith, c.loop-i.invariant.within, c.requires)
+pub formed-requires : goal.formed-requires
+formed-requires c = omega (arith, c.loop-i.invariant.within, c.requires)
 
-pub returns-then-have-eq0 : goal.returns-then-have-eq0
-returns-then-have-eq0 c = forest_bad _ _ _ _ c.loop-i.invariant c.loop-i-test.true _ c.formed-have.ensures c.if-have-eq0.true
+pub returns-in_default : goal.returns-in_default
+returns-in_default c = forest_bad _ _ _ _ c.loop-i.invariant c.loop-i-test.true c.in_default.ensures
 
 pub loop-i-preserved : goal.loop-i-preserved
-loop-i-preserved c = forest_more _ _ _ _ c.loop-i.invariant c.loop-i-test.true _ c.formed-have.ensures c.if-have-eq0.false
+loop-i-preserved c = forest_more _ _ _ _ c.loop-i.invariant c.loop-i-test.true _ c.in-Some.ensures
 
 pub returns : goal.returns
 returns c = forest_done _ _ _ _ c.loop-i.invariant c.loop-i-test.false

@@ -2,7 +2,6 @@
 -- Read first: specs/Written (hops), proofs/Writing (Listing).
 use Rattle.mgu.proofs.Writing.{list_start, list_here, list_more, list_done}
 use native.Mathlib.Omega.{arith}
-use Prim.Native.Nat.{◌-◌}
 use Rattle.mgu.proofs.list.Goals as goal
 
 pub loop-j-init : goal.loop-j-init
@@ -18,7 +17,7 @@ pub bounds-ends-q : goal.bounds-ends-q
 bounds-ends-q c = (list_here c.loop-j.invariant c.loop-j-test.true).0
 
 pub loop-j-preserved : goal.loop-j-preserved
-loop-j-preserved c = list_more c.loop-j.invariant c.loop-j-test.true _ c.wide-q.ensures.0
+loop-j-preserved c = list_more c.loop-j.invariant c.loop-j-test.true _ c.from-q.ensures
 
 pub shape_of-owed : goal.shape_of-owed
 shape_of-owed c = c.loop-j.invariant.long

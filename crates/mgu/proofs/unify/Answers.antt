@@ -14,13 +14,16 @@ begin-requires c =
 pub close-requires : goal.close-requires
 close-requires c = c.begin.ensures.ready
 
-pub measure-requires : goal.measure-requires
-measure-requires c = (c.close.ensures.ready, c.requires.nodes_len_bound.3)
+pub invariant_of-measure : goal.invariant_of-measure
+invariant_of-measure c = record { ready = c.close.ensures.ready }
 
-pub returns-then-close : goal.returns-then-close
-returns-then-close c =
-    let all = begun_answer _ _ _ _ c.requires.laid_out.1 c.requires.laid_out.2 _ _ c.begin.ensures c.close.new.class c.close.result
-    c.close.ensures.closed_to c.if-close.true _ c.measure.result c.measure.ensures in
+pub measure-requires : goal.measure-requires
+measure-requires c = c.requires.nodes_len_bound.3
+
+pub returns-then-not-close : goal.returns-then-not-close
+returns-then-not-close c =
+    let all = begun_never _ _ _ _ c.requires.laid_out.1 c.requires.laid_out.2 _ _ c.begin.ensures c.close.new.class c.args.sizes.now c.close.result
+    c.close.ensures.closed_to c.if-not-close.true in
     record {
       decided = all.0;
       solved_if = all.1;
@@ -28,8 +31,8 @@ returns-then-close c =
 
 pub returns : goal.returns
 returns c =
-    let all = begun_never _ _ _ _ c.requires.laid_out.1 c.requires.laid_out.2 _ _ c.begin.ensures c.close.new.class c.args.sizes.now c.close.result
-    c.close.ensures.closed_to c.if-close.false in
+    let all = begun_answer _ _ _ _ c.requires.laid_out.1 c.requires.laid_out.2 _ _ c.begin.ensures c.close.new.class c.close.result
+    c.close.ensures.closed_to c.if-not-close.false _ c.measure.result c.measure.ensures in
     record {
       decided = all.0;
       solved_if = all.1;

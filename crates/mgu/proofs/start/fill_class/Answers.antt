@@ -1,10 +1,10 @@
--- `fill_class`: the first i nodes have their first classes, and the table has the first node of each variable met; n - i falls. Assumes nothing.
+-- `fill_class`: the first i nodes have their first classes, and the table has the first node of each variable met. Assumes nothing.
 -- Read first: specs/Result (FirstClass, Firsts), classes/proofs/Filled, proofs/Firsts.
 use lib.ListN.{length-replicate}
 use Rattle.mgu.proofs.Firsts.{zeros_at}
 use Rattle.mgu.proofs.Starting.{classing_start, classing_more}
 use Rattle.classes.proofs.Filled.{filled_end}
-use Prim.Native.Nat.{ℕ, ◌-◌}
+use Prim.Native.Nat.{ℕ}
 use native.Mathlib.Omega.{arith}
 use Rattle.mgu.proofs.start.fill_class.Goals as goal
 
@@ -27,12 +27,12 @@ pub overflow_cast-firsts : goal.overflow_cast-firsts
 overflow_cast-firsts c = omega (arith, c.first_class-c.ensures.1, c.loop-i-test.true, c.requires.0)
 
 pub bounds-firsts-b : goal.bounds-firsts-b
-bounds-firsts-b c = omega (arith, c.wide-b.ensures.1)
+bounds-firsts-b c = omega (arith, c.from-b.ensures)
 
 pub loop-i-preserved : goal.loop-i-preserved
 loop-i-preserved c =
     classing_more _ _ _ _ _ _ _ c.loop-i.invariant (omega (arith, c.loop-i-test.true, c.requires.1))
-    c.wide-b.ensures.0 c.wide-b.ensures.1 c.first_class-c.ensures
+    c.from-b.ensures (omega (arith, c.type_inv.nodes c.loop-i.i, c.from-b.ensures)) c.first_class-c.ensures
 
 pub shape_of-class : goal.shape_of-class
 shape_of-class c = c.loop-i.invariant.filled.long

@@ -1,4 +1,4 @@
--- `fill_ends`: from the last node to the first; the invariant is that the nodes from i on have their ends, and i falls. Assumes nothing.
+-- `fill_ends`: from the last node to the first; the invariant is that the nodes from i on have their ends. Assumes nothing.
 -- Read first: specs/Result (EndAt, EndsFrom), proofs/Ending (EndsSoFar).
 use Rattle.mgu.proofs.Ending.{end_node, ended_start, ended_later, ended_less, ended_all}
 use native.Mathlib.Omega.{arith}

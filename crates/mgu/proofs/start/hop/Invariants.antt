@@ -1,4 +1,4 @@
--- `hop`: over k subterms by their ends; the invariant is that those before q are the first ones, and the number left falls. Assumes nothing.
+-- `hop`: over k subterms by their ends; the invariant is that those before q are the first ones. Assumes nothing.
 -- Read first: specs/Result (EndsFrom), terms/specs/Scan (skip), proofs/Ending.
 use Rattle.terms.specs.Scan.{skip}
 use Prim.Native.Nat.{◌+◌, ◌≤◌}
@@ -9,6 +9,3 @@ use Rattle.mgu.proofs.start.hop.Given as goal
 abbrev pub invariant-loop-left : goal.invariant-loop-left
 invariant-loop-left l =
     (l.p ≤ l.q) × (l.q ≤ length l.nodes) × (l.q + skip l.table (drop l.q l.nodes) l.left ≡ l.p + skip l.table (drop l.p l.nodes) l.k)
-
-abbrev pub decreases-loop-left : goal.decreases-loop-left
-decreases-loop-left l = l.left
