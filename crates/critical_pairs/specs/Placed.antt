@@ -1,6 +1,6 @@
 -- The pair of two instances, renamed, in a slot of its own, where the sizes allow it. Assumes nothing.
-use Rattle.std.specs.Prelude.{◌≡◌, Bool, true, false, List, ℕ, ◌+◌, ◌<◌, ◌≤◌, ltb, length}
-use Rattle.limits.specs.Limits.{most_nodes, most_apart, variables_end}
+use Rattle.std.specs.Prelude.{◌≡◌, Bool, true, false, List, ℕ, ◌<◌, ◌≤◌, ltb, length}
+use Rattle.limits.specs.Limits.{most_nodes, variables_end}
 use Rattle.terms.specs.Term.{Term, Pair, size, term_bytes, renamed}
 use Rattle.classes.specs.Arena.{Arena, Spells}
 use Rattle.classes.specs.Steps.{at}
