@@ -10,7 +10,6 @@ use native.Mathlib.Omega.{arith}
 use lib.ListN.{length, length-append}
 use borrow.Author.Tests.{lt-ltb, le-ltb}
 use Rattle.limits.specs.Limits.{most_nodes, most_pair}
-use Rattle.std.specs.Prelude.{if◌then◌else◌}
 use Rattle.terms.specs.Base.{is_some, field_bytes}
 use Rattle.terms.specs.Term.{Term, nil, cons, size, term_bytes, terms_bytes, subterm_in, subst_term}
 use Rattle.terms.specs.Flat.{Wf}

@@ -6,6 +6,7 @@ use Rattle.terms.specs.Flat.{Wf}
 use Rattle.terms.specs.Base.{field_bytes}
 use Rattle.classes.specs.Arena.{Spells}
 use Rattle.classes.specs.Steps.{at, arena}
+use Rattle.classes.specs.declared.arena.Arena.{Arena as Lent}
 use Rattle.naming.specs.Names.{renamed_bytes}
 use Rattle.unify.specs.Unify.{mgu}
 use Rattle.problem.specs.Problem.{ok}
@@ -56,3 +57,10 @@ pub record Spelt (l tab ends cs : List ℕ) : Type 0 where
 pub record WritesSpelt (l tab ends cs : List ℕ) (r : ℕ) (d d' : List ℕ) : Type 0 where
   pub count : (u : Term) → Spells (arena l tab ends) (at cs) 0 u → r ≡ length (instance_field u)
   pub leaves : (u : Term) → Spells (arena l tab ends) (at cs) 0 u → d' ≡ written (instance_field u) d
+
+-- the same, of an arena that functions read
+abbrev pub SpeltIn : Lent → Type 0
+SpeltIn a = Spelt a.nodes.now a.table.now a.ends.now a.class.now
+
+abbrev pub WritesSpeltIn : Lent → ℕ → List ℕ → List ℕ → Type 0
+WritesSpeltIn a r d d' = WritesSpelt a.nodes.now a.table.now a.ends.now a.class.now r d d'

@@ -3,27 +3,26 @@
 
 ghost use Rattle.std.specs.Prelude.{◌+◌, ◌≤◌, length};
 ghost use Rattle.limits.specs.Limits.{most_nodes, field_head};
-ghost use Rattle.classes.specs.Steps.{Ready};
-ghost use Rattle.instances.specs.Common.{TwoSides, SidesUnify, Spelt, WritesSpelt};
+ghost use Rattle.instances.specs.Common.{TwoSides, SidesUnify, SpeltIn, WritesSpeltIn};
+
+use classes::Arena;
 
 // The tag of the result's field.
 const INSTANCE: u8 = 0x15;
 
 // Writes the instance of the term at node 0, renamed.
-fn write_instance(nodes: &[u8], table: &[u8], ends: &[u16], class: &[u16], res: &mut [u8]) -> usize
-    requires ready { Ready nodes.now table.now ends.now class.now }
-    requires spelt { Spelt nodes.now table.now ends.now class.now }
+fn write_instance(arena: &Arena, res: &mut [u8]) -> usize
+    requires spelt { SpeltIn arena.now }
     requires most_nodes_in_bounds { field_head + most_nodes ≤ length res.old }
-    ensures { WritesSpelt nodes.now table.now ends.now class.now result res.old
-        res.new }
+    ensures { WritesSpeltIn arena.now result res.old res.new }
 {
     let mut out = [0u8; limits::NODES];
-    let n = mgu::write(nodes, table, ends, class, 0, &mut out, 0);
+    let n = mgu::write(arena, 0, &mut out, 0);
     naming::rename_front(&mut out, n);
     fields::put_field(res, 0, INSTANCE, &out[..n])
 }
 
-#[derive(Drop)]
+#[derive(Clone, Copy, Debug, PartialEq, Eq)]
 pub enum Found {
     // The instance was written, so many bytes of the result.
     Instance(usize),
@@ -42,12 +41,17 @@ pub fn common_instance(nodes: &[u8], table: &[u8], b: usize, res: &mut [u8]) -> 
     let mut ends = [0u16; limits::PAIR];
     let mut class = [0u16; limits::PAIR];
     let mut sizes = [0u8; limits::PAIR];
-    if mgu::unify(nodes, table, 0, b, &mut ends, &mut class, &mut sizes) {
-        if terms::wide(sizes[0]) > limits::NODES {
-            return Found::TooLarge;
-        }
-        let n = write_instance(nodes, table, &ends, &class, res);
-        return Found::Instance(n);
+    if !mgu::unify(nodes, table, 0, b, &mut ends, &mut class, &mut sizes) {
+        return Found::Nothing;
     }
-    Found::Nothing
+    if usize::from(sizes[0]) > limits::NODES {
+        return Found::TooLarge;
+    }
+    let arena = Arena {
+        nodes,
+        table,
+        ends: &ends,
+        class: &class,
+    };
+    Found::Instance(write_instance(&arena, res))
 }

@@ -11,35 +11,30 @@ unify-requires c =
       laid_out = all.1;
     }
 
-pub returns-then-wide-gt-NODES : goal.returns-then-wide-gt-NODES
-returns-then-wide-gt-NODES c =
-    let h = outcome_solved c.args.nodes.now c.args.table.now c.args.b
-    c.unify.new.ends c.unify.new.class
-    c.unify.new.sizes c.unify.result c.unify.ensures.solved_if
-    c.if-unify.true in
-    answers_large _ _ _ _ _ _ h c.unify.result c.unify.ensures.decided c.if-unify.true
-    (rw c.wide.ensures.0 at c.if-wide-gt-NODES.true) _
+pub returns-then-not-unify : goal.returns-then-not-unify
+returns-then-not-unify c = answers_none _ _ _ c.unify.result _ c.unify.ensures.decided c.if-not-unify.true
 
-pub write_instance-n-requires : goal.write_instance-n-requires
-write_instance-n-requires c =
-    let h = outcome_solved c.args.nodes.now c.args.table.now c.args.b
-    c.unify.new.ends c.unify.new.class
-    c.unify.new.sizes c.unify.result c.unify.ensures.solved_if
-    c.if-unify.true in
+pub returns-then-from-gt-NODES : goal.returns-then-from-gt-NODES
+returns-then-from-gt-NODES c =
+    let h = outcome_solved _ _ _ _ _ _ c.unify.result c.unify.ensures.solved_if c.if-not-unify.false in
+    answers_large _ _ _ _ _ _ h c.unify.result c.unify.ensures.decided c.if-not-unify.false
+    (rw c.from.ensures at c.if-from-gt-NODES.true) _
+
+pub invariant_of-arena : goal.invariant_of-arena
+invariant_of-arena c =
+    let h = outcome_solved _ _ _ _ _ _ c.unify.result c.unify.ensures.solved_if c.if-not-unify.false in
+    record { ready = h.sized.ready }
+
+pub write_instance-requires : goal.write_instance-requires
+write_instance-requires c =
+    let h = outcome_solved _ _ _ _ _ _ c.unify.result c.unify.ensures.solved_if c.if-not-unify.false in
     record {
-      ready = h.sized.ready;
-      spelt = solved_spelt _ _ _ _ _ _ h (rw c.wide.ensures.0 at c.if-wide-gt-NODES.false) (unify_asks _ _ _ c.requires.two_sides).1.1;
+      spelt = solved_spelt _ _ _ _ _ _ h (rw c.from.ensures at c.if-from-gt-NODES.false) (unify_asks _ _ _ c.requires.two_sides).1.1;
       most_nodes_in_bounds = c.requires.most_nodes_in_bounds;
     }
 
-pub returns-then-unify : goal.returns-then-unify
-returns-then-unify c =
-    let h = outcome_solved c.args.nodes.now c.args.table.now c.args.b
-    c.unify.new.ends c.unify.new.class
-    c.unify.new.sizes c.unify.result c.unify.ensures.solved_if
-    c.if-unify.true in
-    answers_instance _ _ _ _ _ _ h c.unify.result c.unify.ensures.decided c.if-unify.true
-    (rw c.wide.ensures.0 at c.if-wide-gt-NODES.false) (unify_asks _ _ _ c.requires.two_sides).1.1 _ _ _ c.write_instance-n.ensures
-
 pub returns : goal.returns
-returns c = answers_none _ _ _ c.unify.result _ c.unify.ensures.decided c.if-unify.false
+returns c =
+    let h = outcome_solved _ _ _ _ _ _ c.unify.result c.unify.ensures.solved_if c.if-not-unify.false in
+    answers_instance _ _ _ _ _ _ h c.unify.result c.unify.ensures.decided c.if-not-unify.false
+    (rw c.from.ensures at c.if-from-gt-NODES.false) (unify_asks _ _ _ c.requires.two_sides).1.1 _ _ _ c.write_instance.ensures

@@ -7,11 +7,7 @@ use Rattle.instances.proofs.Instances.{spelt_room, spelt_few, front_room, spelt_
 use Rattle.instances.proofs.write_instance.Goals as goal
 
 pub write-n-requires : goal.write-n-requires
-write-n-requires c =
-    record {
-      ready = c.requires.ready;
-      room_for = spelt_room _ _ _ _ c.requires.spelt;
-    }
+write-n-requires c = spelt_room _ _ _ _ c.requires.spelt
 
 pub rename_front-requires : goal.rename_front-requires
 rename_front-requires c =
@@ -19,7 +15,7 @@ rename_front-requires c =
     front_room _ c.write-n.new.out (omega (arith, f)) f.1
 
 pub slice_bounds-out-end : goal.slice_bounds-out-end
-slice_bounds-out-end c = let f = spelt_few _ _ _ _ c.requires.spelt _ _ _ refl c.write-n.ensures in omega (arith, f, c.out-4-1.given)
+slice_bounds-out-end c = let f = spelt_few _ _ _ _ c.requires.spelt _ _ _ refl c.write-n.ensures in omega (arith, f)
 
 pub slice_bounds-put_field-end : goal.slice_bounds-put_field-end
 slice_bounds-put_field-end c =
@@ -27,7 +23,6 @@ slice_bounds-put_field-end c =
     omega (
       arith,
       f,
-      c.out-4-1.given,
       length-take c.write-n.result c.rename_front.new.out,
     )
 
