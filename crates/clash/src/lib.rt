@@ -11,16 +11,7 @@ use limits::VARIABLE;
 fn differ(a: u8, b: u8) -> bool
     ensures { Differ a b result }
 {
-    if a >= VARIABLE {
-        return false;
-    }
-    if b >= VARIABLE {
-        return false;
-    }
-    if a == b {
-        return false;
-    }
-    true
+    a < VARIABLE && b < VARIABLE && a != b
 }
 
 // The byte after i where b is the byte at i, else after the subterm at i.
@@ -29,9 +20,10 @@ fn past(t: &[u8], table: &[u8], i: usize, b: u8) -> usize
     ensures { Past table.now t.now i b result }
 {
     if t[i] == b {
-        return i + 1;
+        i + 1
+    } else {
+        terms::term_end(t, table, i)
     }
-    terms::term_end(t, table, i)
 }
 
 // Whether the term s and the subterm of t at a position have different symbols at one place: a walk over both that skips what faces a variable.
@@ -41,10 +33,8 @@ pub fn clash(s: &[u8], t: &[u8], table: &[u8], position: usize) -> bool
 {
     let mut i = 0;
     let mut j = position;
-    while i < s.len() {
-        if j >= t.len() {
-            return false;
-        }
+    // Kept: both places move by the lengths of subterms.
+    while i < s.len() && j < t.len() {
         let a = s[i];
         let b = t[j];
         if differ(a, b) {

@@ -9,7 +9,6 @@ use native.Mathlib.Numerals.{add-one}
 use lib.ListN.{length, get_or, take, set, length-set}
 use lib.Seq.{take-suc, take_all, take-suc-set}
 use borrow.Author.Tests.{lt-ltb, le-ltb}
-use Rattle.std.specs.Prelude.{if◌then◌else◌}
 use Rattle.overlap_terms.specs.Layout.{moved, Lays}
 
 pub moved_symbol : (up b : ℕ) → b < 128 → b ≡ moved up b
@@ -61,10 +60,10 @@ module _ (nodes₀ : List ℕ) (w : ℕ) (t : List ℕ) (up : ℕ) (nodes : List
             (sym (map-append (moved up) (take i t) (get_or t i 0 ∷ [])) ∙ ap (map (moved up)) (sym (take-suc t i 0 h) ∙ ap (λ z. take z t) (sym (add-one i))));
       }
 
-  pub laying_end : length t ≤ i → Lays nodes₀ w t up nodes (w + i)
+  pub laying_end : length t ≤ i → Lays nodes₀ w t up nodes (w + length t)
   laying_end h =
-      let e : i ≡ length t = omega (arith, g.within) in
-      record { same = g.same; ends = omega arith; bytes = g.bytes ∙ ap (λ z. take w nodes₀ ++ map (moved up) z) (take_all i t h) }
+      let e : w + length t ≡ w + i = omega (arith, g.within) in
+      record { same = g.same; ends = refl; bytes = ap (λ z. take z nodes) e ∙ g.bytes ∙ ap (λ z. take w nodes₀ ++ map (moved up) z) (take_all i t h) }
 
 -- one more run, and one that stays as it is
 pub lays_more : (nodes : List ℕ) (w : ℕ) (t : List ℕ) (up : ℕ) (nodes' : List ℕ) (r : ℕ) → Lays nodes w t up nodes' r → (l : List ℕ) → take w nodes ≡ l →

@@ -16,13 +16,11 @@ fn moved(b: u8, up: u8) -> u8
     requires { up ≤ most_variables }
     ensures { result ≡ moved up b }
 {
-    if b < limits::VARIABLE {
-        return b;
+    if limits::VARIABLE <= b && b < MOVABLE_END {
+        b + up
+    } else {
+        b
     }
-    if b < MOVABLE_END {
-        return b + up;
-    }
-    b
 }
 
 // Bytes into the nodes at w, with their variables moved up: where they end.
@@ -30,12 +28,10 @@ fn lay(nodes: &mut [u8], w: usize, t: &[u8], up: u8) -> usize
     requires { (w + length t.now ≤ length nodes.old) × (up ≤ most_variables) }
     ensures { Lays nodes.old w t.now up nodes.new result }
 {
-    let mut i = 0;
-    while i < t.len() {
-        nodes[w + i] = moved(t[i], up);
-        i += 1;
+    for (i, b) in t.iter().enumerate() {
+        nodes[w + i] = moved(*b, up);
     }
-    w + i
+    w + t.len()
 }
 
 // The four terms of an overlap, one after the other: where they end.

@@ -1,9 +1,7 @@
--- `lay`: the invariant is that the first i bytes, moved, stand behind the first w; the bytes to come fall. Assumes nothing.
+-- `lay`: the invariant is that the first i bytes, moved, stand behind the first w. Assumes nothing.
 -- Read first: specs/Layout (Lays), proofs/Moving (Laying).
 use native.Mathlib.Omega.{arith}
-use Prim.Native.Nat.{◌-◌}
 use Rattle.overlap_terms.proofs.Moving.{laying_start, laying_more, laying_end}
-use Rattle.std.proofs.Common.{rules}
 use Rattle.overlap_terms.proofs.lay.Goals as goal
 
 pub loop-i-init : goal.loop-i-init
@@ -14,9 +12,6 @@ bounds-nodes-w c = omega (arith, c.loop-i-test.true, c.loop-i.invariant.same, c.
 
 pub loop-i-preserved : goal.loop-i-preserved
 loop-i-preserved c = laying_more _ _ _ _ _ _ c.loop-i.invariant _ c.loop-i-test.true c.requires.0 c.moved.ensures
-
-pub overflow_add-result : goal.overflow_add-result
-overflow_add-result c = let h = c.loop-i.invariant.within in search rules
 
 pub shape_of-nodes : goal.shape_of-nodes
 shape_of-nodes c = c.loop-i.invariant.same
