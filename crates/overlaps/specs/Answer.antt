@@ -1,5 +1,5 @@
 -- What the overlap of two stored rules answers. Assumes nothing.
-use Rattle.std.specs.Prelude.{◌≡◌, Bool, true, false, List, ℕ, ◌+◌, ◌*◌, ◌<◌, ◌≤◌, ltb, length}
+use Rattle.std.specs.Prelude.{◌≡◌, Bool, true, false, List, ℕ, ◌+◌, ◌<◌, ◌≤◌, ltb, length}
 use Rattle.std.proofs.Math.Option.{Option, none, some}
 use Rattle.limits.specs.Limits.{most_nodes, most_variables, most_apart, arena_width}
 use Rattle.terms.specs.Term.{Term, node, Terms, nil, cons, Pair, size, terms_bytes, renamed, subterm_at}

@@ -6,7 +6,9 @@ ghost use Rattle.limits.specs.Limits.{most_nodes};
 ghost use Rattle.slots.specs.Slots.{slot, left_length, Layout};
 ghost use Rattle.overlaps.specs.Answer.{Within, SolvesAt, Meets, Possible, Overlapped};
 
-#[derive(Drop)]
+use classes::Arena;
+
+#[derive(Clone, Copy, Debug, PartialEq, Eq)]
 pub enum Met {
     // There is no overlap.
     Nothing,
@@ -17,7 +19,7 @@ pub enum Met {
 }
 
 // Where terms begin among the nodes: the inner left side and the outer subterm, which are unified, and the pair's two terms.
-#[derive(Drop)]
+#[derive(Clone, Copy)]
 pub struct Roots {
     pub inner: usize,
     pub outer: usize,
@@ -45,10 +47,17 @@ fn solve_in(
     if !mgu::unify(nodes, table, at.inner, at.outer, ends, class, sizes) {
         return Met::Nothing;
     }
-    if critical_pairs::place(nodes, table, ends, class, sizes, at.left, at.right, pair) {
-        return Met::Pair;
+    let arena = Arena {
+        nodes,
+        table,
+        ends,
+        class,
+    };
+    if critical_pairs::place(&arena, sizes, at.left, at.right, pair) {
+        Met::Pair
+    } else {
+        Met::TooLarge
     }
-    Met::TooLarge
 }
 
 // `solve_in` with buffers of its own, of which it lends as much as there are nodes.
@@ -105,10 +114,7 @@ pub fn possible(rules: &[u8], table: &[u8], inner: usize, outer: usize, position
     ensures { Possible table.now rules.now inner outer position result }
 {
     let l2 = slots::left(rules, outer);
-    if position >= l2.len() {
-        return false;
-    }
-    if l2[position] >= limits::VARIABLE {
+    if position >= l2.len() || l2[position] >= limits::VARIABLE {
         return false;
     }
     !clash::clash(slots::left(rules, inner), l2, table, position)
@@ -128,7 +134,7 @@ pub fn overlap(
     ensures { Overlapped table.now rules.now inner outer position pair.old pair.new result }
 {
     let r2 = slots::right(rules, outer);
-    if r2.len() == 0 {
+    if r2.is_empty() {
         return Met::Nothing;
     }
     let l2 = slots::left(rules, outer);

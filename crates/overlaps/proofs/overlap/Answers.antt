@@ -3,12 +3,13 @@
 use Rattle.slots.proofs.Layouts.{left_long}
 use Rattle.overlaps.proofs.Meeting.{overlap_empty, overlap_met}
 use native.Mathlib.Omega.{arith}
-use mathlib.Core.Path.{ap}
+use mathlib.Core.Path.{ap, sym}
+use borrow.Author.Tests.{eqb-true, eqb-false}
 use lib.ListN.{length}
 use Rattle.overlaps.proofs.overlap.Goals as goal
 
-pub returns-then-r2-eq0 : goal.returns-then-r2-eq0
-returns-then-r2-eq0 c = overlap_empty c.right-r2.ensures.result_value c.if-r2-eq0.true
+pub returns-then-is_empty : goal.returns-then-is_empty
+returns-then-is_empty c = overlap_empty c.right-r2.ensures.result_value (eqb-true _ _ (sym c.if-is_empty.ensures))
 
 pub meet-requires : goal.meet-requires
 meet-requires c =
@@ -21,7 +22,7 @@ meet-requires c =
       );
       position_in_bounds = (
         omega (arith, ap length c.left-l2.ensures.result_value, left_long _ _ c.requires.layout.1, c.requires.position_bound.0),
-        omega (arith, c.if-r2-eq0.false),
+        omega (arith, eqb-false _ _ (sym c.if-is_empty.ensures)),
         c.requires.position_bound.1,
       );
     }

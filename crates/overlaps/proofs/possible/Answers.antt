@@ -4,12 +4,15 @@
 use Rattle.overlaps.proofs.Testing.{possible_beyond, possible_open, possible_tested}
 use native.Mathlib.Omega.{arith}
 use Rattle.overlaps.proofs.possible.Goals as goal
+use Rattle.overlaps.proofs.possible.Goals.{then-position-l2-via-then-position-l2, then-position-l2-via-else-position-l2+then-l2-position-ge-VARIABLE}
 
 pub returns-then-position-l2 : goal.returns-then-position-l2
-returns-then-position-l2 c = possible_beyond c.left-l2.ensures.result_value c.if-position-l2.true
-
-pub returns-then-l2-position-ge-VARIABLE : goal.returns-then-l2-position-ge-VARIABLE
-returns-then-l2-position-ge-VARIABLE c = possible_open c.left-l2.ensures.result_value (omega (arith, c.if-l2-position-ge-VARIABLE.true))
+returns-then-position-l2 c =
+    elim c.then-position-l2.branch [
+      | then-position-l2-via-then-position-l2 w ↦ possible_beyond c.left-l2.ensures.result_value w.if-position-l2.true
+      | then-position-l2-via-else-position-l2+then-l2-position-ge-VARIABLE w ↦
+          possible_open c.left-l2.ensures.result_value (omega (arith, w.if-l2-position-ge-VARIABLE.true))
+    ]
 
 pub returns : goal.returns
 returns c =

@@ -22,6 +22,12 @@ unify-requires c =
 pub returns-then-not-unify : goal.returns-then-not-unify
 returns-then-not-unify c = solve_never c.unify.ensures.decided (c.if-not-unify.true)
 
+pub invariant_of-arena : goal.invariant_of-arena
+invariant_of-arena c =
+    let solved : Solved c.args.nodes.now c.args.table.now c.args.at.inner c.args.at.outer c.unify.new.ends c.unify.new.class c.unify.new.sizes =
+    outcome_solved _ _ _ _ _ _ _ c.unify.result c.unify.ensures.solved_if (c.if-not-unify.false) in
+    record { ready = solved.sized.ready }
+
 pub place-requires : goal.place-requires
 place-requires c =
     let solved : Solved c.args.nodes.now c.args.table.now c.args.at.inner c.args.at.outer c.unify.new.ends c.unify.new.class c.unify.new.sizes =
@@ -40,8 +46,8 @@ returns-then-place c =
     outcome_solved _ _ _ _ _ _ _ c.unify.result c.unify.ensures.solved_if (c.if-not-unify.false) in
     solve_placed solved c.place.ensures (ap met c.if-place.true)
 
-pub returns : goal.returns
-returns c =
+pub returns-else-place : goal.returns-else-place
+returns-else-place c =
     let solved : Solved c.args.nodes.now c.args.table.now c.args.at.inner c.args.at.outer c.unify.new.ends c.unify.new.class c.unify.new.sizes =
     outcome_solved _ _ _ _ _ _ _ c.unify.result c.unify.ensures.solved_if (c.if-not-unify.false) in
     solve_placed solved c.place.ensures (ap met c.if-place.false)
