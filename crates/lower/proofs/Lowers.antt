@@ -11,7 +11,7 @@ use lib.Dec.{eqb}
 use lib.ListN.{length}
 use denote.Ref.{Bor}
 use borrow.Author.Tests.{ne_eqb}
-use Rattle.std.specs.Prelude.{if◌then◌else◌}
+use Rattle.std.specs.Prelude.{if◌then◌else◌, Option as Chosen, Some, None}
 use Rattle.terms.specs.Base.{is_some}
 use Rattle.terms.specs.Term.{Term}
 use Rattle.terms.proofs.Shape.{not_some, some_of, either_has, dec_agree, dec_false}
@@ -25,16 +25,16 @@ use Rattle.problem.specs.Problem.{Symbol, rank_of, read_term, read_side}
 use Rattle.completion.proofs.Ranks.{ranks_are}
 use Rattle.lower.specs.Lower.{whole_table, whole_term, lower_of, lower_over, which, bytes_of, lower_call, place_of, lower_refused}
 use Rattle.lower.specs.declared.Which.{Which}
-use Rattle.lower.specs.declared.Which.TheVariants.{First, Second, Neither}
+use Rattle.lower.specs.declared.Which.TheVariants.{First, Second}
 use Rattle.lower.proofs.Wholes.{from_whole, alone}
 
 -- `lower_over`
 module _ (Σ : List Symbol) where
-  pub no_first : (o p : Option Term) → false ≡ is_some o → Neither ≡ lower_of Σ o p
+  pub no_first : (o p : Option Term) → false ≡ is_some o → None ≡ lower_of Σ o p
   unfolding lower_of
   no_first o p h = rw (not_some o h) refl
 
-  pub no_second : (o p : Option Term) → false ≡ is_some p → Neither ≡ lower_of Σ o p
+  pub no_second : (o p : Option Term) → false ≡ is_some p → None ≡ lower_of Σ o p
   unfolding lower_of
   no_second none p h = refl
   no_second (some x) p h = rw (not_some p h) refl
@@ -45,7 +45,7 @@ module _ (tab : List ℕ) (T : Table tab) where
 
   -- both are whole terms: the order decides
   module _ (f g : List ℕ) (h : true ≡ is_some (whole_term (symbols_of tab) f)) (k : true ≡ is_some (whole_term (symbols_of tab) g)) where
-    both : (b : Bool) → IsAbove tab f g b → (if b then Second else First) ≡ lower_over (symbols_of tab) f g
+    both : (b : Bool) → IsAbove tab f g b → Some (if b then Second else First) ≡ lower_over (symbols_of tab) f g
     unfolding lower_of
     both b a =
         let x = some_of _ h in
@@ -55,17 +55,17 @@ module _ (tab : List ℕ) (T : Table tab) where
         ∙ ap (λ (r : ℕ → ℕ). above r x.0 y.0) (sym (ranks_are tab T)) in
         rw (x.1, y.1, z) refl
 
-    pub second_lower : IsAbove tab f g true → Second ≡ lower_over (symbols_of tab) f g
+    pub second_lower : IsAbove tab f g true → Some Second ≡ lower_over (symbols_of tab) f g
     second_lower a = both true a
 
-    pub first_lower : IsAbove tab f g false → First ≡ lower_over (symbols_of tab) f g
+    pub first_lower : IsAbove tab f g false → Some First ≡ lower_over (symbols_of tab) f g
     first_lower a = both false a
 
 -- "the lower": the one that is handed back is not above the other
-abbrev pub NotAbove : List Symbol → Term → Term → Which → Type 0
-NotAbove Σ s t First = above (rank_of Σ) s t ≡ false
-NotAbove Σ s t Second = above (rank_of Σ) t s ≡ false
-NotAbove Σ s t Neither = ⊥
+abbrev pub NotAbove : List Symbol → Term → Term → Chosen Which → Type 0
+NotAbove Σ s t (Some First) = above (rank_of Σ) s t ≡ false
+NotAbove Σ s t (Some Second) = above (rank_of Σ) t s ≡ false
+NotAbove Σ s t None = ⊥
 
 pub not_above : (Σ : List Symbol) (s t : Term) → NotAbove Σ s t (lower_of Σ (some s) (some t))
 unfolding lower_of
@@ -84,10 +84,10 @@ some_bytes Σ [] x h = absurd (let r = from_whole _ x h in from_bind _ _ _ r.rea
 some_bytes Σ (b ∷ t) x h = ne_eqb (length (b ∷ t)) 0 (λ z. absurd (omega arith))
 
 -- Which one it is, and whether the lent bytes are refused: one of two parts that are not empty, or neither.
-pub data Choice (first second : List ℕ) : Which → Bool → Type 0 where
-  is_first : eqb (length first) 0 ≡ false → Choice first second First false
-  is_second : eqb (length second) 0 ≡ false → Choice first second Second false
-  is_refused : Choice first second Neither true
+pub data Choice (first second : List ℕ) : Chosen Which → Bool → Type 0 where
+  is_first : eqb (length first) 0 ≡ false → Choice first second (Some First) false
+  is_second : eqb (length second) 0 ≡ false → Choice first second (Some Second) false
+  is_refused : Choice first second None true
 
 module _ (first second : List ℕ) where
   abbrev RefusedOver : List Symbol → Bool
@@ -103,7 +103,7 @@ module _ (first second : List ℕ) where
       go (some x) e none q = rw (e, q, lower_of) is_refused
       go (some x) e (some y) q =
           rw (e, q, lower_of)
-          (either_has (λ (w : Which). Choice first second w false) (above (rank_of Σ) x y) Second First
+          (either_has (λ (w : Which). Choice first second (Some w) false) (above (rank_of Σ) x y) Second First
           (is_second (some_bytes Σ second y q)) (is_first (some_bytes Σ first x e)))
 
   pub choice : (symbols : List ℕ) → Choice first second (which symbols first second) (lower_refused symbols first second)
@@ -115,22 +115,22 @@ module _ (first second : List ℕ) where
       go (some Σ) e = rw (e, lower_refused, which) (choice_over Σ)
 
   -- "The part is empty exactly if" the lent bytes are refused.
-  empty_if : (w : Which) (r : Bool) → Choice first second w r → eqb (length (bytes_of w first second)) 0 ≡ r
+  empty_if : (w : Chosen Which) (r : Bool) → Choice first second w r → eqb (length (bytes_of w first second)) 0 ≡ r
   unfolding bytes_of
-  empty_if First true h = elim h [ ]
-  empty_if Second true h = elim h [ ]
-  empty_if Neither false h = elim h [ ]
-  empty_if First false (is_first h) = h
-  empty_if Second false (is_second h) = h
-  empty_if Neither true is_refused = refl
+  empty_if (Some First) true h = elim h [ ]
+  empty_if (Some Second) true h = elim h [ ]
+  empty_if None false h = elim h [ ]
+  empty_if (Some First) false (is_first h) = h
+  empty_if (Some Second) false (is_second h) = h
+  empty_if None true is_refused = refl
 
 -- `choose`
 module _ (symbols first second : List ℕ) where
-  pub no_symbols : whole_table symbols ≡ none → Neither ≡ which symbols first second
+  pub no_symbols : whole_table symbols ≡ none → None ≡ which symbols first second
   unfolding which
   no_symbols h = rw (h, which) refl
 
-  pub over_symbols : (Σ : List Symbol) (w : Which) → whole_table symbols ≡ some Σ → w ≡ lower_over Σ first second → w ≡ which symbols first second
+  pub over_symbols : (Σ : List Symbol) (w : Chosen Which) → whole_table symbols ≡ some Σ → w ≡ lower_over Σ first second → w ≡ which symbols first second
   unfolding which
   over_symbols Σ w h k = rw (h, which) k
 
@@ -141,22 +141,22 @@ module _ (symbols : List ℕ) (first second : Bor (List ℕ)) where
       (bytes ≡ lower_call symbols first.now second.now) × ((place ≡ place_of (which symbols first.now second.now) first second)
       × (eqb (length bytes) 0 ≡ lower_refused symbols first.now second.now))
 
-  handed : (w : Which) → w ≡ which symbols first.now second.now → Handed (bytes_of w first.now second.now) (place_of w first second)
+  handed : (w : Chosen Which) → w ≡ which symbols first.now second.now → Handed (bytes_of w first.now second.now) (place_of w first second)
   unfolding lower_call
   handed w h =
       let z : bytes_of w first.now second.now ≡ lower_call symbols first.now second.now =
-      ap (λ (v : Which). bytes_of v first.now second.now) h in
+      ap (λ (v : Chosen Which). bytes_of v first.now second.now) h in
       let empty = empty_if first.now second.now _ _ (choice first.now second.now symbols) in
-      (z, (ap (λ (v : Which). place_of v first second) h, ap (λ (m : List ℕ). eqb (length m) 0) z ∙ empty))
+      (z, (ap (λ (v : Chosen Which). place_of v first second) h, ap (λ (m : List ℕ). eqb (length m) 0) z ∙ empty))
 
-  pub first_handed : First ≡ which symbols first.now second.now → Handed first.now first.ref_ptr
+  pub first_handed : Some First ≡ which symbols first.now second.now → Handed first.now first.ref_ptr
   unfolding bytes_of place_of
-  first_handed h = handed First h
+  first_handed h = handed (Some First) h
 
-  pub second_handed : Second ≡ which symbols first.now second.now → Handed second.now second.ref_ptr
+  pub second_handed : Some Second ≡ which symbols first.now second.now → Handed second.now second.ref_ptr
   unfolding bytes_of place_of
-  second_handed h = handed Second h
+  second_handed h = handed (Some Second) h
 
-  pub none_handed : Neither ≡ which symbols first.now second.now → Handed [] first.ref_ptr
+  pub none_handed : None ≡ which symbols first.now second.now → Handed [] first.ref_ptr
   unfolding bytes_of place_of
-  none_handed h = handed Neither h
+  none_handed h = handed None h

@@ -10,13 +10,16 @@ use lib.Dec.{eqb}
 use lib.ListN.{length, take, drop, length-append, length-drop}
 use lib.Seq.{take-length}
 use borrow.Author.Tests.{eq-eqb, ne_eqb}
+use Rattle.std.specs.Prelude.{Err}
 use Rattle.terms.specs.Base.{is_some}
 use Rattle.terms.specs.Term.{Term, size, term_bytes}
 use Rattle.terms.specs.Flat.{Starts}
 use Rattle.terms.proofs.Bytes.{length_bytes}
 use Rattle.terms.proofs.Flats.{widen}
 use Rattle.terms.proofs.Shape.{none≢some, some_inj}
-use Rattle.reading.specs.Answers.{symbols_of, Table, between, SideAt}
+use Rattle.reading.specs.Answers.{symbols_of, Table, between, SideAt, IsSide}
+use Rattle.reading.specs.declared.SideError.{SideError}
+use Rattle.reading.specs.declared.SideError.TheVariants.{Wrong, Large}
 use Rattle.reading.proofs.Reading.{bind_ok, bind_refused}
 use Rattle.reading.proofs.Standing.{side_stands}
 use Rattle.problem.specs.Problem.{Reading, ok, refused, ◌>>=◌, ReadField, ReadPart, due, symbol_field, read_side}
@@ -54,9 +57,13 @@ module _ (tab t : List ℕ) where
   all : between t 0 (length t) ≡ t
   all = take-length t
 
-  pub not_read : (n p : ℕ) → read_side (symbols_of tab) 0 (between t 0 (length t)) ≡ refused n p → false ≡ is_some (whole_term (symbols_of tab) t)
+  not_read : (n p : ℕ) → read_side (symbols_of tab) 0 (between t 0 (length t)) ≡ refused n p → false ≡ is_some (whole_term (symbols_of tab) t)
   unfolding whole is_some
   not_read n p h = sym (ap (λ (r : Reading (ReadPart Term)). is_some (whole r)) (rw all at h))
+
+  pub not_side : (e : SideError) → IsSide tab t 0 (length t) (Err e) → false ≡ is_some (whole_term (symbols_of tab) t)
+  not_side (Wrong p) h = not_read _ p h
+  not_side Large h = not_read _ 0 h
 
   pub to_its_end : (e : ℕ) (x : Term) → SideAt tab t 0 (length t) e x → eqb e (length t) ≡ is_some (whole_term (symbols_of tab) t)
   unfolding whole is_some

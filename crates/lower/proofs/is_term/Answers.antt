@@ -1,7 +1,7 @@
--- `is_term`: too long, not a side, or a side that ends somewhere: `not_long`, `not_read`, `to_its_end`. Assumes nothing.
+-- `is_term`: too long, not a side, or a side that ends somewhere: `not_long`, `not_side`, `to_its_end`. Assumes nothing.
 -- Read first: specs/Lower (whole-term), reading/specs/Answers (IsSide), proofs/Wholes.
 use native.Mathlib.Omega.{arith}
-use Rattle.lower.proofs.Wholes.{not_long, not_read, to_its_end}
+use Rattle.lower.proofs.Wholes.{not_long, not_side, to_its_end}
 use Rattle.lower.proofs.is_term.Goals as goal
 
 pub returns-then-t-gt-NODES : goal.returns-then-t-gt-NODES
@@ -14,13 +14,10 @@ side_at-requires c =
       at_le_end = (omega arith, omega arith, omega (arith, c.if-t-gt-NODES.false));
     }
 
-pub returns-in-Wrong : goal.returns-in-Wrong
-returns-in-Wrong c = not_read _ _ _ _ c.in-Wrong.ensures
+pub returns-in-Err : goal.returns-in-Err
+returns-in-Err c = not_side _ _ _ c.in-Err.ensures
 
-pub returns-in-Large : goal.returns-in-Large
-returns-in-Large c = not_read _ _ _ _ c.in-Large.ensures
-
-pub returns-in-At : goal.returns-in-At
-returns-in-At c =
-    let A = c.in-At.ensures in
+pub returns-in-Ok : goal.returns-in-Ok
+returns-in-Ok c =
+    let A = c.in-Ok.ensures in
     to_its_end _ _ _ _ A.1
