@@ -2,11 +2,11 @@
 -- Read first: specs/Pieces (replaced, Put).
 use mathlib.Core.Path.{◌≡◌, refl, sym, ◌∙◌, ap, subst}
 use mathlib.Core.List.{List, ◌++◌}
-use Prim.Native.Nat.{ℕ, ◌+◌, ◌-◌, ◌<◌, ◌≤◌}
-use native.Mathlib.Omega.{arith}
+use Prim.Native.Nat.{ℕ, ◌+◌, ◌-◌, ◌<◌}
 use native.Mathlib.Nat.{sub-zero}
 use lib.ListN.{length, drop, take}
 use Rattle.matching.specs.Held.{Within}
+use Rattle.std.specs.Prelude.{Option as Optional, Some, None}
 use Rattle.matching.specs.Pieces.{Put, pieces, replaced}
 
 pub take_less_zero : (n : ℕ) (l : List ℕ) → take (n - 0) l ≡ take n l
@@ -20,12 +20,12 @@ part_within t B n w = subst (λ l. Within l B) (sym (take_less_zero n t)) w
 pub contracted : (t B T right : List ℕ) (len end : ℕ) → T ≡ take len t → pieces T B right ++ drop end T ≡ replaced (take len t) B right end
 contracted t B T right len end e = rw e
 
-module _ (t out out' p P : List ℕ) (most w : ℕ) (e : p ≡ P) (pt : Put out out' 0 most w p) where
-  pub replace_over : most < w → Put t t 0 most w P
-  replace_over h =
-      record { same = refl; next = λ l. absurd (omega arith); cells = λ l. absurd (omega arith); over = λ l. subst (λ q. most < 0 + length q) e (pt.over l) }
+-- the whole does not fit, and t stays; or it is put back
+pub replace_over : {t out out' p P : List ℕ} {most : ℕ} → p ≡ P → Put out out' 0 most None p → Put t t 0 most None P
+replace_over {most = most} e h = record { same = refl; is = subst (λ q. most < 0 + length q) e h.is }
 
-  pub replace_done : w ≤ most → (t' : List ℕ) (r : ℕ) → Put t t' 0 most r (take (w - 0) out') → Put t t' 0 most r P
-  replace_done h t' r q =
-      let g : take (w - 0) out' ≡ P = take_less_zero w out' ∙ pt.cells h ∙ e in
-      subst (λ l. Put t t' 0 most r l) g q
+pub replace_done : {t t' out out' p P : List ℕ} {most w : ℕ} {r : Optional ℕ} → p ≡ P → Put out out' 0 most (Some w) p →
+    Put t t' 0 most r (take (w - 0) out') → Put t t' 0 most r P
+replace_done {t = t} {t' = t'} {out' = out'} {P = P} {most = most} {w = w} {r = r} e h k =
+    let g : take (w - 0) out' ≡ P = take_less_zero w out' ∙ h.is.cells ∙ e in
+    subst (λ l. Put t t' 0 most r l) g k

@@ -10,11 +10,10 @@ use native.Mathlib.Numerals.{add-one}
 use lib.Dec.{eqb}
 use lib.ListN.{length, get_or, drop, length-append, length-drop, drop_of_length-le}
 use lib.Seq.{drop-cons, drop-drop, drop_at}
-use Rattle.std.specs.Prelude.{if◌then◌else◌}
+use Rattle.std.specs.Prelude.{if◌then◌else◌, Option as Optional, Some, None}
 use Rattle.terms.specs.Term.{Term, Terms, var, node, nil, cons, term_bytes, terms_bytes, size, sizes, count}
 use Rattle.terms.specs.Flat.{Wf, Wfs}
 use Rattle.terms.specs.Scan.{arity}
-use Rattle.terms.proofs.Places.{size_pos}
 use Rattle.terms.proofs.Several.{join, join_bytes, join_wf, join_count}
 use Rattle.terms.proofs.Shape.{Says, eqb_says}
 use Rattle.unify.specs.Unify.{Binding}
@@ -128,19 +127,19 @@ goes_over left T i j B₀ B h k s w g = record {
 }
 
 -- one turn
-abbrev Turned : List ℕ → List ℕ → List ℕ → ℕ → ℕ → ℕ → List ℕ → Option (List Binding) → Type 0
-Turned tab left T n i r B m = (r ≡ 0 → m ≡ none) × ((r ≡ 0 → ⊥) → Going tab left T n (i + 1) r B m)
+abbrev Turned : List ℕ → List ℕ → List ℕ → ℕ → ℕ → Optional ℕ → List ℕ → Option (List Binding) → Type 0
+Turned tab left T n i r B m = (r ≡ None → m ≡ none) × ((e : ℕ) → r ≡ Some e → Going tab left T n (i + 1) e B m)
 
-module _ (tab left T : List ℕ) (n i j : ℕ) (B : List ℕ) (r : ℕ) (B' : List ℕ) (h : i < length left) (k : j < length T)
+module _ (tab left T : List ℕ) (n i j : ℕ) (B : List ℕ) (r : Optional ℕ) (B' : List ℕ) (h : i < length left) (k : j < length T)
     (a : Advanced T (get_or left i 0) j B r B')
     (m : Option (List Binding)) (rest : List ℕ) (tail : n + length rest ≡ length T) where
   var_go : (x : Term) (ls xs : Terms) → Wfs 16 tab ls → Wfs 32 tab xs → count ls ≡ count xs → drop (suc i) left ≡ terms_bytes ls →
       drop j T ≡ cells x ++ (cells_all xs ++ rest) →
       (o : Option (List Binding)) → BoundTo tab T n j x r B' o → after o (λ q. matching_all ls xs q) ≡ m → Turned tab left T n i r B' m
-  var_go x ls xs w v c p s none e q = (λ z. sym q, λ z. absurd (z e))
+  var_go x ls xs w v c p s none e q = (λ z. sym q, λ d z. absurd (cc (e, z)))
   var_go x ls xs w v c p s (some bs) e q = (
-    λ z. absurd (let l = size_pos x in let f : r ≡ j + size x = e.0 in omega arith),
-    λ z. record {
+    λ z. absurd (cc (e.0, z)),
+    λ d z. let g : d ≡ j + size x = cc (e.0, z) in record {
       ls = ls;
       xs = xs;
       bs = bs;
@@ -149,7 +148,7 @@ module _ (tab left T : List ℕ) (n i j : ℕ) (B : List ℕ) (r : ℕ) (B' : Li
       wfx = v;
       number = c;
       pattern = rw (add-one i) p;
-      subject = rw (e.0, ← drop-drop (size x) j T, s) (drop_at (cells x) (cells_all xs ++ rest) (size x) (length_cells x));
+      subject = rw (g, ← drop-drop (size x) j T, s) (drop_at (cells x) (cells_all xs ++ rest) (size x) (length_cells x));
       tail = tail;
       held = e.1;
       answer = q;
@@ -164,7 +163,7 @@ module _ (tab left T : List ℕ) (n i j : ℕ) (B : List ℕ) (r : ℕ) (B' : Li
   unfolding Wf
   node_go f g ps ys ls xs bs wf wg w v c e p d s o false ne q = (
     λ z. sym q,
-    λ z. absurd (ne (sym e ∙ sym (a.symbol (let l : f < 16 = wf.0 in omega arith) z).0 ∙ d)),
+    λ k z. absurd (ne (sym e ∙ sym (a.symbol k (let l : f < 16 = wf.0 in omega arith) z).0 ∙ d)),
   )
   node_go f g ps ys ls xs bs wf wg w v c e p d s o true eq q =
       let b : get_or left i 0 < 128 = let l : f < 16 = wf.0 in omega arith in
@@ -172,8 +171,8 @@ module _ (tab left T : List ℕ) (n i j : ℕ) (B : List ℕ) (r : ℕ) (B' : Li
       let cy : count ys ≡ arity tab g = wg.1 in
       let cs : count ps ≡ count ys = ca ∙ ap (arity tab) eq ∙ sym cy in (
         λ z. absurd (a.differs b z (d ∙ sym eq ∙ sym e)),
-        λ z.
-            let y = a.symbol b z in
+        λ k z.
+            let y = a.symbol k b z in
             record {
               ls = join ps ls;
               xs = join ys xs;
@@ -211,12 +210,12 @@ module _ (tab left T : List ℕ) (n i j : ℕ) (B : List ℕ) (r : ℕ) (B' : Li
       (a.variable y (cc) w.0 tab n x st bs o) q
   turn_go (cons (node f ps) ls) (cons (var y) xs) bs w v c p s s' o q = (
     λ z. sym q,
-    λ z.
+    λ k z.
         let b : f < 16 = w.0.0 in
         let e : get_or left i 0 ≡ f = cc in
         let d : get_or T j 0 ≡ 128 + y + 256 * 1 = cc in
         let g : y < 32 = v.0 in
-        absurd (let u : get_or T j 0 % 256 ≡ get_or left i 0 = (a.symbol (omega arith) z).0 in omega arith),
+        absurd (let u : get_or T j 0 % 256 ≡ get_or left i 0 = (a.symbol k (omega arith) z).0 in omega arith),
   )
   turn_go (cons (node f ps) ls) (cons (node g ys) xs) bs w v c p s s' o q =
       let d : get_or T j 0 ≡ g + 256 * suc (sizes ys) = cc in
@@ -224,18 +223,19 @@ module _ (tab left T : List ℕ) (n i j : ℕ) (B : List ℕ) (r : ℕ) (B' : Li
       node_go f g ps ys ls xs bs w.0 v.0 w.1 v.1 (omega arith) (cc) (cc) (ap (λ z. z % 256) d ∙ cell_byte g (suc (sizes ys)) (omega arith))
       (ap (drop 1) s ∙ append_assoc (cells_all ys) (cells_all xs) rest) o (eqb f g) (eqb_says f g) q
 
-turn : (tab left T : List ℕ) (n i j : ℕ) (B : List ℕ) (r : ℕ) (B' : List ℕ) → i < length left → j < length T → Advanced T (get_or left i 0) j B r B' →
+turn : (tab left T : List ℕ) (n i j : ℕ) (B : List ℕ) (r : Optional ℕ) (B' : List ℕ) → i < length left → j < length T → Advanced T (get_or left i 0) j B r B' →
     (m : Option (List Binding)) → Going tab left T n i j B m → Turned tab left T n i r B' m
 turn tab left T n i j B r B' h k a m o =
     turn_go tab left T n i j B r B' h k a m o.rest o.tail o.ls o.xs o.bs o.wfl o.wfx o.number (sym (drop-cons left i 0 h) ∙ o.pattern)
     (sym (drop-cons T j 0 k) ∙ o.subject) o.subject o.held o.answer
 
-module _ (left T : List ℕ) (i j : ℕ) (B : List ℕ) (r : ℕ) (B' : List ℕ) (h : i < length left) (k : j < length T) (a : Advanced T (get_or left i 0) j B r B')
+module _ (left T : List ℕ) (i j : ℕ) (B : List ℕ) (r : Optional ℕ) (B' : List ℕ) (h : i < length left) (k : j < length T)
+    (a : Advanced T (get_or left i 0) j B r B')
     (g : Goes left T i j B) where
-  pub goes_on : (r ≡ 0 → ⊥) → Goes left T (i + 1) r B'
-  goes_on z tab l x w e s = (turn tab left T (size x) i j B r B' h k a (matching l x []) (g tab l x w e s)).1 z
+  pub goes_on : (d : ℕ) → r ≡ Some d → Goes left T (i + 1) d B'
+  goes_on d z tab l x w e s = (turn tab left T (size x) i j B r B' h k a (matching l x []) (g tab l x w e s)).1 d z
 
-  pub goes_wrong : r ≡ 0 → (B₀ : List ℕ) → length B' ≡ length B₀ → Matched left T B₀ false B'
+  pub goes_wrong : r ≡ None → (B₀ : List ℕ) → length B' ≡ length B₀ → Matched left T B₀ false B'
   goes_wrong z B₀ q = record {
     same = q;
     within = a.within;
@@ -255,12 +255,12 @@ pub record Here (left T B₀ B : List ℕ) (i j : ℕ) : Type 0 where
 pub here_start : (left T B₀ B : List ℕ) → length B ≡ length B₀ → Cleared B → Here left T B₀ B 0 0
 here_start left T B₀ B s c = record { in_left = omega arith; in_term = omega arith; same = s; within = cleared_within T B c; goes = goes_start left T B c }
 
-pub here_on : (left T B₀ B : List ℕ) (i j r : ℕ) (B' : List ℕ) → i < length left → j < length T → Here left T B₀ B i j → Advanced T (get_or left i 0) j B r B' →
-    (r ≡ 0 → ⊥) → Here left T B₀ B' (i + 1) r
-here_on left T B₀ B i j r B' h k o a z = record {
+pub here_on : (left T B₀ B : List ℕ) (i j d : ℕ) (r : Optional ℕ) (B' : List ℕ) → i < length left → j < length T → Here left T B₀ B i j →
+    Advanced T (get_or left i 0) j B r B' → r ≡ Some d → Here left T B₀ B' (i + 1) d
+here_on left T B₀ B i j d r B' h k o a z = record {
   in_left = omega arith;
-  in_term = a.place;
+  in_term = a.place d z;
   same = a.same ∙ o.same;
   within = a.within;
-  goes = goes_on left T i j B r B' h k a o.goes z;
+  goes = goes_on left T i j B r B' h k a o.goes d z;
 }

@@ -1,5 +1,5 @@
 -- What an array of places says of bindings, and what the code's functions answer. Assumes nothing.
-use Rattle.std.specs.Prelude.{◌≡◌, Bool, true, false, List, [], ℕ, zero, suc, ◌+◌, ◌-◌, ◌/◌, ◌%◌, ◌<◌, ◌≤◌, length, get_or}
+use Rattle.std.specs.Prelude.{◌≡◌, Bool, true, false, List, [], ℕ, zero, suc, ◌+◌, ◌-◌, ◌/◌, ◌%◌, ◌<◌, ◌≤◌, length, get_or, Option as Optional, Some, None}
 use Rattle.std.proofs.Math.Option.{Option, none, some}
 use Rattle.limits.specs.Limits.{most_variables, first_variable, cell_base}
 use Rattle.terms.specs.Term.{Term, term_bytes, size}
@@ -33,22 +33,22 @@ abbrev pub Cleared : List ℕ → Type 0
 Cleared B = (x : ℕ) → x < most_variables → get_or B x 0 ≡ 0
 
 -- what `again` answers
-pub record Again (T : List ℕ) (a j r : ℕ) : Type 0 where
-  pub place : r ≤ length T
-  pub equal : (tab : List ℕ) (n : ℕ) (u v : Term) → Stands tab T n j u → Stands tab T n a v → v ≡ u → r ≡ j + size u
-  pub other : (tab : List ℕ) (n : ℕ) (u v : Term) → Stands tab T n j u → Stands tab T n a v → (v ≡ u → ⊥) → r ≡ 0
+pub record Again (T : List ℕ) (a j : ℕ) (r : Optional ℕ) : Type 0 where
+  pub place : (e : ℕ) → r ≡ Some e → e ≤ length T
+  pub equal : (tab : List ℕ) (n : ℕ) (u v : Term) → Stands tab T n j u → Stands tab T n a v → v ≡ u → r ≡ Some (j + size u)
+  pub other : (tab : List ℕ) (n : ℕ) (u v : Term) → Stands tab T n j u → Stands tab T n a v → (v ≡ u → ⊥) → r ≡ None
 
 -- what `advance` answers
-abbrev pub BoundTo : List ℕ → List ℕ → ℕ → ℕ → Term → ℕ → List ℕ → Option (List Binding) → Type 0
-BoundTo tab T n j u r B none = r ≡ 0
-BoundTo tab T n j u r B (some bs) = (r ≡ j + size u) × Rep tab T n B bs
+abbrev pub BoundTo : List ℕ → List ℕ → ℕ → ℕ → Term → Optional ℕ → List ℕ → Option (List Binding) → Type 0
+BoundTo tab T n j u r B none = r ≡ None
+BoundTo tab T n j u r B (some bs) = (r ≡ Some (j + size u)) × Rep tab T n B bs
 
-pub record Advanced (T : List ℕ) (b j : ℕ) (B : List ℕ) (r : ℕ) (B' : List ℕ) : Type 0 where
+pub record Advanced (T : List ℕ) (b j : ℕ) (B : List ℕ) (r : Optional ℕ) (B' : List ℕ) : Type 0 where
   pub same : length B' ≡ length B
   pub within : Within T B'
-  pub place : r ≤ length T
-  pub differs : b < first_variable → r ≡ 0 → get_or T j 0 % cell_base ≡ b → ⊥
-  pub symbol : b < first_variable → (r ≡ 0 → ⊥) → (get_or T j 0 % cell_base ≡ b) × (r ≡ j + 1) × (B' ≡ B)
+  pub place : (e : ℕ) → r ≡ Some e → e ≤ length T
+  pub differs : b < first_variable → r ≡ None → get_or T j 0 % cell_base ≡ b → ⊥
+  pub symbol : (e : ℕ) → b < first_variable → r ≡ Some e → (get_or T j 0 % cell_base ≡ b) × (e ≡ j + 1) × (B' ≡ B)
   pub variable : (x : ℕ) → b ≡ first_variable + x → x < most_variables → (tab : List ℕ) (n : ℕ) (u : Term) → Stands tab T n j u → (bs : List Binding) →
       Rep tab T n B bs → BoundTo tab T n j u r B' (bind_to x u bs (bound bs x))
 

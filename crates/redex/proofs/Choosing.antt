@@ -10,7 +10,7 @@ use native.Mathlib.Numerals.{add-one}
 use lib.Dec.{eqb}
 use lib.ListN.{length, get_or}
 use Rattle.limits.specs.Limits.{first_variable, cell_base}
-use Rattle.std.specs.Prelude.{if◌then◌else◌}
+use Rattle.std.specs.Prelude.{if◌then◌else◌, Some, None}
 use Rattle.terms.specs.Base.{mapped, or_else}
 use Rattle.terms.specs.Term.{Term, var, node, term_bytes, terms_bytes, size}
 use Rattle.terms.proofs.Shape.{Says, eqb_says}
@@ -74,14 +74,11 @@ search_start = record {
 }
 
 module _ {rules T : List ℕ} {number k : ℕ} {B₀ B : List ℕ} (s : Searching rules T number k B₀ B) where
-  pub search_end : number ≤ k → FoundRule rules T number k B₀ B
+  pub search_end : number ≤ k → FoundRule rules T number None B₀ B
   unfolding root_step
   search_end h = record {
     same = s.same;
-    bounded = s.bounded;
-    within = λ l. absurd (omega arith);
-    lowest = λ l. absurd (omega arith);
-    missing = λ e tab rs st n x w. let m = s.remaining tab rs st n x w in sym m.same_step ∙ go m.rest m.counts x;
+    found = λ tab rs st n x w. let m = s.remaining tab rs st n x w in sym m.same_step ∙ go m.rest m.counts x;
   }
     where
       go : (rest : List Rule) → number ≡ k + length rest → (x : Term) → root_step rest x ≡ none
@@ -119,11 +116,8 @@ module _ {rules T : List ℕ} {number k : ℕ} {B₀ B : List ℕ} (s : Searchin
       remaining = λ tab rs st n x w. (tells tab rs st n x w).0 e;
     }
 
-    pub search_hit : r ≡ true → FoundRule rules T number k B₀ B'
+    pub search_hit : r ≡ true → FoundRule rules T number (Some k) B₀ B'
     search_hit e = record {
       same = f.same ∙ s.same;
-      bounded = omega arith;
-      within = λ q. f.within e;
-      lowest = λ q tab rs st n x w. (tells tab rs st n x w).1 e;
-      missing = λ q. absurd (omega arith);
+      found = record { below = l; within = f.within e; lowest = λ tab rs st n x w. (tells tab rs st n x w).1 e };
     }

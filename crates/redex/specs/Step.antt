@@ -1,6 +1,6 @@
 -- What the functions that look for a redex and rewrite it answer. Assumes nothing.
 -- Read first: specs/Marks, slots/specs/Slots (PairAt, Stored), matching/specs/Held (Rep, MatchingIs), rewriting/specs/Rewrite (root_step).
-use Rattle.std.specs.Prelude.{◌≡◌, Bool, true, false, List, [], ◌++◌, ℕ, zero, suc, ◌+◌, ◌<◌, ◌≤◌, ltb, length, take}
+use Rattle.std.specs.Prelude.{◌≡◌, Bool, true, false, List, [], ◌++◌, ℕ, zero, suc, ◌+◌, ◌<◌, ◌≤◌, ltb, length, take, Option as Optional, Some, None}
 use Rattle.std.proofs.Math.Option.{Option, none, some}
 use Rattle.limits.specs.Limits.{most_apart, most_variables}
 use Rattle.terms.specs.Term.{Term, Pair, size}
@@ -32,14 +32,20 @@ pub record Choice (tab rules T B : List ℕ) (k : ℕ) (x : Term) (o : Option Te
   pub held : Rep tab T (size x) B bindings
   pub result : o ≡ some (instantiate bindings rule.right)
 
-pub record FoundRule (rules T : List ℕ) (number k : ℕ) (B B' : List ℕ) : Type 0 where
-  pub same : length B' ≡ length B
-  pub bounded : k ≤ number
-  pub within : k < number → Within T B'
-  pub lowest : k < number → (tab : List ℕ) (rs : List Rule) → Stored tab rules 0 (sides_of rs) → number ≡ length rs → (x : Term) →
+pub record Lowest (rules T : List ℕ) (number k : ℕ) (B' : List ℕ) : Type 0 where
+  pub below : k < number
+  pub within : Within T B'
+  pub lowest : (tab : List ℕ) (rs : List Rule) → Stored tab rules 0 (sides_of rs) → number ≡ length rs → (x : Term) →
       Stands tab T (size x) 0 x → Choice tab rules T B' k x (root_step rs x)
-  pub missing : k ≡ number → (tab : List ℕ) (rs : List Rule) → Stored tab rules 0 (sides_of rs) → number ≡ length rs → (x : Term) →
-      Stands tab T (size x) 0 x → root_step rs x ≡ none
+
+abbrev pub IsFound : List ℕ → List ℕ → ℕ → List ℕ → Optional ℕ → Type 0
+IsFound rules T number B' (Some k) = Lowest rules T number k B'
+IsFound rules T number B' None = (tab : List ℕ) (rs : List Rule) → Stored tab rules 0 (sides_of rs) → number ≡ length rs → (x : Term) →
+    Stands tab T (size x) 0 x → root_step rs x ≡ none
+
+pub record FoundRule (rules T : List ℕ) (number : ℕ) (o : Optional ℕ) (B B' : List ℕ) : Type 0 where
+  pub same : length B' ≡ length B
+  pub found : IsFound rules T number B' o
 
 -- the term u, of which some subterms are known to be normal, and then `post` are the first `len` cells
 pub record CellsHold (tab : List ℕ) (rs : List Rule) (t : List ℕ) (len : ℕ) (u : Term) (post : List ℕ) : Type 0 where

@@ -11,6 +11,7 @@ ghost use Rattle.redex.specs.Step.{Fitted, FoundRule, out, RewritesRoot};
 ghost use Rattle.redex.specs.Contraction.{TermsTake, OpenPlaces, CellsSized, ContractedAt};
 
 use limits::NODES;
+use slots::System;
 
 // Whether rule k matches at the start of t.
 pub fn fits(rules: &[u8], k: usize, t: &[u16], binds: &mut [u8]) -> bool
@@ -27,20 +28,17 @@ pub fn fits(rules: &[u8], k: usize, t: &[u16], binds: &mut [u8]) -> bool
     matching::matches(slots::left(rules, k), t, binds)
 }
 
-// The lowest rule that matches at the start of t, or count.
-pub fn find(rules: &[u8], count: usize, t: &[u16], binds: &mut [u8]) -> usize
-    requires layout { Layout rules.now count }
+// The lowest rule that matches at the start of t.
+pub fn find(system: System, t: &[u16], binds: &mut [u8]) -> Option<usize>
     requires t_nonzero { (0 < length t.now) × (length t.now ≤ most_nodes) × (most_variables ≤ length binds.old) }
-    ensures { FoundRule rules.now t.now count result binds.old binds.new }
+    ensures { FoundRule system.entry.rules.now t.now system.entry.count result binds.old binds.new }
 {
-    let mut k = 0;
-    while k < count {
-        if fits(rules, k, t, binds) {
-            return k;
+    for k in 0..system.count {
+        if fits(system.rules, k, t, binds) {
+            return Some(k);
         }
-        k += 1;
     }
-    k
+    None
 }
 
 // The term at the start of t, which ends at `end`, gives way to the instance of rule k's right side: how many cells are in use then, or more than `most`.
@@ -101,28 +99,25 @@ pub fn rewrite(
     len: usize,
     end: usize,
     most: usize,
-    rules: &[u8],
-    count: usize,
+    system: System,
     units: u32,
 ) -> Out
-    requires layout { Layout rules.now count }
     requires end_nonzero { (0 < end) × (end ≤ len) × (len ≤ most) × (most ≤ length t.old) × (most ≤ most_nodes) }
-    ensures { RewritesRoot rules.now count t.old t.new len end most units result }
+    ensures { RewritesRoot system.entry.rules.now system.entry.count t.old t.new len end most units result }
 {
     t[0] = matching::sized(t[0], end);
     let mut binds = [0u8; limits::VARIABLES];
-    let k = find(rules, count, &t[0..len], &mut binds);
-    if k == count {
-        return ended(Step::Normal, units, len, end);
-    }
+    let Some(k) = find(system, &t[0..len], &mut binds) else {
+        return Out { step: Step::Normal, units, len, end };
+    };
     if units == 0 {
-        return ended(Step::Spent, 0, len, end);
+        return Out { step: Step::Spent, units, len, end };
     }
-    let w = contract(t, len, end, most, rules, k, &binds);
+    let w = contract(t, len, end, most, system.rules, k, &binds);
     if w > most {
-        return ended(Step::TooLarge, units - 1, len, end);
+        return Out { step: Step::TooLarge, units: units - 1, len, end };
     }
-    ended(Step::Rewritten, units - 1, w, 0)
+    Out { step: Step::Rewritten, units: units - 1, len: w, end: 0 }
 }
 
 // How many cells the n terms at the start of t take; all, where the cells end before.

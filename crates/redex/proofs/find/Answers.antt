@@ -1,27 +1,24 @@
--- `find`: the invariant is that the rules from k on decide the step as all do; the rules to come fall. Assumes nothing.
--- Read first: specs/Step (FoundRule), proofs/Choosing (Searching).
-use Rattle.redex.proofs.Choosing.{search_start, search_end, search_on, search_hit}
-use Rattle.slots.proofs.Layouts.{layout_less}
-use native.Mathlib.Omega.{arith}
-use Prim.Native.Nat.{◌-◌}
-use Rattle.std.proofs.Common.{rules}
+use Rattle.std.proofs.Common.{rules, ◌≡◌, ◌+◌, ◌-◌, ◌<◌, ◌≤◌, length, take, drop, ℕ, ◌*◌, ◌/◌, ◌%◌, Bool, true, false, nat_eq, nat_lt, List, [], ◌∷◌, ◌++◌, slice_index_or, slice_set, bit_and, bit_or, Fits, w8, w32, w64, Bor, MutBor}
+use Rattle.limits.specs.Limits.{most_nodes, most_variables}
+use Rattle.slots.specs.Slots.{slot, right_of, Layout}
+use Rattle.matching.specs.Held.{Within}
+use Rattle.matching.specs.Pieces.{Put, replaced}
+use Rattle.redex.specs.Step.{Fitted, FoundRule, out, RewritesRoot}
+use Rattle.redex.specs.Contraction.{TermsTake, OpenPlaces, CellsSized, ContractedAt}
 use Rattle.redex.proofs.find.Goals as goal
 
+-- src/lib.rt:36:5
 pub loop-k-init : goal.loop-k-init
-loop-k-init c = search_start
+loop-k-init c = ?
 
-pub fits-requires : goal.fits-requires
-fits-requires c =
-    record {
-      layout = layout_less (let q = c.loop-k-test.true in omega arith) c.requires.layout;
-      t_nonzero = let i = c.loop-k.invariant.same in search rules;
-    }
-
+-- src/lib.rt:38:13
 pub returns-then-fits : goal.returns-then-fits
-returns-then-fits c = search_hit c.loop-k.invariant c.loop-k-test.true c.fits.ensures c.if-fits.true
+returns-then-fits c = ?
 
+-- src/lib.rt:36:5
 pub loop-k-preserved : goal.loop-k-preserved
-loop-k-preserved c = search_on c.loop-k.invariant c.loop-k-test.true c.fits.ensures c.if-fits.false
+loop-k-preserved c = ?
 
+-- src/lib.rt:32:1
 pub returns : goal.returns
-returns c = search_end c.loop-k.invariant c.loop-k-test.false
+returns c = ?
