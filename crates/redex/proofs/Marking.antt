@@ -21,7 +21,8 @@ use Rattle.rewriting.specs.Rewrite.{bound, bound_or_variable, instantiate, root_
 use Rattle.rewriting.proofs.Matching.{by}
 use Rattle.matching.specs.Cells.{cells, cells_all, root_byte, cells_below, node_bytes, Stands}
 use Rattle.matching.specs.Held.{Slot, Rep}
-use Rattle.matching.specs.Pieces.{slot_of, first_cell, piece_at, piece, pieces}
+use Rattle.std.specs.Prelude.{Some}
+use Rattle.matching.specs.Pieces.{before, slot_of, first_cell, piece_at, piece, pieces}
 use Rattle.matching.proofs.Celled.{length_cells, cells_root, length_below, bytes_append, bytes_cells, cells_unique, stands_cell, stands_byte, stands_size}
 use Rattle.matching.proofs.Celled.{stands_below}
 use Rattle.matching.proofs.Filling.{slot_variable, slot_symbol, piece_byte}
@@ -35,11 +36,11 @@ module _ (tab T : List ℕ) (n k : ℕ) (u : Term) (s : Stands tab T n k u) wher
       let e : length (cells_below u) ≡ get_or T k 0 / cell_base - 1 = omega (arith, length_below u, stands_size tab T n k u s) in
       rw (stands_below tab T n k u s) (take_at (cells_below u) s.rest (get_or T k 0 / cell_base - 1) e)
 
-  piece_open : (b : ℕ) → k ≡ 0 → piece_at T b (suc k) ≡ open_cells u
+  piece_open : (b : ℕ) → k ≡ 0 → piece_at T b (Some k) ≡ open_cells u
   unfolding piece_at first_cell open_cells
   piece_open b z = ap₂ (λ c l. c ∷ l) (ap (λ j. first_cell j (get_or T k 0)) z ∙ stands_byte tab T n k u s) piece_below
 
-piece_later : (tab T : List ℕ) (n k : ℕ) (u : Term) → Stands tab T n (suc k) u → (b : ℕ) → piece_at T b (suc (suc k)) ≡ cells u
+piece_later : (tab T : List ℕ) (n k : ℕ) (u : Term) → Stands tab T n (suc k) u → (b : ℕ) → piece_at T b (Some (suc k)) ≡ cells u
 unfolding piece_at first_cell
 piece_later tab T n k u s b = ap₂ (λ c l. c ∷ l) (stands_cell tab T n (suc k) u s) (piece_below tab T n (suc k) u s) ∙ sym (cells_root u)
 
@@ -134,7 +135,7 @@ module _ (rs : List Rule) where
   module _
       (tab T B : List ℕ) (x : Term) (post : List ℕ) (w : Wf most_apart tab x) (e : T ≡ cells x ++ post) (an : ArgumentsNormal rs x)
       (bs : List Binding) (rep : Rep tab T (size x) B bs) where
-    slot_marked : (y k : ℕ) (o : Option Term) → Slot tab T (size x) k o → Marked rs (piece_at T (first_variable + y) k) (bound_or_variable y o)
+    slot_marked : (y k : ℕ) (o : Option Term) → Slot tab T (size x) k o → Marked rs (piece_at T (first_variable + y) (before k)) (bound_or_variable y o)
     unfolding piece_at bound_or_variable
     slot_marked y zero none s = leaf refl
     slot_marked y zero (some u) s = absurd s
@@ -148,12 +149,12 @@ module _ (rs : List Rule) where
     variable_marked : (y : ℕ) → y < most_variables → Marked rs (piece T B (first_variable + y)) (bound_or_variable y (bound bs y))
     unfolding piece
     variable_marked y h =
-        let s : slot_of B (first_variable + y) ≡ get_or B y 0 = slot_variable B (first_variable + y) y (omega arith) (omega arith) h in
+        let s : slot_of B (first_variable + y) ≡ before (get_or B y 0) = slot_variable B (first_variable + y) y (omega arith) (omega arith) h in
         subst (λ k. Marked rs (piece_at T (first_variable + y) k) (bound_or_variable y (bound bs y))) (sym s)
         (slot_marked y (get_or B y 0) (bound bs y) (rep y h))
 
     symbol_piece : (f : ℕ) → f < most_symbols → piece T B f ≡ f ∷ []
-    symbol_piece f h = sym (piece_byte T B f (slot_of B f) refl (slot_symbol B f (omega arith)))
+    symbol_piece f h = sym (piece_byte T B f (sym (slot_symbol B f (omega arith))))
 
     pieces_append : (a b : List ℕ) → pieces T B (a ++ b) ≡ pieces T B a ++ pieces T B b
     unfolding pieces

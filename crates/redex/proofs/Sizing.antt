@@ -5,6 +5,7 @@ use mathlib.Core.Path.{◌≡◌, refl, sym, ◌∙◌, ap, ap₂}
 use mathlib.Core.List.{List, [], ◌∷◌, ◌++◌, append_assoc, append-nil}
 use mathlib.Core.Logic.{⊎_elim}
 use Prim.Native.Nat.{ℕ, zero, suc, ◌+◌, ◌-◌, ◌*◌, ◌/◌, ◌%◌, ◌<◌, ◌≤◌}
+use Rattle.std.specs.Prelude.{min}
 use native.Mathlib.Omega.{arith}
 use native.Mathlib.Numerals.{add-one}
 use native.Mathlib.Decide.{dec_lt}
@@ -37,15 +38,15 @@ pub record TermsLeft (tab t : List ℕ) (ts : Terms) (rest : List ℕ) (k e : �
 pub record Taking (t : List ℕ) (n k e : ℕ) : Type 0 where
   pub is : (tab : List ℕ) (ts : Terms) (rest : List ℕ) → Wfs most_apart tab ts → count ts ≡ n → t ≡ cells_all ts ++ rest → TermsLeft tab t ts rest k e
 
-pub take_start : (t : List ℕ) (n : ℕ) → Taking t n n 0
-take_start t n = record { is = λ tab ts rest w c e. record { left = ts; wfs = w; number = c; sum = omega arith; text = e } }
+pub take_start : (t : List ℕ) (n : ℕ) → Taking t n (n - 0) 0
+take_start t n = record { is = λ tab ts rest w c e. record { left = ts; wfs = w; number = omega arith; sum = omega arith; text = e } }
 
 -- one term more
-next_left : (tab t : List ℕ) (ts : Terms) (rest : List ℕ) (k e n : ℕ) → n ≡ get_or t e 0 / cell_base → (us : Terms) → Wfs most_apart tab us → count us ≡ k →
-    (k ≡ 0 → ⊥) → e + sizes us ≡ sizes ts → drop e t ≡ cells_all us ++ rest → TermsLeft tab t ts rest (k - 1) (e + n)
+next_left : (tab t : List ℕ) (ts : Terms) (rest : List ℕ) (k e n : ℕ) → n ≡ get_or t e 0 / cell_base → (us : Terms) → Wfs most_apart tab us →
+    count us ≡ k + 1 → e + sizes us ≡ sizes ts → drop e t ≡ cells_all us ++ rest → TermsLeft tab t ts rest k (e + n)
 unfolding count sizes cells_all Wfs
-next_left tab t ts rest k e n q nil w c z s x = absurd (z (sym c))
-next_left tab t ts rest k e n q (cons y ys) w c z s x =
+next_left tab t ts rest k e n q nil w c s x = absurd (omega arith)
+next_left tab t ts rest k e n q (cons y ys) w c s x =
     let text : drop e t ≡ cells y ++ (cells_all ys ++ rest) = x ∙ append_assoc (cells y) (cells_all ys) rest in
     let st : Stands tab t (e + size y) e y = record { wf = w.0; rest = cells_all ys ++ rest; text = text; inside = omega arith } in
     let z : n ≡ size y = q ∙ stands_size tab t (e + size y) e y st in
@@ -69,11 +70,11 @@ none_size nil c = refl
 none_size (cons y ys) c = absurd (omega arith)
 
 module _ {t : List ℕ} {n k e : ℕ} (h : Taking t n k e) where
-  pub take_more : (k ≡ 0 → ⊥) → (m : ℕ) → m ≡ get_or t e 0 / cell_base → Taking t n (k - 1) (e + m)
-  take_more z m q = record {
+  pub take_more : (j : ℕ) → k ≡ j + 1 → (m : ℕ) → m ≡ get_or t e 0 / cell_base → Taking t n j (e + m)
+  take_more j z m q = record {
     is = λ tab ts rest w c x.
         let l = h.is tab ts rest w c x in
-        next_left tab t ts rest k e m q l.left l.wfs l.number z l.sum l.text;
+        next_left tab t ts rest j e m q l.left l.wfs (l.number ∙ z) l.sum l.text;
   }
 
   -- some terms are left, and no cell
@@ -92,14 +93,11 @@ module _ {t : List ℕ} {n k e : ℕ} (h : Taking t n k e) where
       let l = h.is tab ts rest w c x in
       omega (arith, l.sum, none_size l.left (l.number ∙ z))
 
-  pub take_all : k ≡ 0 → e ≤ length t → TermsTake t n e
-  take_all z o = record { within = o; is = taken z }
-
-  pub take_over : k ≡ 0 → length t < e → TermsTake t n (length t)
-  take_over z o = record {
+  pub take_all : k ≡ 0 → (r : ℕ) → r ≡ min e (length t) → TermsTake t n r
+  take_all z r q = record {
     within = omega arith;
     is = λ tab ts rest w c x.
-        absurd (omega (arith, taken z tab ts rest w c x, ap length x, length-append (cells_all ts) rest, length_cells_all ts));
+        omega (arith, taken z tab ts rest w c x, ap length x, length-append (cells_all ts) rest, length_cells_all ts);
   }
 
 -- a cell has one byte
@@ -233,9 +231,6 @@ below_done {t₀ = t₀} z h =
 module _
     {tab t₀ places₀ places t : List ℕ} {r k : ℕ} (P : OpenPlaces t₀ places₀ places r) (h : SizedBelow tab t₀ places t k) (some_left : 0 < k) (few : k ≤ r)
     (p : ℕ) (is : p ≡ get_or places (k - 1) 0) where
-  pub in_cells : p < length t
-  in_cells = let b = P.below (k - 1) (omega arith) in let s = h.sized.same in omega arith
-
   -- another one is before it
   earlier : (j : ℕ) → j < k → get_or places j 0 < p + 1
   earlier j l =

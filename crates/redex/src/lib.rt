@@ -20,10 +20,8 @@ pub fn fits(rules: &[u8], k: usize, t: &[u16], binds: &mut [u8]) -> bool
     ensures { Fitted rules.now t.now k binds.old result binds.new }
 {
     let b = slots::left_root(rules, k);
-    if b < limits::VARIABLE {
-        if matching::byte_of(t[0]) != b {
-            return false;
-        }
+    if b < limits::VARIABLE && matching::byte_of(t[0]) != b {
+        return false;
     }
     matching::matches(slots::left(rules, k), t, binds)
 }
@@ -41,7 +39,7 @@ pub fn find(system: System, t: &[u16], binds: &mut [u8]) -> Option<usize>
     None
 }
 
-// The term at the start of t, which ends at `end`, gives way to the instance of rule k's right side: how many cells are in use then, or more than `most`.
+// The term at the start of t, which ends at `end`, gives way to the instance of rule k's right side: how many cells are in use then.
 fn contract(
     t: &mut [u16],
     len: usize,
@@ -50,7 +48,7 @@ fn contract(
     rules: &[u8],
     k: usize,
     binds: &[u8],
-) -> usize
+) -> Option<usize>
     requires layout { Layout rules.now (k + 1) }
     requires end_le_len { (end ≤ len) × (len ≤ most) × (most ≤ length t.old) × (most ≤ most_nodes) }
     requires most_variables_in_bounds { (most_variables ≤ length binds.now) × Within (take len t.old) binds.now }
@@ -61,7 +59,7 @@ fn contract(
 }
 
 // What came of a term.
-#[derive(Clone, Copy)]
+#[derive(Clone, Copy, Debug, PartialEq, Eq)]
 pub enum Step {
     Normal,
     // A step was made at the root.
@@ -82,14 +80,15 @@ pub struct Out {
     pub end: usize,
 }
 
+// Kept: one line at each return, where a literal takes six.
 pub fn ended(step: Step, units: u32, len: usize, end: usize) -> Out
     ensures { result ≡ out step units len end }
 {
     Out {
-        step: step,
-        units: units,
-        len: len,
-        end: end,
+        step,
+        units,
+        len,
+        end,
     }
 }
 
@@ -108,16 +107,15 @@ pub fn rewrite(
     t[0] = matching::sized(t[0], end);
     let mut binds = [0u8; limits::VARIABLES];
     let Some(k) = find(system, &t[0..len], &mut binds) else {
-        return Out { step: Step::Normal, units, len, end };
+        return ended(Step::Normal, units, len, end);
     };
     if units == 0 {
-        return Out { step: Step::Spent, units, len, end };
+        return ended(Step::Spent, 0, len, end);
     }
-    let w = contract(t, len, end, most, system.rules, k, &binds);
-    if w > most {
-        return Out { step: Step::TooLarge, units: units - 1, len, end };
-    }
-    Out { step: Step::Rewritten, units: units - 1, len: w, end: 0 }
+    let Some(w) = contract(t, len, end, most, system.rules, k, &binds) else {
+        return ended(Step::TooLarge, units - 1, len, end);
+    };
+    ended(Step::Rewritten, units - 1, w, 0)
 }
 
 // How many cells the n terms at the start of t take; all, where the cells end before.
@@ -125,19 +123,14 @@ fn terms_take(t: &[u16], n: usize) -> usize
     requires { length t.now ≤ most_nodes }
     ensures { TermsTake t.now n result }
 {
-    let mut k = n;
     let mut e = 0;
-    while k > 0 {
+    for _ in 0..n {
         if e >= t.len() {
             return t.len();
         }
         e += matching::size_of(t[e]);
-        k -= 1;
     }
-    if e > t.len() {
-        return t.len();
-    }
-    e
+    e.min(t.len())
 }
 
 // The places of the cells that have no size, ascending; a subterm that has one is passed by it.
@@ -145,6 +138,7 @@ fn open_places(t: &[u16], places: &mut [u8]) -> usize
     requires { (length t.now ≤ most_nodes) × (most_nodes ≤ length places.old) }
     ensures { OpenPlaces t.now places.old places.new result }
 {
+    // Kept: i moves by a subterm's size.
     let mut i = 0;
     let mut count = 0;
     while i < t.len() {
@@ -166,18 +160,17 @@ pub fn size_cells(t: &mut [u16], table: &[u8])
     ensures { CellsSized table.now t.old t.new }
 {
     let mut places = [0u8; NODES];
-    let mut k = open_places(t, &mut places);
-    while k > 0 {
-        k -= 1;
-        let i = terms::wide(places[k]);
+    let count = open_places(t, &mut places);
+    for k in (0..count).rev() {
+        let i = usize::from(places[k]);
         let n = terms::owed_by(table, matching::byte_of(t[i]));
         let e = terms_take(&t[i + 1..], n);
         t[i] = matching::sized(t[i], e + 1);
     }
 }
 
-// Of the first `len` cells the term at `at`, whose cell has its size, gives way to the instance of rule k's right side: how many are in use then, or
-// more than `NODES`.
+// Of the first `len` cells the term at `at`, whose cell has its size, gives way to the instance of rule k's right side: how many are in use then; none
+// where they would be over `NODES`, or where the term does not end in the first `len`.
 pub fn contract_at(
     t: &mut [u16],
     len: usize,
@@ -185,7 +178,7 @@ pub fn contract_at(
     rules: &[u8],
     k: usize,
     binds: &[u8],
-) -> usize
+) -> Option<usize>
     requires layout { Layout rules.now (k + 1) }
     requires at_lt_len { (at < len) × (len ≤ most_nodes) × (length t.old ≡ most_nodes) }
     requires most_variables_in_bounds { (most_variables ≤ length binds.now) × Within (take (len - at) (drop at t.old)) binds.now }
@@ -193,12 +186,8 @@ pub fn contract_at(
 {
     let n = matching::size_of(t[at]);
     if len - at < n {
-        return NODES + 1;
+        return None;
     }
-    let room = NODES - at;
-    let w = contract(&mut t[at..], len - at, n, room, rules, k, binds);
-    if w > room {
-        return NODES + 1;
-    }
-    at + w
+    let w = contract(&mut t[at..], len - at, n, NODES - at, rules, k, binds)?;
+    Some(at + w)
 }

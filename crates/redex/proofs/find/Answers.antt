@@ -1,24 +1,21 @@
-use Rattle.std.proofs.Common.{rules, ◌≡◌, ◌+◌, ◌-◌, ◌<◌, ◌≤◌, length, take, drop, ℕ, ◌*◌, ◌/◌, ◌%◌, Bool, true, false, nat_eq, nat_lt, List, [], ◌∷◌, ◌++◌, slice_index_or, slice_set, bit_and, bit_or, Fits, w8, w32, w64, Bor, MutBor}
-use Rattle.limits.specs.Limits.{most_nodes, most_variables}
-use Rattle.slots.specs.Slots.{slot, right_of, Layout}
-use Rattle.matching.specs.Held.{Within}
-use Rattle.matching.specs.Pieces.{Put, replaced}
-use Rattle.redex.specs.Step.{Fitted, FoundRule, out, RewritesRoot}
-use Rattle.redex.specs.Contraction.{TermsTake, OpenPlaces, CellsSized, ContractedAt}
+-- `find`: the invariant is that the rules from k on decide the step as all do. Assumes nothing.
+-- Read first: specs/Step (FoundRule), proofs/Choosing (Searching).
+use Rattle.redex.proofs.Choosing.{search_start, search_end, search_on, search_hit}
+use Rattle.slots.proofs.Layouts.{layout_less}
+use native.Mathlib.Omega.{arith}
 use Rattle.redex.proofs.find.Goals as goal
 
--- src/lib.rt:36:5
 pub loop-k-init : goal.loop-k-init
-loop-k-init c = ?
+loop-k-init c = search_start
 
--- src/lib.rt:38:13
+pub fits-requires-clause-layout : goal.fits-requires-clause-layout
+fits-requires-clause-layout c = layout_less (let q = c.loop-k-test.true in omega arith) c.args.system.laid_out
+
 pub returns-then-fits : goal.returns-then-fits
-returns-then-fits c = ?
+returns-then-fits c = search_hit c.loop-k.invariant c.loop-k-test.true c.fits.ensures c.if-fits.true
 
--- src/lib.rt:36:5
 pub loop-k-preserved : goal.loop-k-preserved
-loop-k-preserved c = ?
+loop-k-preserved c = search_on c.loop-k.invariant c.loop-k-test.true c.fits.ensures c.if-fits.false
 
--- src/lib.rt:32:1
 pub returns : goal.returns
-returns c = ?
+returns c = search_end c.loop-k.invariant c.loop-k-test.false

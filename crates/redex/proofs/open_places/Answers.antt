@@ -2,26 +2,11 @@
 -- Read first: specs/Contraction (OpenPlaces), proofs/Places (Collected).
 use native.Mathlib.Omega.{arith}
 use mathlib.Core.Path.{refl, sym, ◌∙◌}
-use Prim.Native.Nat.{◌-◌}
 use Rattle.redex.proofs.Places.{collect_start, collect_skip, collect_more, collect_done}
-use Rattle.std.proofs.Common.{rules}
 use Rattle.redex.proofs.open_places.Goals as goal
 
 pub loop-i-init : goal.loop-i-init
 loop-i-init c = (refl, omega arith, omega arith, collect_start _ _)
-
-pub overflow_cast-places : goal.overflow_cast-places
-overflow_cast-places c =
-    let l = c.loop-i-test.true in
-    let p = c.requires in
-    search rules
-
-pub bounds-places-count : goal.bounds-places-count
-bounds-places-count c =
-    let l = c.loop-i-test.true in
-    let p = c.requires in
-    let v = c.loop-i.invariant in
-    search rules
 
 pub loop-i-preserved-then-n-eq0 : goal.loop-i-preserved-then-n-eq0
 loop-i-preserved-then-n-eq0 c =
@@ -30,11 +15,6 @@ loop-i-preserved-then-n-eq0 c =
     let v = c.loop-i.invariant in
     let C = collect_more v.3 l (omega arith) (sym c.size_of-n.ensures.0 ∙ c.if-n-eq0.true) in
     (C.same, C.after, omega arith, C)
-
-pub overflow_add-i-else-n-eq0 : goal.overflow_add-i-else-n-eq0
-overflow_add-i-else-n-eq0 c =
-    let s = c.size_of-n.ensures.1 in
-    search rules
 
 pub loop-i-preserved : goal.loop-i-preserved
 loop-i-preserved c =
