@@ -30,17 +30,17 @@ use Rattle.normaliser.proofs.Sequence.{normalise_nil, normalise_cons, then_other
 use Rattle.redex.proofs.Marking.{marked_lengths}
 use Rattle.redex.proofs.Parts.{back, from_take, back_length, back_take}
 
--- Of n terms k are still to do, from the cell p on; `behind` puts those in front of them that are done, and all come to `goal`.
+-- Of n terms k are done, and the others stand from the cell p on; `behind` puts the first k in front of them, and all come to `goal`.
 pub record Ahead (tab : List ℕ) (rs : List Rule) (post t : List ℕ) (n most k p l u : ℕ) (goal : Paid Terms) : Type 0 where
   pub todo : Terms
   pub big : ℕ → Bool
   pub limit : Limit big (most - p) post
   pub held : CellsHoldAll tab rs (from t p) (l - p) todo post
-  pub number : count todo ≡ k
+  pub number : count todo + k ≡ n
   pub behind : Terms → Terms
   pub answer : goal ≡ and_then (normalise_all rs big todo u) (λ us m. done (behind us) m)
   pub behind_size : (us : Terms) → sizes (behind us) ≡ p + sizes us
-  pub behind_count : (us : Terms) → count (behind us) + k ≡ n + count us
+  pub behind_count : (us : Terms) → count (behind us) ≡ k + count us
   pub behind_wf : (us : Terms) → Wfs most_apart tab us → Wfs most_apart tab (behind us)
   pub behind_cells : (us : Terms) → cells_all (behind us) ≡ take p t ++ cells_all us
 
@@ -60,7 +60,7 @@ and_done (done us m) = refl
 and_done (stop e m) = refl
 
 pub row_start : {tab rules : List ℕ} {number : ℕ} {t : List ℕ} {n len most units : ℕ} → (len ≤ most) × (most ≤ length t) × (most ≤ most_nodes) →
-    Row tab rules number t n len most units t n 0 len units
+    Row tab rules number t n len most units t 0 0 len units
 row_start {t = t} {len = len} {most} {units} h = record {
   same = refl;
   room = (h.1, h.2);
@@ -72,7 +72,7 @@ row_start {t = t} {len = len} {most} {units} h = record {
     big = big;
     limit = λ j. lim j ∙ (let z : most ≡ most - 0 = omega arith in ap (λ m. ltb m (j + length post)) z);
     held = record { wfs = h.wfs; marks = h.marks; marked = h.marked; text = from_take 0 len t (omega arith) ∙ h.text };
-    number = e;
+    number = omega arith;
     behind = λ us. us;
     answer = and_done (normalise_all rs big xs units);
     behind_size = λ us. omega arith;
@@ -89,10 +89,10 @@ module _
   fits = let a = i.same in let r = i.room in let b = i.place in let c = i.small in omega arith
 
   -- no term is left
-  end_go : (rs : List Rule) (post : List ℕ) {goal : Paid Terms} (a : Ahead tab rs post t n most k p l u goal) → k ≡ 0 → (todo : Terms) → todo ≡ a.todo →
+  end_go : (rs : List Rule) (post : List ℕ) {goal : Paid Terms} (a : Ahead tab rs post t n most k p l u goal) → n ≤ k → (todo : Terms) → todo ≡ a.todo →
       {ms : List ℕ} → MarkedAll rs ms todo → take (l - p) (from t p) ≡ ms ++ post → EndsAll tab t post n (out Normal u l p) goal
   unfolding count sizes cells_all and_then Wfs
-  end_go rs post a z (cons x xs) e h b = absurd (let c : suc (count xs) ≡ k = ap count e ∙ a.number in omega arith)
+  end_go rs post a z (cons x xs) e h b = absurd (let c : suc (count xs) ≡ count a.todo = ap count e in let m = a.number in omega arith)
   end_go rs post a z nil e (no_more q) b =
       let v = a.answer ∙ ap (λ us. and_then (normalise_all rs a.big us u) (λ us m. done (a.behind us) m)) (sym e)
       ∙ ap (λ o. and_then o (λ us m. done (a.behind us) m)) (normalise_nil rs a.big u) in
@@ -100,10 +100,11 @@ module _
       let x : take p (take l t) ≡ cells_all (a.behind nil) = take-take p l t i.place ∙ sym (append-nil (take p t)) ∙ sym (a.behind_cells nil) in
       let s = a.behind_size nil in
       let c = a.behind_count nil in
+      let m = a.number in
       subst (λ o. EndsAll tab t post n (out Normal u l p) o) (sym v)
       (refl, refl, omega arith, sym (take-append-drop p (take l t)) ∙ ap₂ ◌++◌ x y, a.behind_wf nil tt, omega arith)
 
-  pub row_end : {o : Out} → k ≡ 0 → o ≡ out Normal u l p → SettledAll tab rules number t₀ t n len most units o
+  pub row_end : {o : Out} → n ≤ k → o ≡ out Normal u l p → SettledAll tab rules number t₀ t n len most units o
   row_end z d = subst (λ o. SettledAll tab rules number t₀ t n len most units o) (sym d) (record {
     bounds = record { same = i.same; ends = i.place; small = i.small; cost = i.cost };
     answer = λ rs st m xs post h e big lim.
@@ -111,13 +112,13 @@ module _
   })
 
   -- the next term
-  module _ (nz : 0 < k) {q : List ℕ} {r : Out} (s : Settled tab rules number (from t p) q (l - p) (most - p) u r) where
+  module _ (more_left : k < n) {q : List ℕ} {r : Out} (s : Settled tab rules number (from t p) q (l - p) (most - p) u r) where
     abbrev After : List Rule → List ℕ → Paid Terms → Type 0
-    After rs post goal = (r.step ≡ Normal → Ahead tab rs post (back p t q) n most (k - 1) (r.end + p) (r.len + p) r.units goal) ×
+    After rs post goal = (r.step ≡ Normal → Ahead tab rs post (back p t q) n most (k + 1) (r.end + p) (r.len + p) r.units goal) ×
         ((r.step ≡ Normal → ⊥) → EndsAll tab (back p t q) post n r goal)
 
     after_first : (rs : List Rule) (post : List ℕ) {goal : Paid Terms} (a : Ahead tab rs post t n most k p l u goal) (xs : Terms) {ms : List ℕ} →
-        suc (count xs) ≡ k → Wfs most_apart tab xs → MarkedAll rs ms xs → (o : Paid Term) → EndsWith tab q (ms ++ post) r o →
+        suc (count xs) + k ≡ n → Wfs most_apart tab xs → MarkedAll rs ms xs → (o : Paid Term) → EndsWith tab q (ms ++ post) r o →
         goal ≡ and_then (and_then o (λ y m. then_others rs a.big xs y m)) (λ us m. done (a.behind us) m) → After rs post goal
     unfolding and_then size sizes count Wfs cells_all
     after_first rs post a xs c w h (stop e j) f g =
@@ -166,7 +167,7 @@ module _
         (a : Ahead tab rs post t n most k p l u goal) (todo : Terms) → todo ≡ a.todo → Wfs most_apart tab todo → {ms : List ℕ} → MarkedAll rs ms todo →
         take (l - p) (from t p) ≡ ms ++ post → After rs post goal
     unfolding Wfs count
-    after_go rs st m post a nil e w h b = absurd (let c : 0 ≡ k = ap count e ∙ a.number in omega arith)
+    after_go rs st m post a nil e w h b = absurd (let c : 0 ≡ count a.todo = ap count e in let m = a.number in omega arith)
     after_go rs st m post a (cons x xs) e w (more {a = y} {b = d} v h g) b =
         let big : ℕ → Bool = λ j. a.big (j + sizes xs) in
         let lim : Limit big (most - p) (d ++ post) = λ j.
@@ -174,7 +175,8 @@ module _
         a.limit (j + sizes xs) ∙ ap (ltb (most - p)) e) in
         let held : CellsHold tab rs (from t p) (l - p) x (d ++ post) =
         record { wf = w.0; marks = y; marked = h; text = b ∙ ap (λ z. z ++ post) v ∙ append_assoc y d post } in
-        after_first rs post a xs (ap count e ∙ a.number) w.1 g (normalise_in rs big x u) (s.answer rs st m x (d ++ post) held big lim)
+        let number : suc (count xs) + k ≡ n = let c : suc (count xs) ≡ count a.todo = ap count e in let m = a.number in omega arith in
+        after_first rs post a xs number w.1 g (normalise_in rs big x u) (s.answer rs st m x (d ++ post) held big lim)
         (a.answer ∙ ap (λ us. and_then (normalise_all rs a.big us u) (λ us m. done (a.behind us) m)) (sym e)
         ∙ ap (λ o. and_then o (λ us m. done (a.behind us) m)) (normalise_cons rs a.big x xs u))
 
@@ -206,7 +208,7 @@ module _
         }
 
     -- it is normal
-    pub row_on : r.step ≡ Normal → Row tab rules number t₀ n len most units (back p t q) (k - 1) (r.end + p) (r.len + p) r.units
+    pub row_on : r.step ≡ Normal → Row tab rules number t₀ n len most units (back p t q) (k + 1) (r.end + p) (r.len + p) r.units
     row_on z =
         let d = row_room in
         record {

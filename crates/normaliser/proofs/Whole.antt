@@ -28,7 +28,8 @@ use Rattle.redex.proofs.Marking.{plain}
 use Rattle.redex.proofs.Sizing.{bytes_length}
 use Rattle.normaliser.specs.Inside.{pay_for, normalise_in}
 use Rattle.normaliser.specs.Settled.{StepStops, EndsWith, Limit, Settled, WholeEnds, form_after, FormStops, SmallForm, NormalIs, Normalised, Reducible}
-use Rattle.normaliser.specs.declared.Form.{Form}
+use Rattle.std.specs.Prelude.{Result}
+use Rattle.normaliser.specs.declared.Stop.{Stop}
 use Rattle.normaliser.specs.declared.Reached.{Reached}
 use Rattle.normaliser.proofs.Sequence.{iterate_step, normalise_normal, normalise_whole}
 
@@ -52,7 +53,7 @@ form_small NoTerm n h = tt
 -- What stands in the first cells of t at the end is unloaded, by whichever strategy it came there.
 module _
     (tab t : List ℕ) (units : ℕ) (o : Out) (long : length t ≡ most_nodes) (few : o.len ≤ most_nodes) (less : o.units ≤ units)
-    (out out' C : List ℕ) (f : Form) (room : most_nodes ≤ length out) (eC : C ≡ take o.len t)
+    (out out' C : List ℕ) (f : Result ℕ Stop) (room : most_nodes ≤ length out) (eC : C ≡ take o.len t)
     (e' : out' ≡ node_bytes C ++ drop (length C) out) (ef : f ≡ form_after o.step o.len) where
   length_C : length C ≡ o.len
   length_C = ap length eC ∙ length-take-le o.len t (omega arith)
@@ -106,7 +107,7 @@ module _
   whole_ends (done y left) e = (e.0, e.1, e.3 ∙ append-nil (cells y), e.4)
   whole_ends (stop c left) e = e
 
-  pub whole : (out : List ℕ) {out' C : List ℕ} {f : Form} → most_nodes ≤ length out → C ≡ take o.len t₂ →
+  pub whole : (out : List ℕ) {out' C : List ℕ} {f : Result ℕ Stop} → most_nodes ≤ length out → C ≡ take o.len t₂ →
       out' ≡ node_bytes C ++ drop (length C) out → f ≡ form_after o.step o.len →
       Normalised normalise tab rules number S out out' units (record { form = f; paid = units - o.units })
   whole out {out'} {C} {f} room eC e' ef =

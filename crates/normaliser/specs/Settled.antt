@@ -1,5 +1,5 @@
 -- What the functions of the normaliser answer. Assumes nothing.
-use Rattle.std.specs.Prelude.{◌≡◌, Bool, List, ◌++◌, ℕ, ◌+◌, ◌*◌, ◌/◌, ◌≤◌, ltb, length, take}
+use Rattle.std.specs.Prelude.{◌≡◌, Bool, List, ◌++◌, ℕ, ◌+◌, ◌*◌, ◌/◌, ◌≤◌, ltb, length, take, Result, Ok, Err}
 use Rattle.limits.specs.Limits.{most_nodes, most_apart, cell_base}
 use Rattle.terms.specs.Base.{is_some}
 use Rattle.terms.specs.Term.{Term, Terms, term_bytes, size, sizes, count}
@@ -15,8 +15,10 @@ use Rattle.redex.specs.declared.Step.{Step}
 use Rattle.redex.specs.declared.Step.TheVariants.{Normal, Rewritten, Spent, TooLarge, NoTerm}
 use Rattle.normaliser.specs.Inside.{normalise_in, normalise_all}
 use Rattle.normaliser.specs.declared.Reached.{Reached}
-use Rattle.normaliser.specs.declared.Form.{Form}
-use Rattle.normaliser.specs.declared.Form.TheVariants.{Normal as NormalForm, Spent as SpentForm, TooLarge as TooLargeForm}
+use Rattle.normaliser.specs.declared.Stop.{Stop}
+use Rattle.normaliser.specs.declared.Stop.TheVariants.{Spent as NoUnit, TooLarge as NoRoom}
+use Rattle.rewriting.specs.declared.End.{End as Ending}
+use Rattle.rewriting.specs.declared.End.TheVariants.{Spent as EndSpent, TooLarge as EndTooLarge}
 
 -- terms, of which some subterms are known to be normal, and then `post` are the first `len` cells
 pub record CellsHoldAll (tab : List ℕ) (rs : List Rule) (t : List ℕ) (len : ℕ) (us : Terms) (post : List ℕ) : Type 0 where
@@ -73,26 +75,30 @@ pub record SettledAll (tab rules : List ℕ) (number : ℕ) (t t' : List ℕ) (n
       count xs ≡ n →
       (big : ℕ → Bool) → Limit big most post → EndsAll tab t' post n o (normalise_all rs big xs units)
 
--- `form_of`
-unfoldable pub form_after : Step → ℕ → Form
-form_after Normal len = NormalForm len
-form_after Rewritten len = TooLargeForm
-form_after Spent len = SpentForm
-form_after TooLarge len = TooLargeForm
-form_after NoTerm len = TooLargeForm
+-- the end of a run that stops so
+abbrev pub end_of : Stop → Ending
+end_of NoUnit = EndSpent
+end_of NoRoom = EndTooLarge
 
-abbrev pub FormStops : End → Form → Type 0
+-- `form_of`
+unfoldable pub form_after : Step → ℕ → Result ℕ Stop
+form_after Normal len = Ok len
+form_after Rewritten len = Err NoRoom
+form_after Spent len = Err NoUnit
+form_after TooLarge len = Err NoRoom
+form_after NoTerm len = Err NoRoom
+
+abbrev pub FormStops : End → Result ℕ Stop → Type 0
 FormStops complete f = ⊥
 FormStops neither_above f = ⊥
-FormStops spent f = f ≡ SpentForm
-FormStops too_large f = f ≡ TooLargeForm
+FormStops spent f = f ≡ Err NoUnit
+FormStops too_large f = f ≡ Err NoRoom
 FormStops rules_full f = ⊥
 FormStops log_full f = ⊥
 
-abbrev pub SmallForm : Form → Type 0
-SmallForm (NormalForm n) = n ≤ most_nodes
-SmallForm SpentForm = Unit {0}
-SmallForm TooLargeForm = Unit {0}
+abbrev pub SmallForm : Result ℕ Stop → Type 0
+SmallForm (Ok n) = n ≤ most_nodes
+SmallForm (Err e) = Unit {0}
 
 -- how a walk over a whole term ends, by whichever strategy: with a last term's cells, or with an end
 abbrev pub WholeEnds : List ℕ → List ℕ → Out → Paid Term → Type 0
@@ -102,7 +108,7 @@ WholeEnds tab t o (stop e left) = StepStops e o.step × (o.units ≡ left)
 -- `normalise`: exactly as the definition says, which is `by`, and the units paid are those it takes
 abbrev pub NormalIs : List ℕ → List ℕ → ℕ → Reached → Paid Term → Type 0
 NormalIs tab out units o (done y left) =
-    (o.form ≡ NormalForm (size y)) × (o.paid + left ≡ units) × (take (size y) out ≡ term_bytes y) × Wf most_apart tab y
+    (o.form ≡ Ok (size y)) × (o.paid + left ≡ units) × (take (size y) out ≡ term_bytes y) × Wf most_apart tab y
 NormalIs tab out units o (stop e left) = FormStops e o.form × (o.paid + left ≡ units)
 
 pub record Normalised (by : List Rule → Term → Paying Term) (tab rules : List ℕ) (number : ℕ) (t out out' : List ℕ) (units : ℕ) (o : Reached) : Type 0 where

@@ -5,11 +5,12 @@ ghost use Rattle.std.specs.Prelude.{◌≡◌, ◌++◌, ◌≤◌, length, drop
 ghost use Rattle.limits.specs.Limits.{most_nodes, cell_base};
 ghost use Rattle.rewriting.specs.Rewrite.{normalise};
 ghost use Rattle.matching.specs.Cells.{node_bytes};
-ghost use Rattle.slots.specs.Slots.{Layout};
-ghost use Rattle.normaliser.specs.Settled.{LeftNormal, Settled, SettledAll, form_after, Normalised, Reducible};
+ghost use Rattle.normaliser.specs.Settled.{LeftNormal, Settled, SettledAll, end_of, form_after, Normalised, Reducible};
 
 use limits::NODES;
 use redex::{Out, Step};
+use rewriting::End;
+use slots::System;
 
 // The first cell that has a size.
 const SIZED: u16 = limits::CELL;
@@ -28,18 +29,9 @@ fn leave(c: u16, len: usize, units: u32) -> Out
 
 // Normalises the term at the start of t, of which `len` cells are in use and at most `most` may be.
 #[cycle(normalise)]
-fn normalise_in(
-    t: &mut [u16],
-    len: usize,
-    most: usize,
-    table: &[u8],
-    rules: &[u8],
-    count: usize,
-    units: u32,
-) -> Out
-    requires layout { Layout rules.now count }
+fn normalise_in(t: &mut [u16], len: usize, most: usize, system: System, units: u32) -> Out
     requires len_le_most { (len ≤ most) × (most ≤ length t.old) × (most ≤ most_nodes) }
-    ensures { Settled table.now rules.now count t.old t.new len most units result }
+    ensures { Settled system.entry.table.now system.entry.rules.now system.entry.count t.old t.new len most units result }
 {
     let mut l = len;
     let mut u = units;
@@ -51,16 +43,13 @@ fn normalise_in(
         if c >= SIZED {
             return leave(c, l, u);
         }
-        let n = terms::owed_by(table, matching::byte_of(c));
-        let m = most - 1;
-        let r = normalise_all(&mut t[1..], n, l - 1, m, table, rules, count, u);
-        let below = r.step;
-        let Step::Normal = below else {
+        let n = terms::owed_by(system.table, matching::byte_of(c));
+        let r = normalise_all(&mut t[1..], n, l - 1, most - 1, system, u);
+        let Step::Normal = r.step else {
             return r;
         };
-        let s = redex::rewrite(t, r.len + 1, r.end + 1, most, rules, count, r.units);
-        let here = s.step;
-        let Step::Rewritten = here else {
+        let s = redex::rewrite(t, r.len + 1, r.end + 1, most, system, r.units);
+        let Step::Rewritten = s.step else {
             return s;
         };
         l = s.len;
@@ -75,38 +64,25 @@ fn normalise_all(
     n: usize,
     len: usize,
     most: usize,
-    table: &[u8],
-    rules: &[u8],
-    count: usize,
+    system: System,
     units: u32,
 ) -> Out
-    requires layout { Layout rules.now count }
     requires len_le_most { (len ≤ most) × (most ≤ length t.old) × (most ≤ most_nodes) }
-    ensures { SettledAll table.now rules.now count t.old t.new n len most units result }
+    ensures { SettledAll system.entry.table.now system.entry.rules.now system.entry.count t.old t.new n len most units result }
 {
-    let mut k = n;
     let mut p = 0;
     let mut l = len;
     let mut u = units;
-    while k > 0 {
-        let m = most - p;
-        let r = normalise_in(&mut t[p..], l - p, m, table, rules, count, u);
-        let step = r.step;
-        let Step::Normal = step else {
+    for _ in 0..n {
+        let r = normalise_in(&mut t[p..], l - p, most - p, system, u);
+        let Step::Normal = r.step else {
             return r;
         };
         l = r.len + p;
         p = r.end + p;
         u = r.units;
-        k -= 1;
     }
     redex::ended(Step::Normal, u, l, p)
-}
-
-fn cell(b: u8) -> u16
-    ensures { result ≡ b }
-{
-    b as u16
 }
 
 // The bytes of t as cells: nothing is known to be normal.
@@ -114,10 +90,8 @@ pub fn load(t: &[u8], cells: &mut [u16])
     requires { length t.now ≤ length cells.old }
     ensures { cells.new ≡ t.now ++ drop (length t.now) cells.old }
 {
-    let mut i = 0;
-    while i < t.len() {
-        cells[i] = cell(t[i]);
-        i += 1;
+    for i in 0..t.len() {
+        cells[i] = u16::from(t[i]);
     }
 }
 
@@ -126,79 +100,74 @@ pub fn unload(cells: &[u16], t: &mut [u8])
     requires { length cells.now ≤ length t.old }
     ensures { t.new ≡ node_bytes cells.now ++ drop (length cells.now) t.old }
 {
-    let mut i = 0;
-    while i < cells.len() {
+    for i in 0..cells.len() {
         t[i] = matching::byte_of(cells[i]);
-        i += 1;
     }
 }
 
 // Whether some rule matches some node of the term t: a step would be due.
-pub fn reducible(t: &[u8], table: &[u8], rules: &[u8], count: usize) -> bool
-    requires layout { Layout rules.now count }
+pub fn reducible(t: &[u8], system: System) -> bool
     requires t_len_bound { length t.now ≤ most_nodes }
-    ensures { Reducible table.now rules.now count t.now result }
+    ensures { Reducible system.entry.table.now system.entry.rules.now system.entry.count t.now result }
 {
     let mut cells = [0u16; NODES];
     load(t, &mut cells);
-    let r = normalise_in(&mut cells, t.len(), NODES, table, rules, count, 0);
-    let step = r.step;
-    match step {
-        Step::Spent => true,
-        _ => false,
-    }
+    let r = normalise_in(&mut cells, t.len(), NODES, system, 0);
+    matches!(r.step, Step::Spent)
 }
 
-// What a term's form is.
-#[derive(Drop)]
-pub enum Form {
-    // The normal form stands in the lent bytes, so many of them.
-    Normal(usize),
+// Why a term came to no last one.
+#[derive(Clone, Copy, Debug, PartialEq, Eq)]
+pub enum Stop {
     // A step is due, and no unit is left.
     Spent,
     // A step's term is too large.
     TooLarge,
 }
 
+// The end of a run that stops so.
+impl From<Stop> for End {
+    ghost from_gives = { λ stop end. end ≡ end_of stop };
+
+    fn from(stop: Stop) -> End {
+        match stop {
+            Stop::Spent => End::Spent,
+            Stop::TooLarge => End::TooLarge,
+        }
+    }
+}
+
 #[derive(Drop)]
 pub struct Reached {
-    pub form: Form,
+    // The length of the last term, whose bytes are at the front of those lent.
+    pub form: Result<usize, Stop>,
     // The units paid, one a step.
     pub paid: u32,
 }
 
 // How the walk over a term ended. Bytes that are no term do not come here.
-pub fn form_of(step: Step, len: usize) -> Form
+pub fn form_of(step: Step, len: usize) -> Result<usize, Stop>
     ensures { result ≡ form_after step len }
 {
     match step {
-        Step::Normal => Form::Normal(len),
-        Step::Spent => Form::Spent,
-        _ => Form::TooLarge,
+        Step::Normal => Ok(len),
+        Step::Spent => Err(Stop::Spent),
+        _ => Err(Stop::TooLarge),
     }
 }
 
-// The normal form of the term t, by the first `count` rules, for at most `units` steps, to the front of `out`.
-pub fn normalise(
-    t: &[u8],
-    table: &[u8],
-    rules: &[u8],
-    count: usize,
-    units: u32,
-    out: &mut [u8],
-) -> Reached
-    requires layout { Layout rules.now count }
+// The normal form of the term t, by the rules of a system, for at most `units` steps, to the front of `out`.
+pub fn normalise(t: &[u8], system: System, units: u32, out: &mut [u8]) -> Reached
     requires t_len_bound { (length t.now ≤ most_nodes) × (most_nodes ≤ length out.old) }
-    ensures { Normalised normalise table.now rules.now count t.now out.old out.new units result }
+    ensures { Normalised normalise system.entry.table.now system.entry.rules.now system.entry.count t.now out.old out.new units result }
 {
     let mut cells = [0u16; NODES];
     load(t, &mut cells);
-    let r = normalise_in(&mut cells, t.len(), NODES, table, rules, count, units);
+    let r = normalise_in(&mut cells, t.len(), NODES, system, units);
     let n = r.len;
     unload(&cells[0..n], out);
-    let step = r.step;
     Reached {
-        form: form_of(step, n),
+        form: form_of(r.step, n),
         paid: units - r.units,
     }
 }

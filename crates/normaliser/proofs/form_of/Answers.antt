@@ -1,7 +1,8 @@
 -- `form_of`: each variant of the step, by computation. Assumes nothing.
 -- Read first: specs/Settled (form_after).
 use Rattle.normaliser.specs.Settled.{form_after}
-use Rattle.normaliser.specs.declared.Form.TheVariants.{TooLarge as TooLargeForm}
+use Rattle.std.specs.Prelude.{Err}
+use Rattle.normaliser.specs.declared.Stop.TheVariants.{TooLarge as NoRoom}
 use Rattle.redex.specs.declared.Step.{Step}
 use Rattle.redex.specs.declared.Step.TheVariants.{Normal, Rewritten, Spent, TooLarge, NoTerm}
 use mathlib.Core.Path.{◌≡◌, refl, sym, ap}
@@ -9,7 +10,7 @@ use Prim.Native.Nat.{ℕ}
 use Rattle.normaliser.proofs.form_of.Goals as goal
 
 -- every other variant
-other : (s : Step) (n : ℕ) → (s ≡ Normal → ⊥) → (s ≡ Spent → ⊥) → TooLargeForm ≡ form_after s n
+other : (s : Step) (n : ℕ) → (s ≡ Normal → ⊥) → (s ≡ Spent → ⊥) → Err NoRoom ≡ form_after s n
 unfolding form_after
 other Normal n a b = absurd (a refl)
 other Rewritten n a b = refl
