@@ -12,7 +12,6 @@ use borrow.Author.Tests.{lt-ltb, le-ltb}
 use lib.ListN.{length, get_or, take, drop, set, length-append, length-set}
 use lib.Seq.{drop_at, drop-drop, drop-set-lt, take-add, take-append-le, take_at, take-suc-set, take-take, get_or-take, get_or-drop}
 use Rattle.limits.specs.Limits.{most_apart, cell_base}
-use Rattle.std.specs.Prelude.{if◌then◌else◌}
 use Rattle.terms.specs.Term.{Term, Terms, var, node, nil, cons, size, sizes}
 use Rattle.terms.specs.Flat.{Wf, Wfs}
 use Rattle.terms.proofs.Context.{Ctx, Ctxs, hole, beneath, first, later, plug, plugs}
@@ -23,7 +22,8 @@ use Rattle.matching.proofs.Celled.{length_cells, length_cells_all, cells_root, r
 use Rattle.redex.specs.Marks.{Marked, MarkedAll, visit, more}
 use Rattle.redex.proofs.PartSized.{sized, sized_all}
 use Rattle.redex.proofs.Standing.{behind, behinds}
-use Rattle.outer_normaliser.specs.Outer.{Skipped, opened_to, opened_in, PathOpened}
+use Rattle.std.specs.Prelude.{None}
+use Rattle.outer_normaliser.specs.Outer.{Passed, Skipped, opened_to, opened_in, PathOpened}
 
 -- the node's place is the first one
 opened_zero : (t : Term) → opened_to t 0 ≡ []
@@ -108,14 +108,14 @@ module _ {t₀ : List ℕ} {at : ℕ} {t : List ℕ} {i : ℕ} (h : Opening t₀
     byte_there = ap (λ c. c % cell_base) cell_there ∙ cell_byte (root_byte y) (size y) (root_low tab y w)
 
   -- a term that ends before the node is passed
-  skip_left : (tab : List ℕ) (x : Term) (n : ℕ) → (n ≡ 0 → ⊥) → Skipped (get_or t i 0) i at n → (ts : Terms) → Wfs most_apart tab ts → (p : ℕ) → i + p ≡ at →
+  skip_left : (tab : List ℕ) (x : Term) (n : ℕ) → Passed (get_or t i 0) i at n → (ts : Terms) → Wfs most_apart tab ts → (p : ℕ) → i + p ≡ at →
       p < sizes ts → take p (drop i t₀) ≡ take p (cells_all ts) → take i t ++ opened_in ts p ≡ opened_to x at → Left tab x at t₀ t (i + n)
   unfolding Wfs sizes cells_all opened_in
-  skip_left tab x n z S nil w p sum low text whole = absurd (omega arith)
-  skip_left tab x n z S (cons y ys) w p sum low text whole =
-      let s = S.passes z in
-      let o = s.1 in
-      let m : n ≡ size y = s.0 ∙ size_there tab y ys w.0 p sum text in
+  skip_left tab x n S nil w p sum low text whole = absurd (omega arith)
+  skip_left tab x n S (cons y ys) w p sum low text whole =
+      let o = S.ends in
+      let z = S.some_node in
+      let m : n ≡ size y = S.size ∙ size_there tab y ys w.0 p sum text in
       let l : length (cells y) ≡ n = length_cells y ∙ sym m in
       let c : n ≤ p = omega arith in
       let q : n + (p - n) ≡ p = omega arith in
@@ -138,29 +138,29 @@ module _ {t₀ : List ℕ} {at : ℕ} {t : List ℕ} {i : ℕ} (h : Opening t₀
             ∙ append_assoc (take i t) (cells y) (opened_in ys (p - n)) ∙ ap (λ k. take i t ++ k) (sym later) ∙ whole;
       }
 
-  pub open_skip : {n : ℕ} → Skipped (get_or t i 0) i at n → (n ≡ 0 → ⊥) → Opening t₀ at t (i + n)
-  open_skip {n} S z = record {
+  pub open_skip : {n : ℕ} → Passed (get_or t i 0) i at n → Opening t₀ at t (i + n)
+  open_skip {n} S = record {
     same = h.same;
-    within = (S.passes z).1;
+    within = S.ends;
     rest = sym (drop-drop n i t) ∙ ap (drop n) h.rest ∙ drop-drop n i t₀;
     is = λ tab x w o q.
         let L = h.is tab x w o q in
-        skip_left tab x n z S L.terms L.wfs L.place L.sum L.low L.text L.whole;
+        skip_left tab x n S L.terms L.wfs L.place L.sum L.low L.text L.whole;
   }
 
   -- a node above it loses its size
-  node_left : (tab : List ℕ) (x : Term) (c n : ℕ) → c ≡ get_or t i 0 % cell_base + cell_base * 0 → Skipped (get_or t i 0) i at n → n ≡ 0 → (ts : Terms) →
+  node_left : (tab : List ℕ) (x : Term) (c : ℕ) → c ≡ get_or t i 0 % cell_base + cell_base * 0 → Skipped (get_or t i 0) i at None → (ts : Terms) →
       Wfs most_apart tab ts → (p : ℕ) → i + p ≡ at → p < sizes ts → take p (drop i t₀) ≡ take p (cells_all ts) →
       take i t ++ opened_in ts p ≡ opened_to x at → Left tab x at t₀ (set t i c) (i + 1)
   unfolding Wf Wfs size sizes cells cells_all root_byte opened_to opened_in
-  node_left tab x c n e S z nil w p sum low text whole = absurd (omega arith)
-  node_left tab x c n e S z (cons (var v) ys) w p sum low text whole =
+  node_left tab x c e S nil w p sum low text whole = absurd (omega arith)
+  node_left tab x c e S (cons (var v) ys) w p sum low text whole =
       let m = size_there tab (var v) ys w.0 p sum text in
-      absurd (⊎_elim (λ s. omega arith) (λ o. omega arith) (S.stops z))
-  node_left tab x c n e S z (cons (node f us) ys) w zero sum low text whole = absurd (omega arith)
-  node_left tab x c n e S z (cons (node f us) ys) w (suc p) sum low text whole =
+      absurd (⊎_elim (λ s. omega arith) (λ o. omega arith) S)
+  node_left tab x c e S (cons (node f us) ys) w zero sum low text whole = absurd (omega arith)
+  node_left tab x c e S (cons (node f us) ys) w (suc p) sum low text whole =
       let m = size_there tab (node f us) ys w.0 (suc p) sum text in
-      let inside : p < sizes us = ⊎_elim (λ s. absurd (omega arith)) (λ o. omega arith) (S.stops z) in
+      let inside : p < sizes us = ⊎_elim (λ s. absurd (omega arith)) (λ o. omega arith) S in
       let byte : c ≡ f = let b = byte_there tab (node f us) ys w.0 (suc p) sum text in omega arith in
       let path : opened_in (cons (node f us) ys) (suc p) ≡ f ∷ opened_in us p = rw (lt-ltb (suc p) (size (node f us)) (omega arith)) refl in
       let j : 1 + p ≡ suc p = omega arith in
@@ -178,14 +178,14 @@ module _ {t₀ : List ℕ} {at : ℕ} {t : List ℕ} {i : ℕ} (h : Opening t₀
             ∙ append_assoc (take i t) (f ∷ []) (opened_in us p) ∙ ap (λ k. take i t ++ k) (sym path) ∙ whole;
       }
 
-  pub open_node : {c n : ℕ} → c ≡ get_or t i 0 % cell_base + cell_base * 0 → Skipped (get_or t i 0) i at n → n ≡ 0 → Opening t₀ at (set t i c) (i + 1)
-  open_node {c} {n} e S z = record {
+  pub open_node : {c : ℕ} → c ≡ get_or t i 0 % cell_base + cell_base * 0 → Skipped (get_or t i 0) i at None → Opening t₀ at (set t i c) (i + 1)
+  open_node {c} e S = record {
     same = length-set t i c ∙ h.same;
     within = omega arith;
     rest = drop-set-lt (i + 1) t i c (omega arith) ∙ sym (drop-drop 1 i t) ∙ ap (drop 1) h.rest ∙ drop-drop 1 i t₀;
     is = λ tab x w o q.
         let L = h.is tab x w o q in
-        node_left tab x c n e S z L.terms L.wfs L.place L.sum L.low L.text L.whole;
+        node_left tab x c e S L.terms L.wfs L.place L.sum L.low L.text L.whole;
   }
 
 module _ (y v : Term) (l : List ℕ) (m : Marked [] l v) where

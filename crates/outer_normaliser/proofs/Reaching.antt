@@ -26,7 +26,8 @@ use Rattle.redex.specs.Contraction.{CellsSized}
 use Rattle.redex.specs.Marks.{Marked}
 use Rattle.redex.proofs.Marking.{plain}
 use Rattle.normaliser.specs.Settled.{form_after, WholeEnds, Normalised}
-use Rattle.normaliser.specs.declared.Form.{Form}
+use Rattle.std.specs.Prelude.{Result}
+use Rattle.normaliser.specs.declared.Stop.{Stop}
 use Rattle.normaliser.proofs.Whole.{unloaded}
 use Rattle.outer_normaliser.specs.Outer.{HoldsClean, OuterTested, OuterStep, SteppedOuter, ReachedOuter}
 use Rattle.outer_normaliser.proofs.Returning.{sized_back}
@@ -102,7 +103,7 @@ going_ends t₀ len Q h Z G S n a b = record {
 module _
     {tab rules : List ℕ} {number : ℕ} (S z : List ℕ) {t₁ t₂ : List ℕ} {units : ℕ} {o : Out} (short : length S ≤ most_nodes) (lz : length z ≡ most_nodes)
     (e₁ : t₁ ≡ S ++ drop (length S) z) (s : ReachedOuter tab rules number t₁ (length S) units t₂ o)
-    (out : List ℕ) {out' C : List ℕ} {f : Form} (room : most_nodes ≤ length out) (eC : C ≡ take o.len t₂)
+    (out : List ℕ) {out' C : List ℕ} {f : Result ℕ Stop} (room : most_nodes ≤ length out) (eC : C ≡ take o.len t₂)
     (e' : out' ≡ node_bytes C ++ drop (length C) out) (ef : f ≡ form_after o.step o.len) where
   reached_length : length t₂ ≡ most_nodes
   reached_length = s.same ∙ ap length e₁ ∙ length-append S (drop (length S) z) ∙ omega (arith, length-drop (length S) z)

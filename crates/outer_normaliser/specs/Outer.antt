@@ -1,6 +1,6 @@
 -- What the functions that normalise from the outside in answer. Assumes nothing.
 -- Read first: rewriting/specs/Outermost, matching/specs/Cells, redex/specs/Step (Choice), normaliser/specs/Settled (WholeEnds).
-use Rattle.std.specs.Prelude.{◌≡◌, Bool, true, false, List, [], ◌∷◌, ◌++◌, ◌⊎◌, ℕ, zero, suc, ◌+◌, ◌-◌, ◌/◌, ◌<◌, ◌≤◌, ltb, length, take, drop}
+use Rattle.std.specs.Prelude.{◌≡◌, Bool, true, false, List, [], ◌∷◌, ◌++◌, ◌⊎◌, ℕ, zero, suc, ◌+◌, ◌-◌, ◌/◌, ◌<◌, ◌≤◌, ltb, length, take, drop, Option as Optional, Some, None}
 use Rattle.std.proofs.Math.Option.{Option, none, some}
 use Rattle.limits.specs.Limits.{most_nodes, most_apart, byte_values, cell_base}
 use Rattle.std.specs.Prelude.{if◌then◌else◌}
@@ -19,10 +19,15 @@ use Rattle.normaliser.specs.Settled.{WholeEnds}
 use Rattle.outer_normaliser.specs.declared.Found.{Found}
 
 -- `skipped`
-pub record Skipped (c i clean r : ℕ) : Type 0 where
+pub record Passed (c i clean r : ℕ) : Type 0 where
   pub few : r < byte_values
-  pub passes : (r ≡ 0 → ⊥) → (r ≡ c / cell_base) × (i + r ≤ clean)
-  pub stops : r ≡ 0 → (c / cell_base ≡ 0) ⊎ (clean < i + c / cell_base)
+  pub some_node : 0 < r
+  pub size : r ≡ c / cell_base
+  pub ends : i + r ≤ clean
+
+abbrev pub Skipped : ℕ → ℕ → ℕ → Optional ℕ → Type 0
+Skipped c i clean (Some r) = Passed c i clean r
+Skipped c i clean None = (c / cell_base ≡ 0) ⊎ (clean < i + c / cell_base)
 
 -- no rule matches a node before i
 abbrev pub NoneBefore : List Rule → Term → ℕ → Type 0
@@ -40,14 +45,21 @@ pub record Chosen (tab rules t B : List ℕ) (at k : ℕ) (rs : List Rule) (x : 
   pub clean : NoneBefore rs x at
 
 -- `first_redex`
-pub record FirstRedex (rules t : List ℕ) (clean number : ℕ) (B B' : List ℕ) (o : Found) : Type 0 where
+pub record Earliest (rules t : List ℕ) (clean number : ℕ) (B' : List ℕ) (f : Found) : Type 0 where
+  pub low : f.at < length t
+  pub rule : f.rule < number
+  pub within : Within (drop f.at t) B'
+  pub chosen : (tab : List ℕ) (rs : List Rule) → Stored tab rules 0 (sides_of rs) → number ≡ length rs → (x : Term) →
+      Wf most_apart tab x → t ≡ cells x → CleanTo rs x clean → Chosen tab rules t B' f.at f.rule rs x
+
+abbrev pub IsFirst : List ℕ → List ℕ → ℕ → ℕ → List ℕ → Optional Found → Type 0
+IsFirst rules t clean number B' (Some f) = Earliest rules t clean number B' f
+IsFirst rules t clean number B' None = (tab : List ℕ) (rs : List Rule) → Stored tab rules 0 (sides_of rs) → number ≡ length rs → (x : Term) →
+    Wf most_apart tab x → t ≡ cells x → CleanTo rs x clean → step_outer rs x ≡ none
+
+pub record FirstRedex (rules t : List ℕ) (clean number : ℕ) (B B' : List ℕ) (o : Optional Found) : Type 0 where
   pub same : length B' ≡ length B
-  pub rule : o.at < length t → o.rule < number
-  pub within : o.at < length t → Within (drop o.at t) B'
-  pub missing : length t ≤ o.at → (tab : List ℕ) (rs : List Rule) → Stored tab rules 0 (sides_of rs) → number ≡ length rs → (x : Term) →
-      Wf most_apart tab x → t ≡ cells x → CleanTo rs x clean → step_outer rs x ≡ none
-  pub chosen : o.at < length t → (tab : List ℕ) (rs : List Rule) → Stored tab rules 0 (sides_of rs) → number ≡ length rs → (x : Term) →
-      Wf most_apart tab x → t ≡ cells x → CleanTo rs x clean → Chosen tab rules t B' o.at o.rule rs x
+  pub found : IsFirst rules t clean number B' o
 
 -- the cells before the node at p, where those above it have no size
 unfoldable mutual

@@ -15,7 +15,7 @@ use Rattle.redex.proofs.Parts.{back, back_length, back_take}
 -- the term at `at` does not end in the first `len` cells
 pub contract_cut : {t : List ℕ} {len at : ℕ} {right B : List ℕ} {n : ℕ} → n ≡ get_or t at 0 / cell_base → len - at < n → at < len →
     ContractedAt t len at right B t None
-contract_cut e h l = record { same = refl; put = λ f. absurd (omega arith) }
+contract_cut e h l = record { same = refl; small = tt; put = λ f. absurd (omega arith) }
 
 -- the cells from `at` on were lent and came back as Q, and r was answered
 pub record CameBack (t : List ℕ) (len at : ℕ) (right B Q : List ℕ) (r : Optional ℕ) : Type 0 where
@@ -41,6 +41,7 @@ contract_long {t} {at = at} {Q = Q} g = back_length at t Q (in_range g) (g.put.s
 pub contract_over : {t : List ℕ} {len at : ℕ} {right B Q : List ℕ} → CameBack t len at right B Q None → ContractedAt t len at right B (back at t Q) None
 contract_over g = record {
   same = contract_long g;
+  small = tt;
   put = λ f. record { same = contract_long g; is = let o = g.put.is in let b = g.below in omega arith };
 }
 
@@ -48,6 +49,7 @@ pub contract_done : {t : List ℕ} {len at w : ℕ} {right B Q : List ℕ} → C
     ContractedAt t len at right B (back at t Q) (Some (at + w))
 contract_done {t} {at = at} {w = w} {Q = Q} g = record {
   same = contract_long g;
+  small = let o = g.put.is.room in let b = g.below in omega arith;
   put = λ f. record {
     same = contract_long g;
     is = record {

@@ -1,6 +1,6 @@
 -- A node of a term in cells that gives way to an instance, with no word of normality, and the sizes of all cells, from back to front. Assumes nothing.
 -- Read first: matching/specs/Cells, matching/specs/Pieces (Put, replaced), Marks.
-use Rattle.std.specs.Prelude.{◌≡◌, List, [], ◌++◌, ℕ, ◌+◌, ◌-◌, ◌/◌, ◌<◌, ◌≤◌, length, get_or, take, drop, Option as Optional}
+use Rattle.std.specs.Prelude.{◌≡◌, List, [], ◌++◌, ℕ, ◌+◌, ◌-◌, ◌/◌, ◌<◌, ◌≤◌, length, get_or, take, drop, Option as Optional, IfSome}
 use Rattle.limits.specs.Limits.{most_nodes, most_apart, cell_base}
 use Rattle.terms.specs.Term.{Term, Terms, sizes, count}
 use Rattle.terms.specs.Flat.{Wf, Wfs}
@@ -30,4 +30,5 @@ pub record CellsSized (tab t t' : List ℕ) : Type 0 where
 -- `contract_at`: where the term at `at`, by the size in its cell, ends within the first `len` cells, these from `at` on give way to what is put
 pub record ContractedAt (t : List ℕ) (len at : ℕ) (right B t' : List ℕ) (r : Optional ℕ) : Type 0 where
   pub same : length t' ≡ length t
+  pub small : IfSome r (λ e. e ≤ most_nodes)
   pub put : at + get_or t at 0 / cell_base ≤ len → Put t t' at most_nodes r (replaced (take (len - at) (drop at t)) B right (get_or t at 0 / cell_base))

@@ -1,14 +1,12 @@
 -- `first_redex`: the invariant is that no rule matches a node before i. Assumes nothing.
 -- Read first: specs/Outer (FirstRedex), proofs/Looking (Looked).
-use mathlib.Core.Path.{◌≡◌}
-use Prim.Native.Nat.{◌<◌, ◌+◌, ◌-◌}
+use Prim.Native.Nat.{◌-◌}
 use lib.ListN.{length}
-use Rattle.limits.specs.Limits.{byte_values}
 use Rattle.outer_normaliser.proofs.Looking.{Looked}
 use Rattle.outer_normaliser.proofs.first_redex.Given as goal
 
 abbrev pub invariant-loop-i : goal.invariant-loop-i
-invariant-loop-i l = (l.i < length l.t + byte_values) × (length l.binds ≡ length l.initial.binds) × Looked l.rules l.t l.clean l.count l.i
+invariant-loop-i l = Looked l.system.rules.now l.t l.clean l.system.count l.i
 
 abbrev pub decreases-loop-i : goal.decreases-loop-i
 decreases-loop-i l = length l.t - l.i

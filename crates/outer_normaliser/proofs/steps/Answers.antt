@@ -12,13 +12,6 @@ loop-r-init c =
     let s = sized_back c.args.t.now c.args.len _ (omega arith) c.size_cells.ensures in
     (s.0 ∙ p.1, p.0, omega arith, going_start _ _ _ _ _ _)
 
-pub step-r-requires : goal.step-r-requires
-step-r-requires c =
-    record {
-      layout = c.requires.layout;
-      len_le_most_nodes = (c.loop-r.invariant.1, c.loop-r.invariant.0);
-    }
-
 pub shape_of-t-in_default : goal.shape_of-t-in_default
 shape_of-t-in_default c = c.step-r.ensures.same ∙ c.loop-r.invariant.0 ∙ sym c.requires.len_le_most_nodes.1
 

@@ -9,7 +9,8 @@ use Rattle.outer_normaliser.proofs.steps.Given as goal
 
 abbrev pub invariant-loop-r : goal.invariant-loop-r
 invariant-loop-r l =
-    (length l.t ≡ most_nodes) × (l.l ≤ most_nodes) × (l.u ≤ l.initial.u) × Going l.table l.rules l.count l.initial.t l.initial.l l.initial.u l.t l.l l.clean l.u
+    (length l.t ≡ most_nodes) × (l.l ≤ most_nodes) × (l.u ≤ l.initial.u) ×
+    Going l.system.table.now l.system.rules.now l.system.count l.initial.t l.initial.l l.initial.u l.t l.l l.clean l.u
 
 abbrev pub decreases-loop-r : goal.decreases-loop-r
 decreases-loop-r l = l.u
