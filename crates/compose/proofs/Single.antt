@@ -12,16 +12,16 @@ use Rattle.terms.specs.Term.{Term, Pair, size}
 use Rattle.terms.proofs.Flats.{widen, made_wf}
 use Rattle.rewriting.specs.Overlap.{Rule, sides_of}
 use Rattle.rewriting.specs.Rewrite.{Paid, done, stop, normalise}
-use Rattle.rewriting.specs.declared.Verdict.TheVariants.{GoesOn, Ends}
+use Rattle.std.specs.Prelude.{Ok, Err, Some, None}
 use Rattle.rewriting.proofs.Holds.{Holds}
 use Rattle.completion.proofs.Derived.{sides_append}
 use Rattle.slots.specs.Slots.{slot, mark_of, right_of, Layout, PairAt, Stored, OnlySlot, PutRight}
 use Rattle.slots.proofs.Listing.{all_split, all_join, all_first, all_rest, all_cons, stored_moved}
 use Rattle.slots.proofs.Layouts.{layout_put, pair_right}
-use Rattle.normaliser.specs.Settled.{FormStops, NormalIs, Normalised}
-use Rattle.normaliser.proofs.Stopping.{Stopped, end_of, stopping, stopped_form, stopped_end}
-use Rattle.normaliser.specs.declared.Form.{Form}
-use Rattle.normaliser.specs.declared.Form.TheVariants.{Normal}
+use Rattle.normaliser.specs.Settled.{end_of, FormStops, NormalIs, Normalised}
+use Rattle.normaliser.proofs.Stopping.{stopping, stopped_end}
+use Rattle.normaliser.proofs.Outcomes.{apart, same_length, not_stopped}
+use Rattle.normaliser.specs.declared.Stop.{Stop}
 use Rattle.normaliser.specs.declared.Reached.{Reached}
 use Rattle.compose.specs.Rights.{Amid, RightsOnly, OneIs, One}
 use Rattle.compose.proofs.Narrow.{Below, normal_below}
@@ -69,20 +69,20 @@ module _ (tab rules : List ℕ) (k count units : ℕ) (t out out' : List ℕ) (o
     low = normal_below tab rules (before ++ (old ∷ after)) h.stored old.sides.right here.sides.right_wf units
 
   -- no answer: nothing is written
-  pub stopped : (f : Form) → o.form ≡ f → Stopped f → One tab rules rules k count units (record { verdict = Ends (end_of f); units = units - o.paid })
-  stopped f g s = record {
+  pub stopped : (f : Stop) → o.form ≡ Err f → One tab rules rules k count units (record { end = Some (end_of f); units = units - o.paid })
+  stopped f g = record {
     only = rights_none k (k + 1) rules;
     left_over = omega arith;
     answer = λ before old after h. go before old after (normalise (before ++ (old ∷ after)) old.sides.right units) (normalised before old after h);
   }
     where
       go : (before : List Rule) (old : Rule) (after : List Rule) (p : Paid Term) → NormalIs tab out' units o p →
-          OneIs tab rules before old after (record { verdict = Ends (end_of f); units = units - o.paid }) p
-      go before old after (done x left) e = absurd (subst Stopped (sym g ∙ e.0) s)
-      go before old after (stop c left) e = (ap Ends (stopped_end (stopping c f (subst (FormStops c) g e.0))), omega (arith, e.1))
+          OneIs tab rules before old after (record { end = Some (end_of f); units = units - o.paid }) p
+      go before old after (done x left) e = absurd (apart g e.0)
+      go before old after (stop c left) e = (ap Some (stopped_end (stopping c f (subst (FormStops c) g e.0))), omega (arith, e.1))
 
   -- the answer is written
-  module _ (len : ℕ) (normal : o.form ≡ Normal len) (rules' : List ℕ) (written : PutRight rules k (take (len - 0) (drop 0 out')) rules') where
+  module _ (len : ℕ) (normal : o.form ≡ Ok len) (rules' : List ℕ) (written : PutRight rules k (take (len - 0) (drop 0 out')) rules') where
     only_right : RightsOnly k (k + 1) rules rules'
     only_right = record {
       same = written.only.same;
@@ -96,7 +96,7 @@ module _ (tab rules : List ℕ) (k count units : ℕ) (t out out' : List ℕ) (o
         mark_kept i (yes e) = rw e written.mark
         mark_kept i (no n) = ap mark_of (written.only.others i n)
 
-    pub composed : One tab rules rules' k count units (record { verdict = GoesOn; units = units - o.paid })
+    pub composed : One tab rules rules' k count units (record { end = None; units = units - o.paid })
     composed = record {
       only = only_right;
       left_over = omega arith;
@@ -107,9 +107,9 @@ module _ (tab rules : List ℕ) (k count units : ℕ) (t out out' : List ℕ) (o
       where
         go : (before : List Rule) (old : Rule) (after : List Rule) → Amid tab rules k count before old after →
             (p : Paid Term) → NormalIs tab out' units o p → Holds (Below most_variables) (λ e m. Unit {0}) p →
-            OneIs tab rules' before old after (record { verdict = GoesOn; units = units - o.paid }) p
+            OneIs tab rules' before old after (record { end = None; units = units - o.paid }) p
         go before old after h (done x left) e b =
-            let n : len ≡ size x = cc in (
+            let n : len ≡ size x = same_length normal e.0 in (
               refl,
               omega (arith, e.1),
               right_put tab rules k (take (len - 0) (drop 0 out')) rules' (sides_of before) old.sides (sides_of after) x
@@ -118,4 +118,4 @@ module _ (tab rules : List ℕ) (k count units : ℕ) (t out out' : List ℕ) (o
                   (ap (λ z. take z out') (sub-zero len ∙ n) ∙ e.2))
                   (subst (λ z. Stored tab rules 0 z) (sides_append before (old ∷ after)) h.stored),
             )
-        go before old after h (stop c left) e b = absurd (subst Stopped normal (stopped_form (stopping c o.form e.0)))
+        go before old after h (stop c left) e b = absurd (not_stopped normal c e.0)

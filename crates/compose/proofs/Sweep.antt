@@ -8,7 +8,7 @@ use lib.ListN.{length, length-append}
 use Rattle.terms.specs.Term.{Term}
 use Rattle.rewriting.specs.Overlap.{Rule, sides_of}
 use Rattle.rewriting.specs.Rewrite.{Paid, done, stop, and_then, ◌>>=◌, return, normalise}
-use Rattle.rewriting.specs.declared.Verdict.TheVariants.{GoesOn}
+use Rattle.std.specs.Prelude.{None}
 use Rattle.rewriting.proofs.Verdicts.{goes≢ends}
 use Rattle.slots.specs.Slots.{Stored}
 use Rattle.completion.specs.Turn.{normalise_rights}
@@ -93,7 +93,7 @@ module _ (tab rules rules₁ : List ℕ) (count units k left : ℕ) (g : SweptTo
         behind : (x : Term) → before ++ (with_right old x ∷ []) ++ later ++ (new ∷ []) ≡ before ++ (with_right old x ∷ (later ++ (new ∷ [])))
         behind x = ap (λ z. z ++ (new ∷ [])) (append_assoc before (with_right old x ∷ []) later) ∙ append_assoc before (with_right old x ∷ later) (new ∷ [])
 
-      further : o.verdict ≡ GoesOn → (before later : List Rule) (old : Rule) → Midway tab rules₁ rs new k units left before (old ∷ later) →
+      further : o.end ≡ None → (before later : List Rule) (old : Rule) → Midway tab rules₁ rs new k units left before (old ∷ later) →
           (p : Paid Term) → OneIs tab rules₂ before old (later ++ (new ∷ [])) o p → normalise_rights [] rs new units ≡ then_rest before old later new p →
           (before : List Rule) × (later : List Rule) × Midway tab rules₂ rs new (k + 1) units o.units before later
       unfolding and_then
@@ -119,37 +119,37 @@ module _ (tab rules rules₁ : List ℕ) (count units k left : ℕ) (g : SweptTo
           )
       further v before later old m (stop c n) e f = absurd (goes≢ends v e.0)
 
-      ended : (o.verdict ≡ GoesOn → ⊥) → (before later : List Rule) (old : Rule) (p : Paid Term) → OneIs tab rules₂ before old (later ++ (new ∷ [])) o p →
+      ended : (o.end ≡ None → ⊥) → (before later : List Rule) (old : Rule) (p : Paid Term) → OneIs tab rules₂ before old (later ++ (new ∷ [])) o p →
           normalise_rights [] rs new units ≡ then_rest before old later new p → AllIs tab rules₂ (rs ++ (new ∷ [])) o (normalise_rights [] rs new units)
       unfolding and_then
       ended v before later old (done x n) e f = absurd (v e.0)
       ended v before later old (stop c n) e f = rw f e
 
-      next_midway : o.verdict ≡ GoesOn → (before later : List Rule) → Midway tab rules₁ rs new k units left before later →
+      next_midway : o.end ≡ None → (before later : List Rule) → Midway tab rules₁ rs new k units left before later →
           (before : List Rule) × (later : List Rule) × Midway tab rules₂ rs new (k + 1) units o.units before later
       next_midway v before [] m = absurd (omega (arith, m.place, m.total, number, length-append rs (new ∷ [])))
       next_midway v before (old ∷ later) m = further v before later old m _ (said before later old m) (runs before later old m)
 
-      next_ended : (o.verdict ≡ GoesOn → ⊥) → (before later : List Rule) → Midway tab rules₁ rs new k units left before later →
+      next_ended : (o.end ≡ None → ⊥) → (before later : List Rule) → Midway tab rules₁ rs new k units left before later →
           AllIs tab rules₂ (rs ++ (new ∷ [])) o (normalise_rights [] rs new units)
       next_ended v before [] m = absurd (omega (arith, m.place, m.total, number, length-append rs (new ∷ [])))
       next_ended v before (old ∷ later) m = ended v before later old _ (said before later old m) (runs before later old m)
 
-    pub sweep_on : o.verdict ≡ GoesOn → SweptTo tab rules rules₂ count units (k + 1) o.units
+    pub sweep_on : o.end ≡ None → SweptTo tab rules rules₂ count units (k + 1) o.units
     sweep_on v = record {
       only = still;
       left_over = still_few;
       answer = λ rs new number h. let m = g.answer rs new number h in next_midway rs new number v m.0 m.1 m.2;
     }
 
-    pub sweep_stop : (o.verdict ≡ GoesOn → ⊥) → All tab rules rules₂ count units o
+    pub sweep_stop : (o.end ≡ None → ⊥) → All tab rules rules₂ count units o
     sweep_stop v = record {
       only = still;
       left_over = still_few;
       answer = λ rs new number h. let m = g.answer rs new number h in next_ended rs new number v m.0 m.1 m.2;
     }
 
-  pub sweep_end : count ≤ k + 1 → All tab rules rules₁ count units (record { verdict = GoesOn; units = left })
+  pub sweep_end : count ≤ k + 1 → All tab rules rules₁ count units (record { end = None; units = left })
   sweep_end over = record {
     only = g.only;
     left_over = g.left_over;
@@ -158,7 +158,7 @@ module _ (tab rules rules₁ : List ℕ) (count units k left : ℕ) (g : SweptTo
     where
       last : (rs : List Rule) (new : Rule) → length (rs ++ (new ∷ [])) ≡ count → (before later : List Rule) →
           Midway tab rules₁ rs new k units left before later →
-          AllIs tab rules₁ (rs ++ (new ∷ [])) (record { verdict = GoesOn; units = left }) (normalise_rights [] rs new units)
+          AllIs tab rules₁ (rs ++ (new ∷ [])) (record { end = None; units = left }) (normalise_rights [] rs new units)
       last rs new number before [] m =
           let e : before ++ [] ≡ before = append-nil before in
           let q = m.total in

@@ -1,12 +1,11 @@
 -- Step 7 of a turn on the rules in their slots: what the functions answer. Assumes nothing.
-use Rattle.std.specs.Prelude.{◌≡◌, ◌⊎◌, List, [], ◌∷◌, ◌++◌, map, ℕ, ◌+◌, ◌<◌, ◌≤◌, length}
+use Rattle.std.specs.Prelude.{◌≡◌, ◌⊎◌, List, [], ◌∷◌, ◌++◌, map, ℕ, ◌+◌, ◌<◌, ◌≤◌, length, Some, None}
 use Rattle.limits.specs.Limits.{most_rules}
 use Rattle.terms.specs.Term.{Term}
 use Rattle.rewriting.specs.Overlap.{Rule, sides_of}
 use Rattle.rewriting.specs.Rewrite.{Paid, done, stop, normalise}
 use Rattle.rewriting.specs.Ends.{ending}
 use Rattle.rewriting.specs.declared.End.TheVariants.{RulesFull}
-use Rattle.rewriting.specs.declared.Verdict.TheVariants.{GoesOn, Ends}
 use Rattle.slots.specs.Slots.{slot, mark_of, Layout, Stored}
 use Rattle.completion.specs.Turn.{normalise_rights}
 use Rattle.compose.specs.declared.Composed.{Composed}
@@ -28,8 +27,8 @@ pub record RightsOnly (a e : ℕ) (slots slots' : List ℕ) : Type 0 where
 -- `compose_one`: that rule's right side is normalised
 abbrev pub OneIs : List ℕ → List ℕ → List Rule → Rule → List Rule → Composed → Paid Term → Type 0
 OneIs tab rules before old after o (done y left) =
-    (o.verdict ≡ GoesOn) × (o.units ≡ left) × Stored tab rules 0 (sides_of before ++ (record { left = old.sides.left; right = y } ∷ sides_of after))
-OneIs tab rules before old after o (stop e left) = (o.verdict ≡ Ends (ending e)) × (o.units ≡ left)
+    (o.end ≡ None) × (o.units ≡ left) × Stored tab rules 0 (sides_of before ++ (record { left = old.sides.left; right = y } ∷ sides_of after))
+OneIs tab rules before old after o (stop e left) = (o.end ≡ Some (ending e)) × (o.units ≡ left)
 
 pub record One (tab rules rules' : List ℕ) (k count units : ℕ) (o : Composed) : Type 0 where
   pub only : RightsOnly k (k + 1) rules rules'
@@ -40,8 +39,8 @@ pub record One (tab rules rules' : List ℕ) (k count units : ℕ) (o : Composed
 -- `compose`: exactly as the definition says; the newest rule stands last
 abbrev pub AllIs : List ℕ → List ℕ → List Rule → Composed → Paid (List Rule) → Type 0
 AllIs tab rules rs o (done rs' left) =
-    (o.verdict ≡ GoesOn) × (o.units ≡ left) × Stored tab rules 0 (sides_of rs') × (map (λ r. r.number) rs' ≡ map (λ r. r.number) rs)
-AllIs tab rules rs o (stop e left) = (o.verdict ≡ Ends (ending e)) × (o.units ≡ left)
+    (o.end ≡ None) × (o.units ≡ left) × Stored tab rules 0 (sides_of rs') × (map (λ r. r.number) rs' ≡ map (λ r. r.number) rs)
+AllIs tab rules rs o (stop e left) = (o.end ≡ Some (ending e)) × (o.units ≡ left)
 
 pub record All (tab rules rules' : List ℕ) (count units : ℕ) (o : Composed) : Type 0 where
   pub only : RightsOnly 0 count rules rules'
@@ -52,4 +51,4 @@ pub record All (tab rules rules' : List ℕ) (count units : ℕ) (o : Composed) 
 -- `compose_few`: "Over 32 live: 23."
 abbrev pub ComposesFew : List ℕ → ℕ → List ℕ → List ℕ → ℕ → Composed → Type 0
 ComposesFew tab live pairs pairs' units c =
-    ((most_rules < live) × (c ≡ record { verdict = Ends RulesFull; units = units })) ⊎ ((live ≤ most_rules) × All tab pairs pairs' live units c)
+    ((most_rules < live) × (c ≡ record { end = Some RulesFull; units = units })) ⊎ ((live ≤ most_rules) × All tab pairs pairs' live units c)

@@ -6,13 +6,13 @@ ghost use Rattle.slots.specs.Slots.{Layout};
 ghost use Rattle.compose.specs.Rights.{One, All, ComposesFew};
 
 use limits::NODES;
-use normaliser::Form;
-use rewriting::{End, Verdict};
+use rewriting::End;
+use slots::System;
 
-// Whether the turn goes on, and the units left.
+// The end of the run, if it does not go on, and the units left.
 #[derive(Drop)]
 pub struct Composed {
-    pub verdict: Verdict,
+    pub end: Option<End>,
     pub units: u32,
 }
 
@@ -22,23 +22,23 @@ fn compose_one(rules: &mut [u8], k: usize, count: usize, table: &[u8], units: u3
     ensures { One table.now rules.old rules.new k count units result }
 {
     let mut t = [0u8; NODES];
-    let r = normaliser::normalise(slots::right(rules, k), table, rules, count, units, &mut t);
+    let system = System {
+        table,
+        rules,
+        count,
+    };
+    let r = normaliser::normalise(slots::right(rules, k), system, units, &mut t);
     let left = units - r.paid;
-    let form = r.form;
-    match form {
-        Form::Normal(len) => {
+    match r.form {
+        Ok(len) => {
             slots::put_right(rules, k, &t[0..len]);
             Composed {
-                verdict: Verdict::GoesOn,
+                end: None,
                 units: left,
             }
         }
-        Form::Spent => Composed {
-            verdict: Verdict::Ends(End::Spent),
-            units: left,
-        },
-        Form::TooLarge => Composed {
-            verdict: Verdict::Ends(End::TooLarge),
+        Err(stop) => Composed {
+            end: Some(End::from(stop)),
             units: left,
         },
     }
@@ -50,18 +50,15 @@ fn compose(rules: &mut [u8; slots::ROOM], count: usize, table: &[u8], units: u32
     ensures { All table.now rules.old rules.new count units result }
 {
     let mut left = units;
-    let mut k = 0;
-    while k + 1 < count {
+    for k in 0..count.saturating_sub(1) {
         let r = compose_one(rules, k, count, table, left);
-        let verdict = r.verdict;
-        let Verdict::GoesOn = verdict else {
+        let None = r.end else {
             return r;
         };
         left = r.units;
-        k += 1;
     }
     Composed {
-        verdict: Verdict::GoesOn,
+        end: None,
         units: left,
     }
 }
@@ -73,8 +70,8 @@ pub fn compose_few(live: usize, pairs: &mut [u8; slots::ROOM], table: &[u8], uni
 {
     if live > limits::RULES {
         return Composed {
-            verdict: Verdict::Ends(End::RulesFull),
-            units: units,
+            end: Some(End::RulesFull),
+            units,
         };
     }
     compose(pairs, live, table, units)

@@ -20,13 +20,13 @@ use Rattle.normaliser.specs.declared.Reached.{Reached}
 use Rattle.normaliser.specs.declared.Stop.{Stop}
 use Rattle.normaliser.proofs.Stopping.{Stopping, stopping}
 
-apart : {f : Result ℕ Stop} {s : Stop} {n : ℕ} → f ≡ Err s → f ≡ Ok n → ⊥
+pub apart : {f : Result ℕ Stop} {s : Stop} {n : ℕ} → f ≡ Err s → f ≡ Ok n → ⊥
 apart e h = cc
 
-same_length : {f : Result ℕ Stop} {n m : ℕ} → f ≡ Ok n → f ≡ Ok m → n ≡ m
+pub same_length : {f : Result ℕ Stop} {n m : ℕ} → f ≡ Ok n → f ≡ Ok m → n ≡ m
 same_length e h = cc
 
-not_stopped : {f : Result ℕ Stop} {n : ℕ} → f ≡ Ok n → (x : End) → FormStops x f → ⊥
+pub not_stopped : {f : Result ℕ Stop} {n : ℕ} → f ≡ Ok n → (x : End) → FormStops x f → ⊥
 not_stopped e complete h = h
 not_stopped e neither_above h = h
 not_stopped e spent h = apart h e

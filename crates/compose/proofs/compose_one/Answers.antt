@@ -1,7 +1,6 @@
 -- `compose_one`: the right side is normalised, and written back if it came to a normal form: `stopped`, `composed`. Assumes nothing.
 -- Read first: specs/Rights (One), proofs/Single.
 use native.Mathlib.Omega.{arith}
-use Rattle.normaliser.specs.declared.Form.TheVariants.{Spent, TooLarge}
 use Rattle.slots.proofs.Layouts.{layout_less}
 use Rattle.compose.proofs.Single.{stopped, composed}
 use Rattle.std.proofs.Common.{rules}
@@ -12,33 +11,29 @@ right-requires c = layout_less (let q = c.requires.1 in omega arith) c.requires.
 
 pub slice_bounds-put_right-end : goal.slice_bounds-put_right-end
 slice_bounds-put_right-end c =
-    let few = rw c.in-Normal.is at c.normalise-r.ensures.small in
+    let few = rw c.in-Ok.is at c.normalise-r.ensures.small in
     let same = c.normalise-r.ensures.same in
     search rules
 
 pub put_right-requires : goal.put_right-requires
 put_right-requires c =
-    let few = rw c.in-Normal.is at c.normalise-r.ensures.small in
+    let few = rw c.in-Ok.is at c.normalise-r.ensures.small in
     record {
       layout = layout_less (let q = c.requires.1 in omega arith) c.requires.0;
       right_len_bound = search rules;
     }
 
-pub shape_of-rules-in-Normal : goal.shape_of-rules-in-Normal
-shape_of-rules-in-Normal c = c.put_right.ensures.only.same
+pub shape_of-rules-in-Ok : goal.shape_of-rules-in-Ok
+shape_of-rules-in-Ok c = c.put_right.ensures.only.same
 
-pub returns-in-Normal : goal.returns-in-Normal
-returns-in-Normal c =
+pub returns-in-Ok : goal.returns-in-Ok
+returns-in-Ok c =
     composed _ _ _ _ _ _ _ _ _ c.requires.0 c.requires.1 c.right.ensures.result_value
     c.normalise-r.ensures _
-    c.in-Normal.is _ c.put_right.ensures
+    c.in-Ok.is _ c.put_right.ensures
 
-pub returns-in-Spent : goal.returns-in-Spent
-returns-in-Spent c =
-    stopped _ _ _ _ _ _ _ _ _ c.requires.0 c.requires.1 c.right.ensures.result_value
-    c.normalise-r.ensures Spent c.in-Spent.is tt
-
-pub returns-in-TooLarge : goal.returns-in-TooLarge
-returns-in-TooLarge c =
-    stopped _ _ _ _ _ _ _ _ _ c.requires.0 c.requires.1 c.right.ensures.result_value
-    c.normalise-r.ensures TooLarge c.in-TooLarge.is tt
+pub returns-in-Err : goal.returns-in-Err
+returns-in-Err c =
+    rw c.from.ensures
+    (stopped _ _ _ _ _ _ _ _ _ c.requires.0 c.requires.1 c.right.ensures.result_value
+    c.normalise-r.ensures _ c.in-Err.is)
