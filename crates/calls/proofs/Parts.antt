@@ -5,9 +5,9 @@ use mathlib.Core.List.{List}
 use mathlib.Core.Option.{Option, none, some}
 use Prim.Native.Nat.{ℕ, ◌+◌, ◌-◌, ◌<◌, ◌≤◌}
 use native.Mathlib.Omega.{arith}
-use lib.Dec.{eqb, leb}
-use lib.ListN.{length, take, drop, length-drop}
-use lib.Seq.{drop-drop, length-take-le}
+use lib.Dec.{leb}
+use lib.ListN.{length, take, drop}
+use lib.Seq.{drop-drop}
 use borrow.Author.Tests.{ne_eqb, le-leb, lt-leb}
 use Rattle.terms.specs.Term.{Term, size, subterm_at}
 use Rattle.terms.specs.Flat.{Starts}
@@ -85,6 +85,3 @@ module _ (l : List ℕ) (p a b : ℕ) (k : PartAt l p a b) where
   pub part_bytes : take (b - a) (drop a l) ≡ subterm_call l p
   unfolding subterm_call
   part_bytes = ap₂ (λ (n i : ℕ). take n (drop i l)) k.bytes k.start
-
-  pub part_only : eqb (length (take (b - a) (drop a l))) 0 ≡ subterm_refused l p
-  part_only = ap (λ (n : ℕ). eqb n 0) (length-take-le (b - a) (drop a l) (omega (arith, length-drop a l, k.low, k.within))) ∙ k.only

@@ -1,5 +1,5 @@
--- `unify` lays the two sides out for `instances::common_instance`, whose answer is the definition's: a lemma for each return, and for those of
--- `answer`. Assumes nothing.
+-- `unify` lays the two sides out for `instances::common_instance`, whose answer is the definition's: a lemma for each return. Assumes
+-- nothing.
 -- Read first: specs/Answers (Unifies, found_told), instances/specs/Common (SidesUnify, TwoSides), only_equation/specs/Places (SidesAt).
 use mathlib.Core.Path.{◌≡◌, refl, ap, sym, ◌∙◌}
 use mathlib.Core.Bool.{true, false}
@@ -22,8 +22,10 @@ use Rattle.only_equation.specs.Places.{table, left_side, right_side, SidesAt}
 use Rattle.instances.specs.Common.{found_of, SidesOf, TwoSides, SidesUnify}
 use Rattle.instances.specs.declared.Found.{Found}
 use Rattle.calls.specs.Answers.{unified_told, found_told, unify_returns, Unifies}
-use Rattle.calls.specs.declared.Unified.{Unified}
-use Rattle.calls.specs.declared.Unified.TheVariants.{Refused as Unread}
+use Rattle.std.specs.Prelude.{Ok, Err}
+use Rattle.problem.specs.declared.Reason.TheVariants.{ShortBuffer}
+use Rattle.problem.specs.declared.Refusal.{Refusal}
+use Rattle.problem.specs.Reasons.{number_of_reason}
 
 -- what is found for the definition's value is told as that value is
 found_returns : (u : CommonInstance) → found_told (found_of u) ≡ unify_returns (ok u)
@@ -34,7 +36,7 @@ found_returns instance_too_large = refl
 
 -- `unify`
 module _ (l d : List ℕ) where
-  pub unify_short : length d < 16_384 → Unifies (unify_call l (length d)) (Unread 1 0) d d
+  pub unify_short : length d < 16_384 → Unifies (unify_call l (length d)) (Err (record { reason = ShortBuffer; place = 0 })) d d
   unfolding unify_call enough refuse_if ◌>>=◌ unified_told unify_returns after_unify
   unify_short h = let t : ltb (length d) 16_384 ≡ true = lt-ltb (length d) 16_384 h in rw t (record { told = refl; leaves = refl })
 
@@ -44,9 +46,9 @@ module _ (l d : List ℕ) where
     unfolding unify_call enough refuse_if ◌>>=◌
     call_is = let t : ltb (length d) 16_384 ≡ false = le-ltb (length d) 16_384 room in rw t refl
 
-    pub unify_unread : (n p : ℕ) → parse_single l ≡ refused n p → Unifies (unify_call l (length d)) (Unread n p) d d
+    pub unify_unread : (r : Refusal) → parse_single l ≡ refused (number_of_reason r.reason) r.place → Unifies (unify_call l (length d)) (Err r) d d
     unfolding unified_told unify_returns after_unify
-    unify_unread n p h = rw (call_is ∙ bind_refused _ h) (record { told = refl; leaves = refl })
+    unify_unread r h = rw (call_is ∙ bind_refused _ h) (record { told = refl; leaves = refl })
 
     module _ (e a b c : ℕ) (S : Single) (A : SidesAt l e a b c S) where
       both_bytes : take (c - a) (drop a l) ≡ term_bytes (left_side S) ++ term_bytes (right_side S)
@@ -89,9 +91,10 @@ module _ (l d : List ℕ) where
       pub unify_two : TwoSides (take (c - a) (drop a l)) (table l e) (b - a)
       unify_two = record { s = left_side S; t = right_side S; sides = unify_sides; begins = begins_at }
 
-      pub unify_answers : (f : Found) (r : Unified) (d' : List ℕ) → SidesUnify (take (c - a) (drop a l)) (table l e) (b - a) f d d' →
-          unified_told r ≡ found_told f → Unifies (unify_call l (length d)) r d d'
-      unify_answers f r d' h q =
+      pub unify_answers : (f : Found) (d' : List ℕ) → SidesUnify (take (c - a) (drop a l)) (table l e) (b - a) f d d' →
+          Unifies (unify_call l (length d)) (Ok f) d d'
+      unfolding unified_told
+      unify_answers f d' h =
           let g = h.unifies (left_side S) (right_side S) unify_sides begins_at in
           rw (call_is ∙ bind_ok _ A.is)
-          (record { told = q ∙ ap found_told g.answer ∙ found_returns (unified (left_side S) (mgu (left_side S) (right_side S))); leaves = g.leaves })
+          (record { told = ap found_told g.answer ∙ found_returns (unified (left_side S) (mgu (left_side S) (right_side S))); leaves = g.leaves })

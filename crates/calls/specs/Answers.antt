@@ -1,24 +1,22 @@
 -- Document 01, "The result and settle": what `compare`, `unify` and `subterm` answer, by numbers and bytes. Assumes nothing.
-use Rattle.std.specs.Prelude.{◌≡◌, Bool, true, List, ℕ, ◌+◌, ◌-◌, ◌≤◌, eqb, leb, length}
+use Rattle.std.specs.Prelude.{◌≡◌, Bool, true, List, ℕ, ◌+◌, ◌-◌, ◌≤◌, eqb, leb, length, Option, Some, None, Result, Ok, Err}
 use Rattle.std.specs.Borrow.{Bor}
 use Rattle.terms.specs.Term.{size}
 use Rattle.problem.specs.Problem.{Reading, ok, refused}
 use Rattle.rewriting.specs.Rewrite.{too_large, end_number}
 use Rattle.completion.specs.Calls.{parse_single, Part, subterm_part, CommonInstance, instance, no_instance, instance_too_large, after_unify}
 use Rattle.instances.specs.declared.Found.{Found}
-use Rattle.instances.specs.declared.Found.TheVariants.{Instance as Written, Nothing as NoneFound, TooLarge as Large}
-use Rattle.calls.specs.declared.Compared.{Compared}
-use Rattle.calls.specs.declared.Compared.TheVariants.{LeftAbove, RightAbove, Identical, Neither, Refused as Unread}
-use Rattle.calls.specs.declared.Unified.{Unified}
-use Rattle.calls.specs.declared.Unified.TheVariants.{Instance, Nothing, TooLarge, Refused as NotUnified}
+use Rattle.instances.specs.declared.Found.TheVariants.{Instance, Nothing, TooLarge}
+use Rattle.order.specs.declared.Compared.{Compared}
+use Rattle.order.specs.Walk.{number_of_compared}
+use Rattle.problem.specs.declared.Refusal.{Refusal}
+use Rattle.problem.specs.Reasons.{number_of_reason}
+use Rattle.calls.specs.declared.Bounds.{Bounds}
 
 -- "Compare answers 1 (left above), 2 (right above), 3 (identical), 4 (neither)", or the refusal's number and place. [12.2]
-unfoldable pub compared_told : Compared → Reading ℕ
-compared_told LeftAbove = ok 1
-compared_told RightAbove = ok 2
-compared_told Identical = ok 3
-compared_told Neither = ok 4
-compared_told (Unread number place) = refused number place
+unfoldable pub compared_told : Result Compared Refusal → Reading ℕ
+compared_told (Ok c) = ok (number_of_compared c)
+compared_told (Err r) = refused (number_of_reason r.reason) r.place
 
 -- What unify returns: the count of result bytes, "none", a number only, or a number and a place. "a common instance over 120 nodes" has the number of
 -- the run's end for a term over 120 nodes. [12.4 to 12.6]
@@ -28,17 +26,15 @@ pub data Returned : Type 0 where
   number_only : ℕ → Returned
   number_and_place : ℕ → ℕ → Returned
 
-unfoldable pub unified_told : Unified → Returned
-unified_told (Instance count) = bytes_written count
-unified_told Nothing = none_common
-unified_told TooLarge = number_only (end_number too_large)
-unified_told (NotUnified number place) = number_and_place number place
-
--- the same of what `instances::common_instance` answers
+-- what `instances::common_instance` answers
 unfoldable pub found_told : Found → Returned
-found_told (Written count) = bytes_written count
-found_told NoneFound = none_common
-found_told Large = number_only (end_number too_large)
+found_told (Instance count) = bytes_written count
+found_told Nothing = none_common
+found_told TooLarge = number_only (end_number too_large)
+
+unfoldable pub unified_told : Result Found Refusal → Returned
+unified_told (Ok found) = found_told found
+unified_told (Err r) = number_and_place (number_of_reason r.reason) r.place
 
 unfoldable pub unify_returns : Reading CommonInstance → Returned
 unify_returns (ok (instance bytes)) = bytes_written (length bytes)
@@ -47,7 +43,7 @@ unify_returns (ok instance_too_large) = number_only (end_number too_large)
 unify_returns (refused n place) = number_and_place n place
 
 -- the answer and the result buffer, before and after, are what the definition says [4.14, 12.4 to 12.6]
-pub record Unifies (u : Reading CommonInstance) (r : Unified) (d d' : List ℕ) : Type 0 where
+pub record Unifies (u : Reading CommonInstance) (r : Result Found Refusal) (d d' : List ℕ) : Type 0 where
   pub told : unified_told r ≡ unify_returns u
   pub leaves : d' ≡ after_unify u d
 
@@ -72,3 +68,8 @@ pub record PartAt (l : List ℕ) (p a b : ℕ) : Type 0 where
   pub only : eqb (b - a) 0 ≡ subterm_refused l p
   pub low : a ≤ b
   pub within : b ≤ length l
+
+-- what `subterm_bounds` answers: that part, or none, and it is the empty one in front
+abbrev pub IsBounds : List ℕ → ℕ → Option Bounds → Type 0
+IsBounds l p (Some b) = PartAt l p b.start b.end
+IsBounds l p None = PartAt l p 0 0

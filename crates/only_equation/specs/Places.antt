@@ -42,10 +42,6 @@ pub record Found (l : List ℕ) (e a b c : ℕ) : Type 0 where
   pub stand : SidesAt l e a b c single
   pub order : (field_head ≤ e) × (e ≤ length l) × (a ≤ b) × (b ≤ c) × (c ≤ length l) × (length l ≤ most_problem)
 
--- the same of the table and of where the sides begin
-abbrev pub Stands : List ℕ → ℕ → ℕ → ℕ → Type 0
-Stands l e a b = (c : ℕ) × Found l e a b c
-
 abbrev pub IsSides : List ℕ → Result Equation Refusal → Type 0
 IsSides l (Ok q) = (S : Single) × SidesAt l q.table_end q.left q.right q.end S × (S.budget ≡ q.budget)
 IsSides l (Err r) = parse_single l ≡ refused (number_of_reason r.reason) r.place
