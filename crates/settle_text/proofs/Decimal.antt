@@ -1,19 +1,17 @@
--- Numbers in decimal: the last digit behind those of a tenth, how many digits there are, and the loops of `digits` and `put_decimal`. Assumes
--- nothing.
+-- Numbers in decimal: the last digit behind those of a tenth, how many digits there are, and the loop of `put_decimal`. Assumes nothing.
 -- Read first: completion/specs/Settle (decimal), fields/specs/Puts, fields/proofs/Appending.
 use mathlib.Core.Path.{◌≡◌, refl, sym, ap, ◌∙◌}
 use mathlib.Core.Bool.{Bool, true, false}
 use mathlib.Core.List.{List, [], ◌∷◌, ◌++◌}
-use Prim.Native.Nat.{ℕ, zero, suc, ◌+◌, ◌-◌, ◌*◌, ◌^◌, ◌/◌, ◌%◌, ◌≤◌, ◌<◌}
+use Prim.Native.Nat.{ℕ, zero, suc, ◌+◌, ◌-◌, ◌*◌, ◌^◌, ◌/◌, ◌%◌, max, ◌≤◌, ◌<◌}
 use native.Mathlib.Omega.{arith}
 use native.Mathlib.Nat.{pow-suc}
 use lib.Dec.{ltb}
 use lib.ListN.{length, set, length-set, length-append}
 use borrow.Author.Tests.{lt-ltb, le-ltb, ltb-false}
-use Rattle.std.specs.Prelude.{if◌then◌else◌}
 use Rattle.completion.specs.Settle.{decimal_in, decimal}
 use Rattle.fields.specs.Puts.{patched, Puts}
-use Rattle.fields.proofs.Appending.{patched_before, patched_one}
+use Rattle.fields.proofs.Appending.{patched_none, patched_before, patched_one}
 
 in_small : (k n : ℕ) → n < 10 → decimal_in (suc k) n ≡ (48 + n) ∷ []
 unfolding decimal_in
@@ -72,66 +70,117 @@ pub few_digits : (n : ℕ) → n < 65_536 → length (decimal n) ≤ 5
 few_digits n h = digits_below 4 n (let e : 65_536 ≤ 10 ^ 5 = omega arith in omega arith)
 
 -- `digits`
-pub record Counting (n m w : ℕ) : Type 0 where
-  pub so_far : w + length (decimal m) ≡ 1 + length (decimal n)
-  pub few : w + m ≤ 1 + n
+some_digits : (n : ℕ) → 0 < length (decimal n)
+some_digits n = digits_any (ltb n 10) refl
+  where
+    digits_any : (t : Bool) → ltb n 10 ≡ t → 0 < length (decimal n)
+    digits_any true e = omega (arith, small_length n (borrow.Author.Tests.ltb-true n 10 e))
+    digits_any false e = omega (arith, more_length n (ltb-false n 10 e))
 
-pub counting_start : (n : ℕ) → Counting n n 1
-counting_start n = record { so_far = refl; few = omega arith }
+digits_from : (k n : ℕ) → 10 ^ k ≤ n → k + 1 ≤ length (decimal n)
+digits_from zero n h = some_digits n
+digits_from (suc k) n h =
+    let l : 10 ^ k * 10 ≤ n = rw (pow-suc 10 k) at h in
+    let one : 1 ≤ 10 ^ k = pow_positive k in
+    let rest = digits_from k (n / 10) (omega arith) in
+    omega (arith, more_length n (omega arith), rest)
+  where
+    pow_positive : (k : ℕ) → 1 ≤ 10 ^ k
+    pow_positive zero = omega arith
+    pow_positive (suc k) = let p = pow_positive k in rw (pow-suc 10 k) (omega arith)
 
-pub counting_more : (n m w : ℕ) → Counting n m w → 10 ≤ m → Counting n (m / 10) (w + 1)
-counting_more n m w h l = let a = h.so_far in let b = h.few in record { so_far = omega (arith, more_length m l); few = omega arith }
+pub digits_are : (n m k : ℕ) → m ≡ max n 1 → 10 ^ k ≤ m → m < 10 * 10 ^ k → k + 1 ≡ length (decimal n)
+digits_are n m k e low high = go (ltb n 1) refl
+  where
+    many : k + 1 ≤ length (decimal m)
+    many = digits_from k m low
 
-pub counting_end : (n m w : ℕ) → Counting n m w → m < 10 → w ≡ length (decimal n)
-counting_end n m w h l = let a = h.so_far in omega (arith, small_length m l)
+    go : (t : Bool) → ltb n 1 ≡ t → k + 1 ≡ length (decimal n)
+    go true q =
+        let l : n < 1 = borrow.Author.Tests.ltb-true n 1 q in
+        omega (arith, many, small_length n (omega arith), small_length m (omega arith))
+    go false q =
+        let l : 1 ≤ n = ltb-false n 1 q in
+        let same : m ≡ n = omega arith in
+        let power = pow-suc 10 k in
+        omega (arith, many, ap (λ z. length (decimal z)) same, digits_below k n (omega arith))
 
--- `put_decimal`
+-- `put_decimal`: what is still to put, in so many places
+unfoldable pub rest_of : ℕ → ℕ → List ℕ
+rest_of zero m = []
+rest_of (suc k) m = decimal m
+
 pub record Tens (out₀ : List ℕ) (at n : ℕ) (out : List ℕ) (left m : ℕ) : Type 0 where
   pub same : length out ≡ length out₀
-  pub left_is : left ≡ length (decimal m)
+  pub left_is : 0 < left → left ≡ length (decimal m)
   pub within : left ≤ length (decimal n)
-  pub to_do : patched at (decimal m) out ≡ patched at (decimal n) out₀
+  pub to_do : patched at (rest_of left m) out ≡ patched at (decimal n) out₀
+
+all_left : (left m : ℕ) → 0 < left → rest_of left m ≡ decimal m
+unfolding rest_of
+all_left zero m h = absurd (omega arith)
+all_left (suc k) m h = refl
+
+none_left : (m : ℕ) → rest_of 0 m ≡ []
+unfolding rest_of
+none_left m = refl
 
 pub tens_start : (out : List ℕ) (at n w : ℕ) → w ≡ length (decimal n) → Tens out at n out w n
-tens_start out at n w e = record { same = refl; left_is = e; within = omega arith; to_do = refl }
+tens_start out at n w e =
+    record {
+      same = refl;
+      left_is = λ h. e;
+      within = omega arith;
+      to_do = ap (λ z. patched at z out) (all_left w n (omega (arith, some_digits n)));
+    }
+
+-- the last digit behind those before it
+last_digit : (k m : ℕ) → k + 1 ≡ length (decimal m) →
+    (decimal m ≡ rest_of k (m / 10) ++ ((48 + m % 10) ∷ [])) × (0 < k → k ≡ length (decimal (m / 10))) × (length (rest_of k (m / 10)) ≡ k)
+last_digit zero m e = go (ltb m 10) refl
+  where
+    go : (t : Bool) → ltb m 10 ≡ t → (decimal m ≡ rest_of 0 (m / 10) ++ ((48 + m % 10) ∷ [])) × (0 < 0 → 0 ≡ length (decimal (m / 10))) × (length (rest_of 0 (m / 10)) ≡ 0)
+    go true q =
+        let l : m < 10 = borrow.Author.Tests.ltb-true m 10 q in
+        let r : m % 10 ≡ m = omega arith in
+        rw (none_left (m / 10)) (decimal_small m l ∙ ap (λ z. (48 + z) ∷ []) (sym r), λ h. absurd (omega arith), refl)
+    go false q = absurd (omega (arith, more_length m (ltb-false m 10 q), some_digits (m / 10)))
+last_digit (suc k) m e = go (ltb m 10) refl
+  where
+    go : (t : Bool) → ltb m 10 ≡ t →
+        (decimal m ≡ rest_of (suc k) (m / 10) ++ ((48 + m % 10) ∷ [])) × (0 < suc k → suc k ≡ length (decimal (m / 10))) × (length (rest_of (suc k) (m / 10)) ≡ suc k)
+    go true q = absurd (omega (arith, small_length m (borrow.Author.Tests.ltb-true m 10 q)))
+    go false q =
+        let l : 10 ≤ m = ltb-false m 10 q in
+        let n : suc k ≡ length (decimal (m / 10)) = omega (arith, more_length m l) in
+        rw (all_left (suc k) (m / 10) (omega arith)) (decimal_more m l, λ h. n, sym n)
 
 module _ (out₀ : List ℕ) (at n : ℕ) (room : at + length (decimal n) ≤ length out₀) (out : List ℕ) (left m : ℕ) (h : Tens out₀ at n out left m) where
-  one_less : 10 ≤ m → left ≡ length (decimal (m / 10)) + 1
-  one_less l = h.left_is ∙ more_length m l
-
-  pub tens_left : 10 ≤ m → 1 ≤ left
-  tens_left l = omega (arith, one_less l)
-
-  pub tens_more : 10 ≤ m → Tens out₀ at n (set out (at + (left - 1)) (48 + m % 10)) (left - 1) (m / 10)
+  pub tens_more : 0 < left → Tens out₀ at n (set out (at + (left - 1)) (48 + m % 10)) (left - 1) (m / 10)
   tens_more l =
-      let d : List ℕ = decimal (m / 10) in
-      let e : left ≡ length d + 1 = one_less l in
-      let f : left - 1 ≡ length d = omega arith in
+      let k : ℕ = left - 1 in
+      let d : List ℕ = rest_of k (m / 10) in
+      let last = last_digit k m (omega (arith, h.left_is l)) in
+      let f : length d ≡ k = last.2 in
       let s : length out ≡ length out₀ = h.same in
       let w : left ≤ length (decimal n) = h.within in
       record {
-        same = length-set out (at + (left - 1)) (48 + m % 10) ∙ s;
-        left_is = f;
+        same = length-set out (at + k) (48 + m % 10) ∙ s;
+        left_is = last.1;
         within = omega arith;
         to_do =
-            ap (patched at d) (patched_one (at + (left - 1)) (48 + m % 10) out (omega arith))
-            ∙ ap (λ (k : ℕ). patched at d (patched (at + k) ((48 + m % 10) ∷ []) out)) f
+            ap (patched at d) (patched_one (at + k) (48 + m % 10) out (omega arith))
+            ∙ ap (λ (j : ℕ). patched at d (patched (at + j) ((48 + m % 10) ∷ []) out)) (sym f)
             ∙ patched_before at d ((48 + m % 10) ∷ []) out (omega arith)
-            ∙ ap (λ (x : List ℕ). patched at x out) (sym (decimal_more m l))
+            ∙ ap (λ (x : List ℕ). patched at x out) (sym last.0 ∙ sym (all_left left m l))
             ∙ h.to_do;
       }
 
-  pub tens_room : m < 10 → at < length out
-  tens_room l = let s : length out ≡ length out₀ = h.same in let i = h.left_is in let j = h.within in omega (arith, small_length m l)
-
-  pub tens_end : (w : ℕ) → w ≡ length (decimal n) → m < 10 → Puts out₀ at (length (decimal n)) (decimal n) (set out at (48 + m)) (at + w)
+  pub tens_end : (w : ℕ) → w ≡ length (decimal n) → left ≤ 0 → Puts out₀ at (length (decimal n)) (decimal n) out (at + w)
   tens_end w e l =
-      let s : length out ≡ length out₀ = h.same in
-      let k = small_length m l in
-      let i = h.left_is in
-      let j = h.within in
+      let z : left ≡ 0 = omega arith in
       record {
-        bytes = patched_one at (48 + m) out (omega arith) ∙ ap (λ (x : List ℕ). patched at x out) (sym (decimal_small m l)) ∙ h.to_do;
+        bytes = sym (patched_none at out) ∙ ap (λ (x : List ℕ). patched at x out) (sym (ap (λ j. rest_of j m) z ∙ none_left m)) ∙ h.to_do;
         counted = refl;
         next = omega arith;
       }

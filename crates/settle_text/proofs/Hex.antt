@@ -8,7 +8,6 @@ use native.Mathlib.Numerals.{add-one}
 use lib.ListN.{length, get_or, drop, drop_of_length-le}
 use lib.Seq.{drop-cons}
 use borrow.Author.Tests.{lt-ltb, le-ltb}
-use Rattle.std.specs.Prelude.{if◌then◌else◌}
 use Rattle.completion.specs.Calls.{written}
 use Rattle.completion.specs.Settle.{ascii, hex_digit, hex_byte, decimal, line}
 use Rattle.fields.specs.Puts.{patched, Puts, PutsSome, tagged}

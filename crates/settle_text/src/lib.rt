@@ -41,11 +41,9 @@ fn put_hexes(out: &mut [u8], at: usize, from: &[u8]) -> usize
     requires { at + 2 * length from.now ≤ length out.old }
     ensures { Puts out.old at (2 * length from.now) (flat_map hex_byte from.now) out.new result }
 {
-    let mut i = 0;
     let mut a = at;
-    while i < from.len() {
-        a = put_hex(out, a, from[i]);
-        i += 1;
+    for b in from {
+        a = put_hex(out, a, *b);
     }
     a
 }
@@ -54,13 +52,7 @@ fn put_hexes(out: &mut [u8], at: usize, from: &[u8]) -> usize
 fn digits(n: usize) -> usize
     ensures { result ≡ length (decimal n) }
 {
-    let mut m = n;
-    let mut w = 1;
-    while m >= 10 {
-        m /= 10;
-        w += 1;
-    }
-    w
+    n.max(1).ilog10() as usize + 1
 }
 
 // A number in decimal, from its last digit to its first.
@@ -69,14 +61,11 @@ fn put_decimal(out: &mut [u8], at: usize, n: usize) -> usize
     ensures { Puts out.old at (length (decimal n)) (decimal n) out.new result }
 {
     let w = digits(n);
-    let mut left = w;
     let mut m = n;
-    while m >= 10 {
-        left -= 1;
+    for left in (0..w).rev() {
         out[at + left] = b'0' + (m % 10) as u8;
         m /= 10;
     }
-    out[at] = b'0' + m as u8;
     at + w
 }
 

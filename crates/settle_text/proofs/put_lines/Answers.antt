@@ -1,7 +1,6 @@
 -- `put_lines`: the invariant is that the lines of the fields from i on, put at a, give the whole text; the bytes to come fall. Assumes nothing. Bytes
 -- that end inside a field are no fields, so nothing is promised of them.
 -- Read first: specs/Text (Lines), proofs/Lining (Printing, Lining), reading/specs/Answers (IsField).
-use Prim.Native.Nat.{◌-◌}
 use native.Mathlib.Omega.{arith}
 use Rattle.settle_text.proofs.Lining.{printing_start, no_field, line_room, printing_more, printing_room, printing_end}
 use Rattle.settle_text.proofs.put_lines.Goals as goal
