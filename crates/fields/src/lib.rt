@@ -1,4 +1,6 @@
 // Fields put into a lent buffer, one behind the other. Each function answers the place behind what it put.
+// Kept: buffer and place handed on, and no writer with methods: each of these would promise besides that it still writes to the same buffer, and
+// callers put one field or two at a time.
 #![tactic(auto)]
 
 ghost use Rattle.std.specs.Prelude.{◌≡◌, ◌∷◌, ◌+◌, ◌<◌, ◌≤◌, length, take, drop};
