@@ -5,6 +5,7 @@ use mathlib.Core.Path.{◌≡◌, refl, sym, ap, ap₂, ◌∙◌}
 use mathlib.Core.List.{List, [], ◌∷◌, ◌++◌, flat_map}
 use Prim.Native.Nat.{ℕ, ◌+◌, ◌-◌, ◌*◌, ◌≤◌, ◌<◌}
 use native.Mathlib.Omega.{arith}
+use native.Mathlib.Decide.{dec_lt}
 use lib.ListN.{length, take, drop, length-append, length-drop}
 use lib.Seq.{length-take-le}
 use Rattle.terms.specs.Base.{Field, field_bytes, Every, of_cons}
@@ -86,7 +87,7 @@ module _ (result out₀ : List ℕ) (big : 4 * length result ≤ length out₀) 
           (ap (λ (z : List ℕ). patched a z out) (sym (lines_cons f rest)) ∙ to_do) (ap (λ (z : List ℕ). a + length z) (sym (lines_cons f rest)) ∙ total)
 
   -- bytes that end inside a field are no fields
-  pub no_field : i < length result → read_field i (drop i result) ≡ refused 3 i → (r : ℕ) → Lines result out₀ out r
+  no_field : i < length result → read_field i (drop i result) ≡ refused 3 i → (r : ℕ) → Lines result out₀ out r
   no_field l cut r fs h e = absurd (with_next fs h e l λ f rest s read t u. no_ok (sym cut ∙ read))
 
   module _ (l : i < length result) (tag start n : ℕ) (F : WholeAt result i tag start n) where
@@ -137,7 +138,7 @@ module _ (result out₀ : List ℕ) (big : 4 * length result ≤ length out₀) 
   pub printing_room : a ≤ length out₀
   printing_room = let w : a ≤ 4 * i = p.room in let v : i ≤ length result = p.within in omega arith
 
-  pub printing_end : length result ≤ i → Lines result out₀ out a
+  printing_end : length result ≤ i → Lines result out₀ out a
   unfolding written
   printing_end l fs h e =
       let q : Lining result out₀ fs i a out = p.lines fs h e in
@@ -147,3 +148,11 @@ module _ (result out₀ : List ℕ) (big : 4 * length result ≤ length out₀) 
         bytes = sym (patched_none a out) ∙ ap (λ (x : List ℕ). patched a x out) (sym z) ∙ q.to_do ∙ patched_front (flat_map line fs) out₀;
         count = omega (arith, q.total, ap length z);
       }
+
+  -- no field begins at i: all are printed, or the bytes are no fields
+  pub printing_done : read_field i (drop i result) ≡ refused 3 i → Lines result out₀ out a
+  printing_done cut = go (dec_lt i (length result))
+    where
+      go : Dec (i < length result) → Lines result out₀ out a
+      go (yes l) = no_field l cut a
+      go (no l) = printing_end (omega arith)

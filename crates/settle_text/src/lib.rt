@@ -90,16 +90,9 @@ pub fn put_lines(out: &mut [u8], res: &[u8]) -> usize
 {
     let mut i = 0;
     let mut a = 0;
-    while i < res.len() {
-        match reading::field_at(res, i) {
-            reading::Field::Cut => {
-                return a;
-            }
-            reading::Field::At { tag, start, end } => {
-                a = put_line(out, a, tag, &res[start..end]);
-                i = end;
-            }
-        }
+    while let Some(field) = reading::field_at(res, i) {
+        a = put_line(out, a, field.tag, &res[field.start..field.end]);
+        i = field.end;
     }
     a
 }
