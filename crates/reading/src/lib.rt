@@ -113,6 +113,7 @@ pub fn check_symbols(table: &[u8]) -> Result<(), SymbolsError>
 }
 
 // The term at a place, in the bytes up to an end: the place behind it, or of the byte that is wrong.
+// Kept: the three functions on terms take the same four values with the same demands; a struct of them would be made anew at each call.
 pub fn term_at(t: &[u8], table: &[u8], at: usize, end: usize) -> Result<usize, BadTerm>
     requires table { Table table.now }
     requires at_le_end { (at ≤ end) × (end ≤ length t.now) × (length t.now ≤ two_byte_values) }
@@ -176,6 +177,7 @@ pub fn pair_at(t: &[u8], table: &[u8], at: usize, end: usize) -> Result<usize, P
     requires at_le_end { (at ≤ end) × (end ≤ length t.now) × (length t.now ≤ two_byte_values) }
     ensures { IsPair table.now t.now at end result }
 {
+    // Kept: `match`, since behind `map_err` the closure's answer is not known by name, and the proof did not close.
     let middle = match side_at(t, table, at, end) {
         Ok(middle) => middle,
         Err(e) => return Err(e.of_pair(at)),
