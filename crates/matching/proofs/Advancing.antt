@@ -145,7 +145,8 @@ module _ (T : List ℕ) (b j : ℕ) (B : List ℕ) (w : Within T B) (l : j < len
           free_bound : (tab : List ℕ) (m : ℕ) (u : Term) (bs : List Binding) → Stands tab T m j u → Rep tab T m B bs → (o : Option Term) → o ≡ none →
               BoundTo tab T m j u (Some (j + n)) (set B x (j + 1)) (bind_to x u bs o)
           unfolding bind_to bound
-          free_bound tab m u bs s r none z = (ap (λ k. Some (j + k)) (nn ∙ stands_size tab T m j u s), λ y g. free_go tab m u bs s r y g (eqb y x) (eqb_says y x))
+          free_bound tab m u bs s r none z =
+              (ap (λ k. Some (j + k)) (nn ∙ stands_size tab T m j u s), λ y g. free_go tab m u bs s r y g (eqb y x) (eqb_says y x))
           free_bound tab m u bs s r (some a) z = absurd (none≢some (sym z))
 
           pub adv_free : get_or B x 0 ≡ 0 → Advanced T b j B (Some (j + n)) (set B x (j + 1))
