@@ -117,9 +117,10 @@ pub fn text(problem: &[u8], out: &mut [u8]) -> usize
 {
     let mut result = [0u8; limits::BUFFER];
     match complete::complete(problem, &mut result) {
-        complete::Completed::Written(n) => put_lines(out, &result[0..n]),
-        complete::Completed::Refused { number, place } => {
-            put_refused(out, terms::wide(number), place)
+        Ok(n) => put_lines(out, &result[0..n]),
+        Err(refusal) => {
+            let number = usize::from(u8::from(refusal.reason));
+            put_refused(out, number, refusal.place)
         }
     }
 }
