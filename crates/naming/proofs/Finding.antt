@@ -48,7 +48,8 @@ pub record Added (d : List ℕ) (n b : ℕ) (e : List ℕ) (r : ℕ) : Type 0 wh
 pub add_symbol : (d : List ℕ) (n b : ℕ) → b < 128 → Added d n b d n
 add_symbol d n b h = record { long = refl; names = sym (added_symbol b (take n d) h); few = omega arith }
 
-module _ (d : List ℕ) (n b : ℕ) (r : Option ℕ) (h : n < length d) (v : 128 ≤ b) (e : r ≡ position (λ name. b == name) (take n d)) (t : Bool) (k : t ≡ is_some r) where
+module _ (d : List ℕ) (n b : ℕ) (r : Option ℕ) (h : n < length d) (v : 128 ≤ b) (e : r ≡ position (λ name. b == name) (take n d)) (t : Bool)
+    (k : t ≡ is_some r) where
   known : t ≡ ltb (place_in b (take n d)) (length (take n d))
   known = k ∙ (is_place b (take n d) r e).1
 

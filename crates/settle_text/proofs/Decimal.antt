@@ -139,7 +139,8 @@ last_digit : (k m : ℕ) → k + 1 ≡ length (decimal m) →
     (decimal m ≡ rest_of k (m / 10) ++ ((48 + m % 10) ∷ [])) × (0 < k → k ≡ length (decimal (m / 10))) × (length (rest_of k (m / 10)) ≡ k)
 last_digit zero m e = go (ltb m 10) refl
   where
-    go : (t : Bool) → ltb m 10 ≡ t → (decimal m ≡ rest_of 0 (m / 10) ++ ((48 + m % 10) ∷ [])) × (0 < 0 → 0 ≡ length (decimal (m / 10))) × (length (rest_of 0 (m / 10)) ≡ 0)
+    go : (t : Bool) → ltb m 10 ≡ t →
+        (decimal m ≡ rest_of 0 (m / 10) ++ ((48 + m % 10) ∷ [])) × (0 < 0 → 0 ≡ length (decimal (m / 10))) × (length (rest_of 0 (m / 10)) ≡ 0)
     go true q =
         let l : m < 10 = borrow.Author.Tests.ltb-true m 10 q in
         let r : m % 10 ≡ m = omega arith in
@@ -148,7 +149,8 @@ last_digit zero m e = go (ltb m 10) refl
 last_digit (suc k) m e = go (ltb m 10) refl
   where
     go : (t : Bool) → ltb m 10 ≡ t →
-        (decimal m ≡ rest_of (suc k) (m / 10) ++ ((48 + m % 10) ∷ [])) × (0 < suc k → suc k ≡ length (decimal (m / 10))) × (length (rest_of (suc k) (m / 10)) ≡ suc k)
+        (decimal m ≡ rest_of (suc k) (m / 10) ++ ((48 + m % 10) ∷ [])) × (0 < suc k → suc k ≡ length (decimal (m / 10))) ×
+        (length (rest_of (suc k) (m / 10)) ≡ suc k)
     go true q = absurd (omega (arith, small_length m (borrow.Author.Tests.ltb-true m 10 q)))
     go false q =
         let l : 10 ≤ m = ltb-false m 10 q in

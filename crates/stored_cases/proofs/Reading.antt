@@ -24,7 +24,8 @@ module _ (l : List ℕ) (at : ℕ) where
     unfolding case_at
     cut_behind h = rw (le-ltb (length l) (at + 4) head, lt-ltb (length l) (end_at l at) h) refl
 
-    pub whole : (problem end : ℕ) → problem ≡ problem_at l at → end ≡ end_at l at → end ≤ length l → Some (case_of (get_or l at 0) (at + 4) problem end) ≡ case_at l at
+    pub whole : (problem end : ℕ) → problem ≡ problem_at l at → end ≡ end_at l at → end ≤ length l →
+        Some (case_of (get_or l at 0) (at + 4) problem end) ≡ case_at l at
     unfolding case_at
     whole problem end p e h =
         ap₂ (λ (z w : ℕ). Some (case_of (get_or l at 0) (at + 4) z w)) p e

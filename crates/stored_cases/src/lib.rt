@@ -45,7 +45,6 @@ pub fn case_at(text: &[u8], at: usize) -> Option<Case>
     })
 }
 
-// Kept: a reader's `read_exact` says nothing of an end of the input, or of what an error loses.
 // A case, read: what is asked, its name and its problem.
 #[derive(Clone, Copy)]
 pub struct Asked<'a> {
@@ -102,6 +101,7 @@ impl<'a> Iterator for Cases<'a> {
     }
 }
 
+// Kept: a reader's `read_exact` says nothing of an end of the input, or of what an error loses.
 // Reads until the buffer is full or the input ends: how many bytes stand at its start. Where the input's bytes are known, these are the next of them.
 // After an error some start of the buffer is what the input has lost.
 pub fn read_full<R: Read>(input: &mut R, buffer: &mut [u8]) -> io::Result<usize>

@@ -9,7 +9,8 @@ returns-then-b-lt-VARIABLE c =
     elim c.then-b-lt-VARIABLE.branch [
       | then-b-lt-VARIABLE-via-then-b-lt-VARIABLE w ↦ let a = add_symbol c.args.names.now _ _ w.if-b-lt-VARIABLE.true in (a.long, a.names, a.few)
       | then-b-lt-VARIABLE-via-else-b-lt-VARIABLE+then-is_some w ↦
-          let a = add_old c.args.names.now _ _ _ c.requires w.if-b-lt-VARIABLE.false w.place_of.ensures _ w.is_some.ensures w.if-is_some.true in (a.long, a.names, a.few)
+          let a = add_old c.args.names.now _ _ _ c.requires w.if-b-lt-VARIABLE.false w.place_of.ensures _ w.is_some.ensures w.if-is_some.true in
+          (a.long, a.names, a.few)
     ]
 
 pub returns : goal.returns

@@ -31,6 +31,8 @@ returns-in-Ok c =
 pub returns-in-Err : goal.returns-in-Err
 returns-in-Err c =
     record {
-      writes = prints_refused _ _ _ _ _ _ _ _ c.in-Err.is c.complete.ensures.answer (c.from-number.ensures ∙ c.from.ensures) (search rules) c.put_refused.ensures.1;
+      writes =
+          prints_refused _ _ _ _ _ _ _ _ c.in-Err.is c.complete.ensures.answer (c.from-number.ensures ∙ c.from.ensures) (search rules)
+          c.put_refused.ensures.1;
       upper_bound = (let p = c.put_refused.ensures.0 in let q = c.requires in omega arith);
     }
