@@ -25,7 +25,7 @@ module _ {d s out : List ℕ} {i : ℕ} (p : Loaded d s out i) where
       let r = p.room in
       let z : 0 + i ≡ i = omega arith in
       let t : set out i v ≡ set (paste d 0 s i) (0 + i) (get_or s i 0) =
-          ap₂ (λ l w. set l i w) p.text e ∙ ap (λ m. set (paste d 0 s i) m (get_or s i 0)) (sym z) in
+      ap₂ (λ l w. set l i w) p.text e ∙ ap (λ m. set (paste d 0 s i) m (get_or s i 0)) (sym z) in
       record { few = omega arith; room = r; text = t ∙ rw (add-one i) (paste-suc d 0 s i 0 (omega arith) h) }
 
   pub load_done : {n : ℕ} → n ≡ length s → n ≤ i → out ≡ s ++ drop n d

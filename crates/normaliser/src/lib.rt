@@ -29,9 +29,9 @@ fn leave(c: u16, len: usize, units: u32) -> Out
 
 // Normalises the term at the start of t, of which `len` cells are in use and at most `most` may be.
 #[cycle(normalise)]
-fn normalise_in(t: &mut [u16], len: usize, most: usize, system: System, units: u32) -> Out
+fn normalise_in(t: &mut [u16], len: usize, most: usize, system: &System, units: u32) -> Out
     requires len_le_most { (len ≤ most) × (most ≤ length t.old) × (most ≤ most_nodes) }
-    ensures { Settled system.entry.table.now system.entry.rules.now system.entry.count t.old t.new len most units result }
+    ensures { Settled system.now.table.now system.now.rules.now system.now.count t.old t.new len most units result }
 {
     let mut l = len;
     let mut u = units;
@@ -64,11 +64,11 @@ fn normalise_all(
     n: usize,
     len: usize,
     most: usize,
-    system: System,
+    system: &System,
     units: u32,
 ) -> Out
     requires len_le_most { (len ≤ most) × (most ≤ length t.old) × (most ≤ most_nodes) }
-    ensures { SettledAll system.entry.table.now system.entry.rules.now system.entry.count t.old t.new n len most units result }
+    ensures { SettledAll system.now.table.now system.now.rules.now system.now.count t.old t.new n len most units result }
 {
     let mut p = 0;
     let mut l = len;
@@ -112,7 +112,7 @@ pub fn reducible(t: &[u8], system: System) -> bool
 {
     let mut cells = [0u16; NODES];
     load(t, &mut cells);
-    let r = normalise_in(&mut cells, t.len(), NODES, system, 0);
+    let r = normalise_in(&mut cells, t.len(), NODES, &system, 0);
     matches!(r.step, Step::Spent)
 }
 
@@ -163,7 +163,7 @@ pub fn normalise(t: &[u8], system: System, units: u32, out: &mut [u8]) -> Reache
 {
     let mut cells = [0u16; NODES];
     load(t, &mut cells);
-    let r = normalise_in(&mut cells, t.len(), NODES, system, units);
+    let r = normalise_in(&mut cells, t.len(), NODES, &system, units);
     let n = r.len;
     unload(&cells[0..n], out);
     Reached {

@@ -34,9 +34,9 @@ pub struct Found {
 
 // The earliest node that a rule matches, and the lowest rule there. No rule matches a node whose subterm ends at `clean` or before: of the nodes before
 // that place only its ancestors are looked at.
-fn first_redex(t: &[u16], clean: usize, system: System, binds: &mut [u8]) -> Option<Found>
+fn first_redex(t: &[u16], clean: usize, system: &System, binds: &mut [u8]) -> Option<Found>
     requires t_len_bound { (length t.now ≤ most_nodes) × (most_variables ≤ length binds.old) }
-    ensures { FirstRedex system.entry.rules.now t.now clean system.entry.count binds.old binds.new result }
+    ensures { FirstRedex system.now.rules.now t.now clean system.now.count binds.old binds.new result }
 {
     // Kept: i moves by a subterm's size.
     let mut i = 0;
@@ -70,9 +70,9 @@ fn open_path(t: &mut [u16], at: usize)
 }
 
 // One step, or none: the term is in the first `len` cells, and `end` is the place of a step that was made.
-fn step(t: &mut [u16], len: usize, clean: usize, system: System, units: u32) -> Out
+fn step(t: &mut [u16], len: usize, clean: usize, system: &System, units: u32) -> Out
     requires len_le_most_nodes { (len ≤ most_nodes) × (length t.old ≡ most_nodes) }
-    ensures { SteppedOuter system.entry.table.now system.entry.rules.now system.entry.count t.old len clean units t.new result }
+    ensures { SteppedOuter system.now.table.now system.now.rules.now system.now.count t.old len clean units t.new result }
 {
     let mut binds = [0u8; limits::VARIABLES];
     let Some(f) = first_redex(&t[0..len], clean, system, &mut binds) else {
@@ -90,9 +90,9 @@ fn step(t: &mut [u16], len: usize, clean: usize, system: System, units: u32) -> 
 }
 
 // Steps while there is one.
-fn steps(t: &mut [u16], len: usize, system: System, units: u32) -> Out
+fn steps(t: &mut [u16], len: usize, system: &System, units: u32) -> Out
     requires len_le_most_nodes { (len ≤ most_nodes) × (length t.old ≡ most_nodes) }
-    ensures { ReachedOuter system.entry.table.now system.entry.rules.now system.entry.count t.old len units t.new result }
+    ensures { ReachedOuter system.now.table.now system.now.rules.now system.now.count t.old len units t.new result }
 {
     redex::size_cells(&mut t[0..len], system.table);
     let mut l = len;
@@ -116,7 +116,7 @@ pub fn normalise(t: &[u8], system: System, units: u32, out: &mut [u8]) -> Reache
 {
     let mut cells = [0u16; NODES];
     normaliser::load(t, &mut cells);
-    let r = steps(&mut cells, t.len(), system, units);
+    let r = steps(&mut cells, t.len(), &system, units);
     let n = r.len;
     normaliser::unload(&cells[0..n], out);
     Reached {

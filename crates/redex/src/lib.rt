@@ -27,9 +27,9 @@ pub fn fits(rules: &[u8], k: usize, t: &[u16], binds: &mut [u8]) -> bool
 }
 
 // The lowest rule that matches at the start of t.
-pub fn find(system: System, t: &[u16], binds: &mut [u8]) -> Option<usize>
+pub fn find(system: &System, t: &[u16], binds: &mut [u8]) -> Option<usize>
     requires t_nonzero { (0 < length t.now) × (length t.now ≤ most_nodes) × (most_variables ≤ length binds.old) }
-    ensures { FoundRule system.entry.rules.now t.now system.entry.count result binds.old binds.new }
+    ensures { FoundRule system.now.rules.now t.now system.now.count result binds.old binds.new }
 {
     for k in 0..system.count {
         if fits(system.rules, k, t, binds) {
@@ -98,11 +98,11 @@ pub fn rewrite(
     len: usize,
     end: usize,
     most: usize,
-    system: System,
+    system: &System,
     units: u32,
 ) -> Out
     requires end_nonzero { (0 < end) × (end ≤ len) × (len ≤ most) × (most ≤ length t.old) × (most ≤ most_nodes) }
-    ensures { RewritesRoot system.entry.rules.now system.entry.count t.old t.new len end most units result }
+    ensures { RewritesRoot system.now.rules.now system.now.count t.old t.new len end most units result }
 {
     t[0] = matching::sized(t[0], end);
     let mut binds = [0u8; limits::VARIABLES];

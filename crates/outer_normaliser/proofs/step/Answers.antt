@@ -18,10 +18,10 @@ pub contract_at-requires : goal.contract_at-requires
 contract_at-requires c =
     let k = c.in-Some.ensures.found.rule in
     let s = c.first_redex.ensures.same in
-    let g : Sought c.args.system.rules.now c.args.t.now c.args.system.count c.args.len c.args.clean c.first_redex.new.binds (Some c.in-Some.f) =
+    let g : Sought c.args.system.now.rules.now c.args.t.now c.args.system.now.count c.args.len c.args.clean c.first_redex.new.binds (Some c.in-Some.f) =
     sought c.in-Some.ensures c.requires.len_le_most_nodes in
     record {
-      layout = layout_less (omega arith) c.args.system.laid_out;
+      layout = layout_less (omega arith) c.args.system.now.laid_out;
       at_lt_len = (place_low g, c.requires.len_le_most_nodes.0, c.requires.len_le_most_nodes.1);
       most_variables_in_bounds = (search rules, places_within g);
     }

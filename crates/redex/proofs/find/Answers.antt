@@ -9,7 +9,7 @@ pub loop-k-init : goal.loop-k-init
 loop-k-init c = search_start
 
 pub fits-requires-clause-layout : goal.fits-requires-clause-layout
-fits-requires-clause-layout c = layout_less (let q = c.loop-k-test.true in omega arith) c.args.system.laid_out
+fits-requires-clause-layout c = layout_less (let q = c.loop-k-test.true in omega arith) c.args.system.now.laid_out
 
 pub returns-then-fits : goal.returns-then-fits
 returns-then-fits c = search_hit c.loop-k.invariant c.loop-k-test.true c.fits.ensures c.if-fits.true
