@@ -56,6 +56,7 @@ fn digits(n: usize) -> usize
 }
 
 // A number in decimal, from its last digit to its first.
+// Kept: digit by digit, since `write!` to a text of fixed room may fail by its contract, and this function may not.
 fn put_decimal(out: &mut [u8], at: usize, n: usize) -> usize
     requires { at + length (decimal n) ≤ length out.old }
     ensures { Puts out.old at (length (decimal n)) (decimal n) out.new result }

@@ -1,14 +1,10 @@
 -- `names_of`: the invariant is that the names so far, with those of the bytes to come, are all of them. Assumes nothing.
 -- Read first: specs/Names (collect), proofs/Finding (Collected).
-use Rattle.std.proofs.Common.{arith}
 use Rattle.naming.proofs.Finding.{collected_start, collected_more, collected_end}
 use Rattle.naming.proofs.names_of.Goals as goal
 
 pub loop-b-init : goal.loop-b-init
 loop-b-init c = collected_start _ _
-
-pub add_name-n-requires : goal.add_name-n-requires
-add_name-n-requires c = omega (arith, c.loop-b.invariant.few, c.loop-b.invariant.long, c.requires)
 
 pub loop-b-preserved : goal.loop-b-preserved
 loop-b-preserved c =
