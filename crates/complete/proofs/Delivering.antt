@@ -14,8 +14,8 @@ use Rattle.checkpoint.specs.Resume.{leaves}
 use Rattle.checkpoint.specs.Wrote.{EngineWrote, begun}
 use Rattle.checkpoint.proofs.Delivers.{engine_kept}
 use Rattle.complete.specs.Answer.{completed_told, Delivery}
-use Rattle.complete.specs.declared.Completed.{Completed}
-use Rattle.complete.specs.declared.Completed.TheVariants.{Written, Refused}
+use Rattle.std.specs.Prelude.{Result, Ok, Err}
+use Rattle.problem.specs.declared.Refusal.{Refusal}
 
 -- what the call leaves for a problem is the result of its run
 call_leaves : (problem : List ℕ) (buffer : ℕ) (bytes : List ℕ) → complete_call problem buffer ≡ ok bytes → (P : Problem) → parse problem ≡ ok P →
@@ -41,7 +41,7 @@ module _ (problem before after : List ℕ) (b : after ≡ after_complete (comple
           let front : take n after ≡ bytes = ap (take n) b ∙ written_front bytes before n (sym q) in
           record { ran = begun problem P p refl refl; bytes_are = front ∙ call_leaves problem (length before) bytes e P p }
 
-  pub delivery : (r : Completed) → completed_told r ≡ counted (complete_call problem (length before)) → Delivery problem after r
+  pub delivery : (r : Result ℕ Refusal) → completed_told r ≡ counted (complete_call problem (length before)) → Delivery problem after r
   unfolding Delivery Delivers completed_told
-  delivery (Refused n at) a = tt
-  delivery (Written n) a = λ P p. (engine_kept (leaves_record n a P p)).promise
+  delivery (Err r) a = tt
+  delivery (Ok n) a = λ P p. (engine_kept (leaves_record n a P p)).promise

@@ -5,4 +5,4 @@ use Rattle.complete.proofs.Completing.{accepted_run}
 use Rattle.complete.proofs.accepted.Goals as goal
 
 pub returns : goal.returns
-returns c = accepted_run _ _ _ _ _ _ _ _ _ _ c.read-inputs.ensures c.run-ran.ensures c.report.ensures
+returns c = accepted_run _ _ _ _ _ _ _ c.read-inputs.ensures c.run-ran.ensures c.report.ensures

@@ -1,6 +1,7 @@
 -- `complete`: a lemma for each return: short buffer, refused problem, written result; demand 3 follows from each (`delivers`). Assumes nothing.
 -- Read first: specs/Answer (completed-told, counted, Delivery), completion/specs/Calls (complete-call), proofs/Completing.
-use Rattle.complete.proofs.Completing.{accepted_needs, answers_short, answers_refused, answers_written, delivers}
+use Rattle.problem.proofs.Handed.{handed_on}
+use Rattle.complete.proofs.Completing.{Answered, accepted_needs, answers_short, answers_refused, answers_written, delivers}
 use native.Mathlib.Omega.{arith}
 use Rattle.complete.proofs.complete.Goals as goal
 
@@ -13,29 +14,28 @@ returns-then-res-lt-BUFFER c =
       delivery = delivers _ _ _ _ a;
     }
 
-pub accepted-n-requires : goal.accepted-n-requires
-accepted-n-requires c =
-    let q = accepted_needs _ _ _ _ _ c.in-Fine.ensures.1 in
-    record {
-      field_head_le_table_end = (q.low, q.within, q.small);
-      count_le_most_equations = (q.few, q.budget, (let p = c.if-res-lt-BUFFER.false in omega arith));
-    }
-
-pub returns-in-Refused : goal.returns-in-Refused
-returns-in-Refused c =
-    let a = answers_refused _ _ c.if-res-lt-BUFFER.false _ _
-    c.in-Refused.ensures.1 in
+pub returns-in_err-input : goal.returns-in_err-input
+returns-in_err-input c =
+    let a = handed_on (Answered c.args.problem.now c.args.res.now c.args.res.now) _ _ c.from_residual.ensures.1
+    (answers_refused _ _ c.if-res-lt-BUFFER.false _ c.in_err-input.ensures.1) in
     record {
       answer = a.answer;
       bytes = a.bytes;
       delivery = delivers _ _ _ _ a;
     }
 
-pub returns-in-Fine : goal.returns-in-Fine
-returns-in-Fine c =
-    let q = c.in-Fine.ensures.1 in
-    let a = answers_written _ _ c.if-res-lt-BUFFER.false q.0 q.1.is _ _
-    (c.accepted-n.ensures q.0 q.1) in
+pub accepted-requires : goal.accepted-requires
+accepted-requires c =
+    let q = accepted_needs _ _ _ _ _ c.in_ok-input.ensures.1 in
+    record {
+      table_in_bounds = (q.low, q.within, q.small);
+      few = (q.few, q.budget, (let p = c.if-res-lt-BUFFER.false in omega arith));
+    }
+
+pub returns : goal.returns
+returns c =
+    let q = c.in_ok-input.ensures.1 in
+    let a = answers_written _ _ c.if-res-lt-BUFFER.false q.0 q.1.is _ _ (c.accepted.ensures q.0 q.1) in
     record {
       answer = a.answer;
       bytes = a.bytes;
