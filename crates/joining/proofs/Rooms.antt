@@ -1,4 +1,4 @@
--- What `walked` answers: its parts, and that a slot was kept and no units were added. Assumes nothing.
+-- What is answered, by its parts, and that a slot was kept and no units were added. Assumes nothing.
 -- Read first: specs/Joins (WalkRoom).
 use mathlib.Core.Path.{◌≡◌, ap}
 use mathlib.Core.List.{List}
@@ -6,10 +6,12 @@ use Prim.Native.Nat.{ℕ, ◌≤◌}
 use native.Mathlib.Omega.{arith}
 use Rattle.slots.specs.Slots.{KeptSlot}
 use Rattle.joining.specs.declared.Walk.{Walk}
-use Rattle.joining.specs.declared.Found.{Found}
+use Rattle.std.specs.Prelude.{Result}
+use Rattle.rewriting.specs.declared.End.{End}
+use Rattle.joining.specs.declared.Joined.{Joined}
 use Rattle.joining.specs.Joins.{WalkRoom}
 
-module _ {f : Found} {u : ℕ} {w : Walk} (e : w ≡ record { found = f; units = u }) where
+module _ {f : Result Joined End} {u : ℕ} {w : Walk} (e : w ≡ record { found = f; units = u }) where
   pub found_is : w.found ≡ f
   found_is = ap (λ (v : Walk). v.found) e
 

@@ -1,6 +1,6 @@
 -- What two terms come to by one of the two strategies, left then right, and what comparing their last terms answers. Assumes nothing.
 -- Read first: rewriting/specs/Rewrite (both_by), rewriting/specs/Outermost, normaliser/specs/Settled (Normalised).
-use Rattle.std.specs.Prelude.{◌≡◌, Bool, true, false, List, ℕ, ◌≤◌, length}
+use Rattle.std.specs.Prelude.{◌≡◌, Bool, true, false, List, ℕ, ◌≤◌, length, Result, Ok, Err}
 use Rattle.std.proofs.Math.Option.{Option}
 use Rattle.limits.specs.Limits.{most_apart}
 use Rattle.terms.specs.Term.{Term, Pair, same, term_bytes}
@@ -9,13 +9,14 @@ use Rattle.rewriting.specs.Overlap.{Rule, sides_of}
 use Rattle.rewriting.specs.Rewrite.{End, complete, neither_above, spent, too_large, rules_full, log_full, Paid, done, stop, Paying, return, ◌>>=◌}
 use Rattle.rewriting.specs.Rewrite.{step, normalise_by, both_by}
 use Rattle.rewriting.specs.Outermost.{step_outer}
+use Rattle.rewriting.specs.declared.End.{End as Ending}
 use Rattle.rewriting.specs.declared.End.TheVariants.{Spent, TooLarge}
 use Rattle.slots.specs.Slots.{Sides, PairAt, Stored, KeptSlot}
 use Rattle.joining.specs.declared.Strategy.{Strategy}
 use Rattle.joining.specs.declared.Strategy.TheVariants.{Innermost, Outermost}
 use Rattle.joining.specs.declared.Walk.{Walk}
-use Rattle.joining.specs.declared.Found.{Found}
-use Rattle.joining.specs.declared.Found.TheVariants.{Equal, Different, Ends}
+use Rattle.joining.specs.declared.Joined.{Joined}
+use Rattle.joining.specs.declared.Joined.TheVariants.{Equal, Different}
 
 -- one step from the inside out [7.3], or from the outside in [22.2]
 unfoldable pub step_by : Strategy → List Rule → Term → Option Term
@@ -30,18 +31,18 @@ unfoldable pub with_left : (Term → Paying Term) → Term → Term → Paying P
 with_left last l t = last t >>= λ r. return (record { left = l; right = r })
 
 -- the two ends to which terms can come
-abbrev pub FoundStops : End → Found → Type 0
+abbrev pub FoundStops : End → Result Joined Ending → Type 0
 FoundStops complete f = ⊥
 FoundStops neither_above f = ⊥
-FoundStops spent f = f ≡ Ends Spent
-FoundStops too_large f = f ≡ Ends TooLarge
+FoundStops spent f = f ≡ Err Spent
+FoundStops too_large f = f ≡ Err TooLarge
 FoundStops rules_full f = ⊥
 FoundStops log_full f = ⊥
 
 -- two last terms, by whether they are the same; if not, they stand in the slot `one`
-abbrev pub LastsAre : List ℕ → List ℕ → Found → Pair → Bool → Type 0
-LastsAre tab one f p true = f ≡ Equal
-LastsAre tab one f p false = (f ≡ Different) × PairAt most_apart tab one 0 p
+abbrev pub LastsAre : List ℕ → List ℕ → Result Joined Ending → Pair → Bool → Type 0
+LastsAre tab one f p true = f ≡ Ok Equal
+LastsAre tab one f p false = (f ≡ Ok Different) × PairAt most_apart tab one 0 p
 
 abbrev pub JoinIs : List ℕ → List ℕ → Walk → Paid Pair → Type 0
 JoinIs tab one w (done p left) = (w.units ≡ left) × LastsAre tab one w.found p (same p.left p.right)

@@ -4,15 +4,16 @@
 ghost use Rattle.std.specs.Prelude.{◌≡◌, ◌≤◌, length};
 ghost use Rattle.limits.specs.Limits.{most_nodes};
 ghost use Rattle.slots.specs.Slots.{Layout};
-ghost use Rattle.normaliser.specs.Settled.{Normalised};
+ghost use Rattle.normaliser.specs.Settled.{end_of, Normalised};
 ghost use Rattle.joining.specs.Joins.{by_strategy, RightJoined, SidesJoined};
 
 use limits::NODES;
-use normaliser::{Form, Reached};
+use normaliser::{Reached, Stop};
 use rewriting::End;
+use slots::System;
 
 // Which matched node a step takes.
-#[derive(Clone, Copy)]
+#[derive(Clone, Copy, Debug, PartialEq, Eq)]
 pub enum Strategy {
     // The earliest in preorder among those with no matched node strictly below.
     Innermost,
@@ -20,50 +21,42 @@ pub enum Strategy {
     Outermost,
 }
 
-// What became of two terms, or of a walk over pairs.
-#[derive(Clone, Copy)]
-pub enum Found {
+// What two terms came to, or a walk over pairs.
+#[derive(Clone, Copy, Debug, PartialEq, Eq)]
+pub enum Joined {
     // The two last terms are equal: of a walk, those of each pair.
     Equal,
     // Two different last terms: they stand in the lent slot.
     Different,
-    Ends(End),
 }
 
-#[derive(Drop)]
+#[derive(Clone, Copy)]
 pub struct Walk {
-    pub found: Found,
+    // What they came to, or how they stopped.
+    pub found: Result<Joined, End>,
     // The units left.
     pub units: u32,
 }
 
-pub fn walked(found: Found, units: u32) -> Walk
-    ensures { result ≡ record { found = found; units = units } }
+// A side that came to no last term.
+fn stopped(stop: Stop, units: u32) -> Walk
+    ensures { result ≡ record { found = Err (end_of stop); units = units } }
 {
     Walk {
-        found: found,
-        units: units,
+        found: Err(End::from(stop)),
+        units,
     }
 }
 
 // The last term of t by the strategy, to the front of `out`.
-fn last_term(
-    strategy: Strategy,
-    t: &[u8],
-    table: &[u8],
-    rules: &[u8],
-    count: usize,
-    units: u32,
-    out: &mut [u8],
-) -> Reached
-    requires layout { Layout rules.now count }
-    requires t_len_bound { (length t.now ≤ most_nodes) × (most_nodes ≤ length out.old) }
-    ensures { Normalised (by_strategy strategy) table.now rules.now count t.now out.old out.new
+fn last_term(strategy: Strategy, t: &[u8], system: System, units: u32, out: &mut [u8]) -> Reached
+    requires { (length t.now ≤ most_nodes) × (most_nodes ≤ length out.old) }
+    ensures { Normalised (by_strategy strategy) system.entry.table.now system.entry.rules.now system.entry.count t.now out.old out.new
         units result }
 {
     match strategy {
-        Strategy::Innermost => normaliser::normalise(t, table, rules, count, units, out),
-        Strategy::Outermost => outer_normaliser::normalise(t, table, rules, count, units, out),
+        Strategy::Innermost => normaliser::normalise(t, system, units, out),
+        Strategy::Outermost => outer_normaliser::normalise(t, system, units, out),
     }
 }
 
@@ -72,31 +65,33 @@ fn join_right(
     strategy: Strategy,
     first: &[u8],
     t: &[u8],
-    rules: &[u8],
-    count: usize,
-    table: &[u8],
+    system: System,
     units: u32,
     pair: &mut [u8],
 ) -> Walk
-    requires layout { Layout rules.now count × Layout pair.old 1 }
+    requires layout { Layout pair.old 1 }
     requires first_len_bound { (length first.now ≤ most_nodes) × (length t.now ≤ most_nodes) }
-    ensures { RightJoined strategy table.now rules.now count first.now t.now pair.old
+    ensures { RightJoined strategy system.entry.table.now system.entry.rules.now system.entry.count first.now t.now pair.old
         pair.new units result }
 {
     let mut right = [0u8; NODES];
-    let r = last_term(strategy, t, table, rules, count, units, &mut right);
-    let left = units - r.paid;
-    let form = r.form;
-    match form {
-        Form::Normal(n) => {
+    let r = last_term(strategy, t, system, units, &mut right);
+    let units = units - r.paid;
+    match r.form {
+        Ok(n) => {
             if first == &right[0..n] {
-                return walked(Found::Equal, left);
+                return Walk {
+                    found: Ok(Joined::Equal),
+                    units,
+                };
             }
             slots::put_sides(pair, 0, first, &right[0..n]);
-            walked(Found::Different, left)
+            Walk {
+                found: Ok(Joined::Different),
+                units,
+            }
         }
-        Form::Spent => walked(Found::Ends(End::Spent), left),
-        Form::TooLarge => walked(Found::Ends(End::TooLarge), left),
+        Err(stop) => stopped(stop, units),
     }
 }
 
@@ -106,27 +101,20 @@ pub fn join(
     strategy: Strategy,
     left: &[u8],
     right: &[u8],
-    rules: &[u8],
-    count: usize,
-    table: &[u8],
+    system: System,
     units: u32,
     pair: &mut [u8],
 ) -> Walk
-    requires layout { Layout rules.now count × Layout pair.old 1 }
+    requires layout { Layout pair.old 1 }
     requires left_len_bound { (length left.now ≤ most_nodes) × (length right.now ≤ most_nodes) }
-    ensures { SidesJoined strategy table.now rules.now count left.now right.now pair.old
+    ensures { SidesJoined strategy system.entry.table.now system.entry.rules.now system.entry.count left.now right.now pair.old
         pair.new units result }
 {
     let mut first = [0u8; NODES];
-    let l = last_term(strategy, left, table, rules, count, units, &mut first);
+    let l = last_term(strategy, left, system, units, &mut first);
     let rest = units - l.paid;
-    let form = l.form;
-    match form {
-        Form::Normal(n) => {
-            let f = &first[0..n];
-            join_right(strategy, f, right, rules, count, table, rest, pair)
-        }
-        Form::Spent => walked(Found::Ends(End::Spent), rest),
-        Form::TooLarge => walked(Found::Ends(End::TooLarge), rest),
+    match l.form {
+        Ok(n) => join_right(strategy, &first[0..n], right, system, rest, pair),
+        Err(stop) => stopped(stop, rest),
     }
 }

@@ -1,12 +1,13 @@
 // The overlap of two stored rules at a position.
 #![tactic(auto)]
 
-ghost use Rattle.std.specs.Prelude.{◌+◌, ◌<◌, ◌≤◌, length};
+ghost use Rattle.std.specs.Prelude.{◌<◌, ◌≤◌, length};
 ghost use Rattle.limits.specs.Limits.{most_nodes};
 ghost use Rattle.slots.specs.Slots.{slot, left_length, Layout};
 ghost use Rattle.overlaps.specs.Answer.{Within, SolvesAt, Meets, Possible, Overlapped};
 
 use classes::Arena;
+use slots::System;
 
 #[derive(Clone, Copy, Debug, PartialEq, Eq)]
 pub enum Met {
@@ -109,36 +110,35 @@ fn meet(
 
 // Whether a symbol stands at the position of the outer rule's left side, and does not clash with the inner rule's left side there: else there is no
 // overlap.
-pub fn possible(rules: &[u8], table: &[u8], inner: usize, outer: usize, position: usize) -> bool
-    requires { Layout rules.now (inner + 1) × Layout rules.now (outer + 1) }
-    ensures { Possible table.now rules.now inner outer position result }
+pub fn possible(system: System, inner: usize, outer: usize, position: usize) -> bool
+    requires { (inner < system.count) × (outer < system.count) }
+    ensures { Possible system.entry.table.now system.entry.rules.now inner outer position result }
 {
-    let l2 = slots::left(rules, outer);
+    let l2 = slots::left(system.rules, outer);
     if position >= l2.len() || l2[position] >= limits::VARIABLE {
         return false;
     }
-    !clash::clash(slots::left(rules, inner), l2, table, position)
+    !clash::clash(slots::left(system.rules, inner), l2, system.table, position)
 }
 
 // The overlap of an inner rule with an outer rule at a position of its left side, where one is possible: the pair, renamed, is left in the slot `pair`.
 pub fn overlap(
-    rules: &[u8],
-    table: &[u8],
+    system: System,
     inner: usize,
     outer: usize,
     position: usize,
     pair: &mut [u8],
 ) -> Met
-    requires layout { Layout rules.now (inner + 1) × Layout rules.now (outer + 1) }
-    requires position_bound { (position < left_length (slot rules.now outer)) × Layout pair.old 1 }
-    ensures { Overlapped table.now rules.now inner outer position pair.old pair.new result }
+    requires inner_in_bounds { (inner < system.count) × (outer < system.count) }
+    requires position_bound { (position < left_length (slot system.rules.now outer)) × Layout pair.old 1 }
+    ensures { Overlapped system.entry.table.now system.entry.rules.now inner outer position pair.old pair.new result }
 {
-    let r2 = slots::right(rules, outer);
+    let r2 = slots::right(system.rules, outer);
     if r2.is_empty() {
         return Met::Nothing;
     }
-    let l2 = slots::left(rules, outer);
-    let l1 = slots::left(rules, inner);
-    let r1 = slots::right(rules, inner);
-    meet(l1, r1, l2, r2, table, position, pair)
+    let l2 = slots::left(system.rules, outer);
+    let l1 = slots::left(system.rules, inner);
+    let r1 = slots::right(system.rules, inner);
+    meet(l1, r1, l2, r2, system.table, position, pair)
 }

@@ -23,7 +23,8 @@ use Rattle.overlaps.specs.declared.Met.TheVariants.{Nothing, TooLarge, Pair as M
 use Rattle.overlaps.specs.Answer.{PairIs, Says, Possible, Overlapped}
 use Rattle.rewriting.specs.declared.End.TheVariants.{TooLarge as TooLargeEnd}
 use Rattle.joining.specs.declared.Walk.{Walk}
-use Rattle.joining.specs.declared.Found.TheVariants.{Equal, Ends}
+use Rattle.joining.specs.declared.Joined.TheVariants.{Equal}
+use Rattle.std.specs.Prelude.{Ok, Err}
 use Rattle.forms.specs.Forms.{compared, large, on, PairWalk}
 use Rattle.joining.proofs.Rooms.{found_is, units_is}
 use Rattle.forms.proofs.Walking.{walked_from}
@@ -100,7 +101,7 @@ module _ {tab rules : List ℕ} {count : ℕ} (at : Spot) (li : at.inner < count
   }
 
   pub missing : {one : List ℕ} {units : ℕ} {b : Bool} → Possible tab rules at.inner at.outer at.position b → b ≡ false →
-      Walks (RulesIn tab rules count) (at_place at) tab one one units (record { found = Equal; units = units })
+      Walks (RulesIn tab rules count) (at_place at) tab one one units (record { found = Ok Equal; units = units })
   unfolding at_place
   missing {one} {units} P e = record {
     kept = lent_none one;
@@ -117,7 +118,7 @@ module _ {tab rules : List ℕ} {count : ℕ} (at : Spot) (li : at.inner < count
         subst (Visited rs (place at rs) peak') e
         (visited rs (place at rs) peak' m _ refl (M.answer _ _ (rule_stands r at.inner li) (rule_stands r at.outer lo) h.symbol))
 
-    pub place_nothing : {one : List ℕ} {units : ℕ} {w : Walk} → m ≡ Nothing → w ≡ record { found = Equal; units = units } →
+    pub place_nothing : {one : List ℕ} {units : ℕ} {w : Walk} → m ≡ Nothing → w ≡ record { found = Ok Equal; units = units } →
         Walks (OverlapsAt tab rules count at) (at_place at) tab one one units w
     unfolding at_place
     place_nothing {one} {units} e q = record {
@@ -126,7 +127,7 @@ module _ {tab rules : List ℕ} {count : ℕ} (at : Spot) (li : at.inner < count
       answer = λ rs h. on (found_is q) (λ next. said Nothing e rs h next units ∙ ap next (sym (units_is q)));
     }
 
-    pub place_large : {one : List ℕ} {units : ℕ} {w : Walk} → m ≡ TooLarge → w ≡ record { found = Ends TooLargeEnd; units = units } →
+    pub place_large : {one : List ℕ} {units : ℕ} {w : Walk} → m ≡ TooLarge → w ≡ record { found = Err TooLargeEnd; units = units } →
         Walks (OverlapsAt tab rules count at) (at_place at) tab one one units w
     unfolding at_place
     place_large {one} {units} e q = record {

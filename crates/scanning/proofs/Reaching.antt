@@ -8,7 +8,8 @@ use Rattle.rewriting.specs.Overlap.{Rule}
 use Rattle.slots.specs.Slots.{Layout}
 use Rattle.slots.proofs.Layouts.{layout_less}
 use Rattle.joining.specs.declared.Walk.{Walk}
-use Rattle.joining.specs.declared.Found.TheVariants.{Equal}
+use Rattle.joining.specs.declared.Joined.TheVariants.{Equal}
+use Rattle.std.specs.Prelude.{Ok}
 use Rattle.forms.specs.Forms.{ScanPart}
 use Rattle.scanning.specs.declared.spots.Spot.{Spot}
 use Rattle.scanning.specs.Walk.{Walks, RulesIn, at_place, of_rules}
@@ -35,12 +36,12 @@ module _ {tab rules : List ℕ} {count : ℕ} {one : List ℕ} {units : ℕ} {at
   })
 
   module _ {one' : List ℕ} {u : ℕ} (g : Reaching tab rules count one one' units at u) where
-    pub reach_end : {w : Walk} → count ≤ at.outer → w ≡ record { found = Equal; units = u } →
+    pub reach_end : {w : Walk} → count ≤ at.outer → w ≡ record { found = Ok Equal; units = u } →
         Walks (RulesIn tab rules count) (of_rules 0) tab one one' units w
     reach_end l e = going_end g.going (record { is = λ rs h next. let c = h.counted in come_out rs at next (omega arith) }) e
 
     module _ (lay : Layout rules count × (count ≤ 33)) (lo : at.outer < count) where
-      pub possible_asks : Layout rules (at.inner + 1) × Layout rules (at.outer + 1)
+      possible_asks : Layout rules (at.inner + 1) × Layout rules (at.outer + 1)
       possible_asks = let i = g.within lo in (layout_less (omega arith) lay.0, layout_less (omega arith) lay.0)
 
       pub next_asks : (at.inner < 33) × (at.outer < 33) × (at.position < 256) × Layout rules (at.outer + 1)
@@ -54,14 +55,14 @@ module _ {tab rules : List ℕ} {count : ℕ} {one : List ℕ} {units : ℕ} {at
       falls r f = let a = bounded in let b = f.rises in omega arith
 
       module _ {one'' : List ℕ} {w : Walk} (k : Walks (RulesIn tab rules count) (at_place at) tab one' one'' u w) where
-        pub reach_stop : (w.found ≡ Equal → ⊥) → Walks (RulesIn tab rules count) (of_rules 0) tab one one'' units w
+        pub reach_stop : (w.found ≡ Ok Equal → ⊥) → Walks (RulesIn tab rules count) (of_rules 0) tab one one'' units w
         reach_stop n =
             let rest : List Rule → ScanPart = λ rs next. at_positions at.inner at.outer (at.position + 1) rs (behind at.inner at.outer rs next) in
             let e : Unrolls (RulesIn tab rules count) (to_come at) (at_place at) rest
             = record { is = λ rs h next. on rs at.inner at.outer at.position next (let c = h.counted in omega arith) } in
             going_stop g.going e k n
 
-        pub reach_next : {x : List ℕ} {v : ℕ} {r : Spot} → x ≡ one'' → v ≡ w.units → w.found ≡ Equal → Follows rules at r →
+        pub reach_next : {x : List ℕ} {v : ℕ} {r : Spot} → x ≡ one'' → v ≡ w.units → w.found ≡ Ok Equal → Follows rules at r →
             Reaching tab rules count one x units r v
         reach_next {r = r} p q z f = subst₂ (λ x v. Reaching tab rules count one x units r v) (sym p) (sym q) (record {
           going = going_on g.going (record {

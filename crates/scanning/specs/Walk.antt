@@ -1,5 +1,5 @@
 -- What a walk over places or over input equations comes to, and what the functions of the scan answer. Assumes nothing.
-use Rattle.std.specs.Prelude.{◌≡◌, List, [], ◌∷◌, map, ℕ, ◌<◌, ◌≤◌, length, get_or, drop, take}
+use Rattle.std.specs.Prelude.{◌≡◌, Bool, true, false, List, [], ◌∷◌, map, ℕ, ◌<◌, ◌≤◌, length, get_or, drop, take, Result, Ok, Err}
 use Rattle.terms.specs.Base.{number_bytes}
 use Rattle.terms.specs.Term.{var, Pair}
 use Rattle.rewriting.specs.Overlap.{Rule, sides_of, overlap, Place, all_places}
@@ -8,8 +8,9 @@ use Rattle.completion.specs.Turn.{scanned_input, Candidate, candidates, scan_ove
 use Rattle.slots.specs.Slots.{slot, number_of, Layout, Stored}
 use Rattle.joining.specs.declared.Walk.{Walk}
 use Rattle.forms.specs.declared.Taken.{Taken}
-use Rattle.joining.specs.declared.Found.{Found}
-use Rattle.joining.specs.declared.Found.TheVariants.{Equal, Different, Ends}
+use Rattle.joining.specs.declared.Joined.{Joined}
+use Rattle.joining.specs.declared.Joined.TheVariants.{Equal, Different}
+use Rattle.rewriting.specs.declared.End.{End as Ending}
 use Rattle.rewriting.specs.declared.End.TheVariants.{Spent, TooLarge}
 use Rattle.overlaps.specs.Answer.{AtSymbol}
 use Rattle.forms.specs.Forms.{ScanPart, compared, Shows, Walked}
@@ -94,18 +95,23 @@ rules_part x = of_rules 0 x.rules
 unfoldable pub of_all : World → ScanPart
 of_all x next = of_rules 0 x.rules (of_inputs 0 x next)
 
+-- each pair so far came to equal terms
+abbrev pub AllEqual : Result Joined Ending → Bool → Type 0
+AllEqual f true = f ≡ Ok Equal
+AllEqual f false = f ≡ Ok Equal → ⊥
+
 -- what a scan finds where it comes to an end: "If there is none, the end is 0, complete."
-abbrev pub StopsWith : End → Found → Type 0
-StopsWith complete f = f ≡ Equal
+abbrev pub StopsWith : End → Result Joined Ending → Type 0
+StopsWith complete f = f ≡ Ok Equal
 StopsWith neither_above f = ⊥
-StopsWith spent f = f ≡ Ends Spent
-StopsWith too_large f = f ≡ Ends TooLarge
+StopsWith spent f = f ≡ Err Spent
+StopsWith too_large f = f ≡ Err TooLarge
 StopsWith rules_full f = ⊥
 StopsWith log_full f = ⊥
 
 -- `scan`: exactly as the definition says
 abbrev pub Finds : List ℕ → Taken → Paid Candidate → Type 0
-Finds tab t (done c left) = (t.found ≡ Different) × (t.units ≡ left) × Shows tab t.pair c
+Finds tab t (done c left) = (t.found ≡ Ok Different) × (t.units ≡ left) × Shows tab t.pair c
 Finds tab t (stop e left) = StopsWith e t.found × (t.units ≡ left)
 
 pub record ScanIs (tab list : List ℕ) (number : ℕ) (rules : List ℕ) (count units : ℕ) (t : Taken) : Type 0 where

@@ -19,9 +19,9 @@ pub fn spot_at(inner: usize, outer: usize, position: usize) -> Spot
     ensures { result ≡ record { inner = inner; outer = outer; position = position } }
 {
     Spot {
-        inner: inner,
-        outer: outer,
-        position: position,
+        inner,
+        outer,
+        position,
     }
 }
 
@@ -31,9 +31,12 @@ pub fn next(rules: &[u8], at: Spot) -> Spot
     requires { (at.inner < most_pairs) × (at.outer < most_pairs) × (at.position < byte_values) × Layout rules.now (at.outer + 1) }
     ensures { Follows rules.now at result }
 {
-    let inner = at.inner;
-    let outer = at.outer;
-    let p = at.position + 1;
+    let Spot {
+        inner,
+        outer,
+        position,
+    } = at;
+    let p = position + 1;
     if p < slots::left_size(rules, outer) {
         return spot_at(inner, outer, p);
     }

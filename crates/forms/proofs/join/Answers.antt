@@ -6,7 +6,7 @@ use Rattle.forms.proofs.join.Goals as goal
 pub join-requires : goal.join-requires
 join-requires c =
     record {
-      layout = (c.requires.0, c.requires.2);
+      layout = c.requires.1;
       left_len_bound = (c.left-left.ensures.result_len_bound, c.right-right.ensures.result_len_bound);
     }
 

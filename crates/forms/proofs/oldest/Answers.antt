@@ -6,7 +6,10 @@ use native.Mathlib.Omega.{arith}
 use Rattle.forms.proofs.oldest.Goals as goal
 
 pub join-w-requires : goal.join-w-requires
-join-w-requires c = (layout_less (omega arith) c.requires, c.requires, marked_one layout_zeros c.put_mark.ensures)
+join-w-requires c = (c.requires, marked_one layout_zeros c.put_mark.ensures)
+
+pub invariant_of-system : goal.invariant_of-system
+invariant_of-system c = record { laid_out = layout_less (omega arith) c.requires }
 
 pub returns : goal.returns
 returns c = oldest_walk layout_zeros c.mark-mark.ensures c.put_mark.ensures c.join-w.ensures c.with_pair.ensures

@@ -8,7 +8,6 @@ use Rattle.normaliser.specs.Settled.{Normalised}
 use Rattle.joining.specs.declared.Strategy.{Strategy}
 use Rattle.joining.specs.declared.Strategy.TheVariants.{Innermost, Outermost}
 use Rattle.joining.specs.Joins.{step_by, by_strategy}
-use Rattle.std.proofs.Common.{rules}
 use Rattle.joining.proofs.last_term.Goals as goal
 
 -- the strategy that is asked for is b

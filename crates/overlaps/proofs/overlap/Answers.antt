@@ -1,6 +1,6 @@
 -- `overlap`: no right side (`overlap_empty`), or what `meet` answers of the sides (`overlap_met`). Assumes nothing.
 -- Read first: specs/Answer (Overlapped), proofs/Meeting.
-use Rattle.slots.proofs.Layouts.{left_long}
+use Rattle.slots.proofs.Layouts.{left_long, layout_less}
 use Rattle.overlaps.proofs.Meeting.{overlap_empty, overlap_met}
 use native.Mathlib.Omega.{arith}
 use mathlib.Core.Path.{ap, sym}
@@ -21,7 +21,7 @@ meet-requires c =
         c.right-r2.ensures.result_len_bound,
       );
       position_in_bounds = (
-        omega (arith, ap length c.left-l2.ensures.result_value, left_long _ _ c.requires.layout.1, c.requires.position_bound.0),
+        omega (arith, ap length c.left-l2.ensures.result_value, left_long c.args.system.rules.now c.args.outer (layout_less {n = c.args.system.count} (omega arith) c.args.system.laid_out), c.requires.position_bound.0),
         omega (arith, eqb-false _ _ (sym c.if-is_empty.ensures)),
         c.requires.position_bound.1,
       );

@@ -5,7 +5,7 @@ use Rattle.slots.proofs.Layouts.{layout_zeros}
 use Rattle.scanning.proofs.scan.Goals as goal
 
 pub scan_all-w-requires : goal.scan_all-w-requires
-scan_all-w-requires c = (c.requires.0, c.requires.1, c.requires.2, c.requires.3, layout_zeros)
+scan_all-w-requires c = (c.requires.0, c.requires.1, c.requires.2, layout_zeros)
 
 pub returns : goal.returns
 returns c = scanned layout_zeros c.scan_all-w.ensures c.with_pair.ensures

@@ -7,7 +7,7 @@ use Rattle.scanning.proofs.scan_inputs.Given as goal
 
 abbrev pub invariant-loop-k : goal.invariant-loop-k
 invariant-loop-k l =
-    Going (InSlots l.table l.rules l.count l.inputs l.number) (of_inputs 0) l.initial.pair l.pair l.units (of_inputs l.k) l.u
+    Going (InSlots l.system.table.now l.system.rules.now l.system.count l.inputs l.number) (of_inputs 0) l.initial.pair l.pair l.units (of_inputs l.k) l.u
 
 abbrev pub decreases-loop-k : goal.decreases-loop-k
 decreases-loop-k l = l.number - l.k
