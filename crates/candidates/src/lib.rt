@@ -95,6 +95,7 @@ pub fn read_waiting(
 {
     let mut k = live;
     let mut i = at;
+    // Kept: a step of this loop is as long as a field, so no iterator of the library is plainer.
     while i < saved.len() && saved[i] == WAITING && k < limits::PAIRS {
         let Some(field) = waiting_field(saved, table, i) else {
             return Err(BadField { place: i });
@@ -148,6 +149,7 @@ pub fn read_log(saved: &[u8], at: usize, log: &mut [u8]) -> Result<Group, BadFie
 {
     let mut count: usize = 0;
     let mut i = at;
+    // Kept: a step of this loop is as long as a field, so no iterator of the library is plainer.
     while i < saved.len() && saved[i] == items::ENTRY && count < limits::ENTRIES {
         let end = entry_field(saved, i)?;
         put_entry(saved, i + FIELD_HEAD, log, count);

@@ -6,6 +6,7 @@ use mathlib.Core.List.{List, [], ◌∷◌}
 use Prim.Native.Nat.{ℕ, zero, suc, ◌+◌, ◌<◌, ◌≤◌}
 use native.Mathlib.Omega.{arith}
 use lib.ListN.{length}
+use Rattle.std.proofs.Common.{Some, None}
 use Rattle.terms.specs.Term.{size}
 use Rattle.terms.proofs.Bytes.{length_bytes}
 use Rattle.order.specs.Order.{above}
@@ -57,12 +58,11 @@ module _ (tab slots : List ℕ) (count : ℕ) where
             let s : Stored tab slots (k + 1) (sides_of rs) = rw (← n) st.1 in
             rw (here q st.0 ∙ i, e) (f rs s (omega arith))
 
-  pub ends_not : (place k : ℕ) → 11 ≤ place → Passed place k → From place k (refused 15 place) → FirstNotAbove tab slots count place
+  pub ends_not : (place k : ℕ) → Passed place k → From place k (refused 15 place) → FirstNotAbove tab slots count (Some place)
   unfolding above_told
-  ends_not zero k low P f = absurd (omega arith)
-  ends_not (suc p) k low P f = record { is = λ rs st ct. P.rest _ f rs st (omega arith) }
+  ends_not place k P f = record { is = λ rs st ct. P.rest _ f rs st (omega arith) }
 
-  pub ends_all : (place k : ℕ) → Passed place k → count ≤ k → FirstNotAbove tab slots count 0
+  pub ends_all : (place k : ℕ) → Passed place k → count ≤ k → FirstNotAbove tab slots count None
   unfolding above_told rules_at all_above
   ends_all place k P h = record { is = λ rs st ct. P.rest _ none rs st (omega arith) }
     where

@@ -34,18 +34,21 @@ use Rattle.decide.specs.Decide.{all_above, Question, read_question, counted, ask
 use Rattle.decide.specs.Answers.{decided_told}
 use Rattle.decide.specs.Asking.{above_told, FirstNotAbove, FormsCompared, ask_call, Asks}
 use Rattle.decide.specs.declared.Decided.{Decided}
-use Rattle.decide.specs.declared.Decided.TheVariants.{Refused}
+use Rattle.std.proofs.Common.{Option as Maybe, Some, None, Result, Ok, Err}
+use Rattle.problem.specs.Reasons.{number_of_reason}
+use Rattle.problem.specs.declared.Reason.TheVariants.{WrongRecord, NotComplete, NotAbove}
+use Rattle.problem.specs.declared.Refusal.{Refusal}
 
 -- `ask`
 module _ (strategy : Strategy) (tab kept : List ℕ) (budget : ℕ) where
   pub record_refused : (left right : List ℕ) (p : ℕ) → read_record (symbols_of tab) kept ≡ refused wrong_record p →
-      Asks strategy tab left right budget kept (Refused wrong_record p)
+      Asks strategy tab left right budget kept (Err (record { reason = WrongRecord; place = p }))
   unfolding decided_told ask_call
   record_refused left right p h = record { is = λ e S. sym (bind_refused _ h) }
 
   module _ (end units : ℕ) (rs : List Rule)
       (h : read_record (symbols_of tab) kept ≡ ok (record { end = end; units = units; rules = rules_at 11 rs })) where
-    pub end_refused : (left right : List ℕ) → (end ≡ 0 → ⊥) → Asks strategy tab left right budget kept (Refused not_complete 0)
+    pub end_refused : (left right : List ℕ) → (end ≡ 0 → ⊥) → Asks strategy tab left right budget kept (Err (record { reason = NotComplete; place = 0 }))
     unfolding decided_told ask_call ◌>>=◌ refuse_if
     end_refused left right n = record { is = λ e S. sym (bind_ok _ h ∙ rw (ne_eqb end 0 n) refl) }
 
@@ -56,18 +59,16 @@ module _ (strategy : Strategy) (tab kept : List ℕ) (budget : ℕ) where
       unfolding ask_call ◌>>=◌ refuse_if
       behind e = bind_ok _ h ∙ rw (eq-eqb end 0 z, rules_of_at 11 rs) refl
 
-      pub rule_refused : {slots : List ℕ} {count : ℕ} → InSlots tab slots count rs → (left right : List ℕ) (p : ℕ) → (p ≡ 0 → ⊥) →
-          FirstNotAbove tab slots count p → Asks strategy tab left right budget kept (Refused not_above p)
+      pub rule_refused : {slots : List ℕ} {count : ℕ} → InSlots tab slots count rs → (left right : List ℕ) (p : ℕ) →
+          FirstNotAbove tab slots count (Some p) → Asks strategy tab left right budget kept (Err (record { reason = NotAbove; place = p }))
       unfolding decided_told above_told
-      rule_refused I left right zero n A = absurd (n refl)
-      rule_refused I left right (suc p) n A = record { is = λ e S. sym (behind e ∙ bind_refused _ (A.is rs (slots_store I) I.counted)) }
+      rule_refused I left right p A = record { is = λ e S. sym (behind e ∙ bind_refused _ (A.is rs (slots_store I) I.counted)) }
 
-      pub forms_asked : {slots left right : List ℕ} {count p : ℕ} {d : Decided} → InSlots tab slots count rs → p ≡ 0 → FirstNotAbove tab slots count p →
-          FormsCompared strategy tab slots count left right budget d → Asks strategy tab left right budget kept d
+      pub forms_asked : {slots left right : List ℕ} {count : ℕ} {d : Decided} → InSlots tab slots count rs → FirstNotAbove tab slots count None →
+          FormsCompared strategy tab slots count left right budget d → Asks strategy tab left right budget kept (Ok d)
       unfolding above_told
-      forms_asked I n A F = record {
-        is = λ e S.
-            F.is rs (slots_store I) I.counted e S ∙ sym (behind e ∙ bind_ok _ (A.is rs (slots_store I) I.counted ∙ ap above_told n));
+      forms_asked I A F = record {
+        is = λ e S. F.is rs (slots_store I) I.counted e S ∙ sym (behind e ∙ bind_ok _ (A.is rs (slots_store I) I.counted));
       }
 
 -- what is done with the question may be done behind its tests
@@ -124,7 +125,7 @@ module _ (problem : List ℕ) where
         ∙ regroup (read_record S.symbols kept) (λ r. refuse_if (not (eqb r.end 0)) not_complete 0) (λ r. all_above S.symbols r.rules) d (ask next)
         ∙ ap (λ Σ. ask_call next Σ S.equation.sides S.budget kept) A.symbols_are
 
-    pub problem_asked : (strategy : Strategy) (kept : List ℕ) (u : ℕ) → S.budget ≡ u → (d : Decided) →
+    pub problem_asked : (strategy : Strategy) (kept : List ℕ) (u : ℕ) → S.budget ≡ u → (d : Result Decided Refusal) →
         Asks strategy (table problem e) (take (b - a) (drop a problem)) (take (c - b) (drop b problem)) u kept d →
         decided_told d ≡ question_call (step_by strategy) problem kept
     problem_asked strategy kept u q d h =

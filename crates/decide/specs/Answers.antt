@@ -1,7 +1,7 @@
 -- Document 02, Three and Eight: what the answers "same" and "different" are right about, and that the two strategies come to the same last terms on
 -- delivered rule sets, said of the bytes that are lent. Assumes nothing.
 -- Read first: Decide, completion/specs/Delivery (Step, Replacement, Many, Last), checkpoint/specs/Wrote (EngineWrote).
-use Rattle.std.specs.Prelude.{◌≡◌, List, ◌↔◌, ◌⊎◌, ℕ}
+use Rattle.std.specs.Prelude.{Result, Ok, Err, ◌≡◌, List, ◌↔◌, ◌⊎◌, ℕ}
 use Rattle.terms.specs.Term.{Term}
 use Rattle.reading.specs.Stops.{wrong_record, not_complete, not_above}
 use Rattle.problem.specs.Problem.{Reading, ok, refused, Theory}
@@ -14,15 +14,17 @@ use Rattle.completion.specs.Calls.{Single, parse_single}
 use Rattle.checkpoint.specs.Wrote.{EngineWrote}
 use Rattle.decide.specs.Decide.{Question, read_question, Answer, are_same, are_different, numbered, Counted, decide_call, outermost_call}
 use Rattle.decide.specs.declared.Decided.{Decided}
-use Rattle.decide.specs.declared.Decided.TheVariants.{Same, Different, Spent, TooLarge, Refused}
+use Rattle.decide.specs.declared.Decided.TheVariants.{Same, Different, Spent, TooLarge}
+use Rattle.problem.specs.Reasons.{number_of_reason}
+use Rattle.problem.specs.declared.Refusal.{Refusal}
 
 -- "answers same, different, 21 or 22 .., and adds the units it paid", or the refusal's number and place [18.12, 18.13, 22.5]
-unfoldable pub decided_told : Decided → Reading Counted
-decided_told (Same n) = ok (record { answer = are_same; units = n })
-decided_told (Different n) = ok (record { answer = are_different; units = n })
-decided_told (Spent n) = ok (record { answer = numbered 21; units = n })
-decided_told (TooLarge n) = ok (record { answer = numbered 22; units = n })
-decided_told (Refused number place) = refused number place
+unfoldable pub decided_told : Result Decided Refusal → Reading Counted
+decided_told (Ok (Same n)) = ok (record { answer = are_same; units = n })
+decided_told (Ok (Different n)) = ok (record { answer = are_different; units = n })
+decided_told (Ok (Spent n)) = ok (record { answer = numbered 21; units = n })
+decided_told (Ok (TooLarge n)) = ok (record { answer = numbered 22; units = n })
+decided_told (Err r) = refused (number_of_reason r.reason) r.place
 
 -- the answer without the units
 unfoldable pub without_units : Reading Counted → Reading Answer

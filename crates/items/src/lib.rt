@@ -181,6 +181,7 @@ pub fn read_rules(
     let mut count: usize = 0;
     let mut before: usize = 0;
     let mut i = at;
+    // Kept: a step of this loop is as long as a field, so no iterator of the library is plainer.
     while i < kept.len() && kept[i] == RULE && count < limits::RULES {
         let Some(rule) = rule_field(kept, table, i, before, most, ordered) else {
             return Err(BadField { place: i });
@@ -250,6 +251,7 @@ pub fn read_entries(kept: &[u8], at: usize) -> Result<usize, BadField>
 {
     let mut count: usize = 0;
     let mut i = at;
+    // Kept: a step of this loop is as long as a field, so no iterator of the library is plainer.
     while i < kept.len() && kept[i] == ENTRY && count < limits::ENTRIES {
         i = entry_field(kept, i)?;
         count += 1;

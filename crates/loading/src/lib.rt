@@ -51,6 +51,7 @@ fn read_equations(saved: &[u8], table: &[u8], at: usize) -> Result<Group, BadFie
 {
     let mut count: usize = 0;
     let mut i = at;
+    // Kept: a step of this loop is as long as a field, so no iterator of the library is plainer.
     while i < saved.len() && saved[i] == problem::EQUATION_TAG && count < limits::EQUATIONS {
         i = equation_field(saved, table, i)?;
         count += 1;
