@@ -2,3 +2,4 @@ pub mod Patching
 pub mod Appending
 pub mod Numbering
 pub mod Putting
+pub mod Writing
