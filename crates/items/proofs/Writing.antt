@@ -1,6 +1,6 @@
 -- Fields put from their parts: of a pair, head and the two sides of its slot; an entry of the log; and such fields one behind the other. Then what they
 -- are: the fields of the rules, entries and forms that stand in the slots and in the log. Assumes nothing.
--- Read first: specs/Written, fields/specs/Puts (PutsSome), fields/proofs/Putting, completion/specs/Calls (rule_field, entry_field).
+-- Read first: specs/Written, fields/specs/Writes, fields/proofs/Writing, completion/specs/Calls (rule_field, entry_field).
 use mathlib.Core.Path.{◌≡◌, refl, ap, ap₂, subst, subst₂, sym, ◌∙◌}
 use mathlib.Core.List.{List, ◌∷◌, ◌++◌, [], flat_map, map, append_assoc}
 use Prim.Native.Nat.{ℕ, ◌+◌, ◌-◌, ◌*◌, ◌≤◌, suc, ◌<◌}
@@ -12,8 +12,11 @@ use Rattle.limits.specs.Limits.{most_nodes, most_pair, field_head, rule_width, e
 use Rattle.terms.specs.Base.{number_bytes, field_bytes, Field}
 use Rattle.slots.specs.Slots.{slot, number_of, left_of, right_of, mark_of, numbered_bytes, PairAt, Marked, MarkedAt, Holds}
 use Rattle.fields.specs.Puts.{patched, Puts, PutsSome, tagged}
+use Rattle.fields.specs.Writes.{Writes, WritesSome}
+use Rattle.fields.specs.declared.writer.Writer.{Writer}
 use Rattle.fields.proofs.Patching.{part_is}
-use Rattle.fields.proofs.Putting.{puts_length, puts_then, puts_field, puts_counted}
+use Rattle.fields.proofs.Putting.{puts_length, puts_counted}
+use Rattle.fields.proofs.Writing.{writes_room, writes_then, writes_field}
 use Rattle.fields.proofs.Appending.{patched_none, patched_behind}
 use Rattle.terms.specs.Term.{Pair}
 use Rattle.terms.proofs.Lists.{take_drop}
@@ -24,63 +27,60 @@ use Rattle.completion.specs.Calls.{pair_bytes, rule_field, entry_field}
 use Rattle.completion.proofs.Widths.{entry_length}
 use Rattle.items.specs.Written.{logged_width, pair_field, slot_field, logged_field, each, row, logged}
 
--- pasted bytes
-put_at : (l : List ℕ) (at : ℕ) (xs l' : List ℕ) → l' ≡ patched at xs l → Puts l at (length xs) xs l' (at + length xs)
-put_at l at xs l' e = record { bytes = e; counted = refl; next = refl }
-
 -- `put_pair`: tag and length, then the head, left side, right side
 module _ (tag : ℕ) (head slots : List ℕ) (k : ℕ) (left right : List ℕ) (left_is : left ≡ left_of (slot slots k)) (right_is : right ≡ right_of (slot slots k))
     (left_short : length left ≤ most_nodes) (right_short : length right ≤ most_nodes) where
-  pub puts_pair : (l l₁ l₂ l₃ l₄ : List ℕ) (at a : ℕ) → at + (field_head + length head + most_pair) ≤ length l →
-      Puts l at 3 (tag ∷ number_bytes 2 (length head + length left + length right)) l₁ a →
-      l₂ ≡ patched a head l₁ → l₃ ≡ patched (a + length head) left l₂ → l₄ ≡ patched (a + length head + length left) right l₃ →
-      PutsSome (field_head + length head + most_pair) l at 1 (field_bytes (pair_field tag head slots k)) l₄ (a + length head + length left + length right)
-  unfolding pair_field
-  puts_pair l l₁ l₂ l₃ l₄ at a room p e₂ e₃ e₄ =
-      let n : ℕ = length head in
-      let r : ℕ = a + n + length left + length right in
-      let next : a ≡ at + 3 = p.next in
-      let k₁ : length l₁ ≡ length l = puts_length l at 3 _ l₁ a (omega arith) p in
-      let q : Puts l₁ a n head l₂ (a + n) = put_at l₁ a head l₂ e₂ in
-      let k₂ : length l₂ ≡ length l₁ = puts_length l₁ a n head l₂ (a + n) (omega arith) q in
-      let sides = puts_then l₂ (a + n) (length left) (length right) left right l₃ l₄ (a + n + length left) r (omega arith) (put_at l₂ (a + n) left l₃ e₃)
-      (put_at l₃ (a + n + length left) right l₄ e₄) in
-      let contents = puts_then l₁ a n (length left + length right) head (left ++ right) l₂ l₄ (a + n) r (omega arith) q sides in
-      let are : head ++ (left ++ right) ≡ head ++ (left_of (slot slots k) ++ right_of (slot slots k)) = ap (λ z. head ++ z) (ap₂ ◌++◌ left_is right_is) in
-      let sum : n + (length left + length right) ≡ n + length left + length right = omega arith in
-      let field = puts_field l at tag (n + length left + length right) _ l₁ l₄ a r (omega arith) p (subst₂ (λ x y. Puts l₁ a x y l₄ r) sum are contents) in
-      record { puts = puts_counted l at _ _ l₄ r field; room = omega arith }
+  module _ {w w₁ : Writer} (room : w.at + (field_head + length head + most_pair) ≤ length w.out.now)
+      (p : Writes w w₁ 3 (tag ∷ number_bytes 2 (length head + length left + length right))) where
+    pub head_room : w₁.at + length head + most_pair ≤ length w₁.out.now
+    head_room = let r = writes_room (omega arith) p (length head + most_pair) (omega arith) in omega arith
+
+    pub sides_room : {w₂ : Writer} → Writes w₁ w₂ (length head) head → w₂.at + most_pair ≤ length w₂.out.now
+    sides_room q = let r = head_room in writes_room (omega arith) q most_pair (omega arith)
+
+    pub puts_pair : {w₂ w₃ w₄ : Writer} → Writes w₁ w₂ (length head) head → Writes w₂ w₃ (length left) left → Writes w₃ w₄ (length right) right →
+        WritesSome (field_head + length head + most_pair) w w₄ 1 (field_bytes (pair_field tag head slots k))
+    unfolding pair_field
+    puts_pair {w₂} {w₃} {w₄} q₂ q₃ q₄ =
+        let r₁ = head_room in
+        let r₂ = sides_room q₂ in
+        let contents = writes_then (omega arith) q₂ (writes_then (omega arith) q₃ q₄) in
+        let are : head ++ (left ++ right) ≡ head ++ (left_of (slot slots k) ++ right_of (slot slots k)) = ap (λ z. head ++ z) (ap₂ ◌++◌ left_is right_is) in
+        let sum : length head + (length left + length right) ≡ length head + length left + length right = omega arith in
+        let field = writes_field (omega arith) p (subst₂ (λ x y. Writes w₁ w₄ x y) sum are contents) in
+        record { same = field.same; puts = record { puts = puts_counted _ _ _ _ _ _ field.puts; room = let n = field.puts.next in omega arith } }
 
 -- `put_rule`: the head is the rule's number
-pub puts_rule : {l l' number : List ℕ} {at r : ℕ} (slots : List ℕ) (k : ℕ) → length number ≡ 2 → number ≡ number_of (slot slots k) →
-    PutsSome (field_head + length number + most_pair) l at 1 (field_bytes (pair_field 0x12 number slots k)) l' r →
-    PutsSome rule_width l at 1 (field_bytes (slot_field slots k)) l' r
+pub puts_rule : {w w' : Writer} {number : List ℕ} (slots : List ℕ) (k : ℕ) → length number ≡ 2 → number ≡ number_of (slot slots k) →
+    WritesSome (field_head + length number + most_pair) w w' 1 (field_bytes (pair_field 0x12 number slots k)) →
+    WritesSome rule_width w w' 1 (field_bytes (slot_field slots k))
 unfolding slot_field
-puts_rule {l} {l'} {number} {at} {r} slots k two is p =
-    let q : PutsSome rule_width l at 1 (field_bytes (pair_field 0x12 number slots k)) l' r =
-    record { puts = p.puts; room = let m = p.room in omega arith } in
-    subst (λ n. PutsSome rule_width l at 1 (field_bytes (pair_field 0x12 n slots k)) l' r) is q
+puts_rule {w} {w'} {number} slots k two is p =
+    let q : WritesSome rule_width w w' 1 (field_bytes (pair_field 0x12 number slots k)) =
+    record { same = p.same; puts = record { puts = p.puts.puts; room = let m = p.puts.room in omega arith } } in
+    subst (λ n. WritesSome rule_width w w' 1 (field_bytes (pair_field 0x12 n slots k))) is q
 
 -- field 13, its contents cut from the log
-pub puts_entry : (log : List ℕ) (k : ℕ) → logged_width * (k + 1) ≤ length log → (l l' : List ℕ) (at r : ℕ) →
-    Puts l at (3 + length (take (logged_width * k + logged_width - logged_width * k) (drop (logged_width * k) log)))
-    (field_bytes (tagged 0x13 (take (logged_width * k + logged_width - logged_width * k) (drop (logged_width * k) log)))) l' r →
-    PutsSome entry_width l at 1 (field_bytes (logged_field log k)) l' r
+pub puts_entry : (log : List ℕ) (k : ℕ) → logged_width * (k + 1) ≤ length log → {w w' : Writer} →
+    Writes w w' (3 + length (take (logged_width * k + logged_width - logged_width * k) (drop (logged_width * k) log)))
+    (field_bytes (tagged 0x13 (take (logged_width * k + logged_width - logged_width * k) (drop (logged_width * k) log)))) →
+    WritesSome entry_width w w' 1 (field_bytes (logged_field log k))
 unfolding logged_field
-puts_entry log k room l l' at r p =
+puts_entry log k room {w} {w'} p =
     let e : ℕ = logged_width * k in
-    let q = subst (λ z. Puts l at (3 + length z) (field_bytes (tagged 0x13 z)) l' r) (part_is log e logged_width) p in
-    let n : r ≡ at + (3 + length (take logged_width (drop e log))) = q.next in
+    let q = subst (λ z. Writes w w' (3 + length z) (field_bytes (tagged 0x13 z))) (part_is log e logged_width) p in
+    let n : w'.at ≡ w.at + (3 + length (take logged_width (drop e log))) = q.puts.next in
     let m : length (take logged_width (drop e log)) ≡ logged_width = length-take-le logged_width (drop e log) (omega (arith, length-drop e log)) in
-    record { puts = puts_counted l at _ _ l' r q; room = omega arith }
+    record { same = q.same; puts = record { puts = puts_counted _ _ _ _ _ _ q.puts; room = omega arith } }
 
--- i fields were put, a is the place behind them, and the others are still to put
-pub record Listing (field : ℕ → Field) (width : ℕ) (out₀ : List ℕ) (at count : ℕ) (out : List ℕ) (i a : ℕ) : Type 0 where
+-- i fields were put, and the others are still to put
+pub record Listing (field : ℕ → Field) (width : ℕ) (w₀ : Writer) (count : ℕ) (w : Writer) (i : ℕ) : Type 0 where
   pub within : i ≤ count
-  pub same : length out ≡ length out₀
-  pub room : a ≤ at + width * i
-  pub to_do : patched a (flat_map field_bytes (each field i (count - i))) out ≡ patched at (flat_map field_bytes (each field 0 count)) out₀
-  pub total : a + length (flat_map field_bytes (each field i (count - i))) ≡ at + length (flat_map field_bytes (each field 0 count))
+  pub name : w.out.ghost_name ≡ w₀.out.ghost_name
+  pub same : length w.out.now ≡ length w₀.out.now
+  pub room : w.at ≤ w₀.at + width * i
+  pub to_do : patched w.at (flat_map field_bytes (each field i (count - i))) w.out.now ≡ patched w₀.at (flat_map field_bytes (each field 0 count)) w₀.out.now
+  pub total : w.at + length (flat_map field_bytes (each field i (count - i))) ≡ w₀.at + length (flat_map field_bytes (each field 0 count))
 
 module _ (field : ℕ → Field) (width : ℕ) where
   abbrev bytes : ℕ → ℕ → List ℕ
@@ -93,44 +93,52 @@ module _ (field : ℕ → Field) (width : ℕ) where
       let b : suc i ≡ i + 1 = omega arith in
       ap (bytes i) a ∙ ap (λ (k : ℕ). field_bytes (field i) ++ bytes k (count - (i + 1))) b
 
-  pub listing_start : (out : List ℕ) (at count : ℕ) → Listing field width out at count out 0 at
-  listing_start out at count =
-      record { within = omega arith; same = refl; room = omega arith; to_do = rw (sub-zero count) refl; total = rw (sub-zero count) refl }
+  pub listing_start : (w : Writer) (count : ℕ) → Listing field width w count w 0
+  listing_start w count =
+      record { within = omega arith; name = refl; same = refl; room = omega arith; to_do = rw (sub-zero count) refl; total = rw (sub-zero count) refl }
 
-  module _ (out₀ : List ℕ) (at count : ℕ) (room : at + width * count ≤ length out₀) (out : List ℕ) (i a : ℕ)
-      (h : Listing field width out₀ at count out i a) where
-    pub listing_more : (out' : List ℕ) (r : ℕ) → i < count → PutsSome width out a 1 (field_bytes (field i)) out' r →
-        Listing field width out₀ at count out' (i + 1) r
-    listing_more out' r l p =
+  module _ {w₀ w : Writer} {count i : ℕ} (room : w₀.at + width * count ≤ length w₀.out.now) (h : Listing field width w₀ count w i) where
+    pub listing_room : i < count → w.at + width ≤ length w.out.now
+    listing_room l =
+        let here : width * (i + 1) ≤ width * count = mul-le-mul_left width (let j : i + 1 ≤ count = omega arith in j) in
+        let more : width * (i + 1) ≡ width * i + width = mul-add width i 1 ∙ ap (λ (z : ℕ). width * i + z) (mul-one width) in
+        omega (arith, h.room, h.same)
+
+    pub listing_more : {w' : Writer} → i < count → WritesSome width w w' 1 (field_bytes (field i)) → Listing field width w₀ count w' (i + 1)
+    listing_more {w'} l p =
         let x : List ℕ = field_bytes (field i) in
         let rest : List ℕ = bytes (i + 1) (count - (i + 1)) in
         let e : bytes i (count - i) ≡ x ++ rest = next_field i count l in
-        let n : r ≡ a + length x = p.puts.next in
-        let few : r ≤ a + width * 1 = p.room in
-        let s : length out ≡ length out₀ = h.same in
-        let w : a ≤ at + width * i = h.room in
-        let here : width * (i + 1) ≤ width * count = mul-le-mul_left width (let j : i + 1 ≤ count = omega arith in j) in
+        let n : w'.at ≡ w.at + length x = p.puts.puts.next in
+        let few : w'.at ≤ w.at + width * 1 = p.puts.room in
+        let s : length w.out.now ≡ length w₀.out.now = h.same in
+        let free : w.at + width ≤ length w.out.now = listing_room l in
+        let was : w.at ≤ w₀.at + width * i = h.room in
         let more : width * (i + 1) ≡ width * i + width = mul-add width i 1 ∙ ap (λ (z : ℕ). width * i + z) (mul-one width) in
+        let one : width * 1 ≡ width = mul-one width in
         let t = h.total in
         record {
           within = omega arith;
-          same = puts_length out a (length x) x out' r (omega arith) p.puts ∙ s;
+          name = p.same ∙ h.name;
+          same = puts_length _ _ _ x _ _ (omega arith) p.puts.puts ∙ s;
           room = omega arith;
-          to_do = ap₂ (λ k z. patched k rest z) n p.puts.bytes ∙ patched_behind a x rest out (omega arith) ∙ ap (λ z. patched a z out) (sym e) ∙ h.to_do;
+          to_do = ap₂ (λ k z. patched k rest z) n p.puts.puts.bytes ∙ patched_behind w.at x rest w.out.now (omega arith)
+              ∙ ap (λ z. patched w.at z w.out.now) (sym e) ∙ h.to_do;
           total = omega (arith, ap length e ∙ length-append x rest);
         }
 
-    pub listing_end : count ≤ i → PutsSome width out₀ at count (bytes 0 count) out a
+    pub listing_end : count ≤ i → WritesSome width w₀ w count (bytes 0 count)
     unfolding flat_map each
     listing_end l =
         let k : i ≤ count = h.within in
         let z : bytes i (count - i) ≡ [] = ap (bytes i) (let e : count - i ≡ 0 = omega arith in e) in
-        let w : a ≤ at + width * i = h.room in
+        let was : w.at ≤ w₀.at + width * i = h.room in
         let j : i ≡ count = omega arith in
         let t = h.total in
+        let bytes_are = sym (patched_none w.at w.out.now) ∙ ap (λ b. patched w.at b w.out.now) (sym z) ∙ h.to_do in
         record {
-          puts = record { bytes = sym (patched_none a out) ∙ ap (λ b. patched a b out) (sym z) ∙ h.to_do; counted = refl; next = omega (arith, ap length z) };
-          room = rw (sym j) w;
+          same = h.name;
+          puts = record { puts = record { bytes = bytes_are; counted = refl; next = omega (arith, ap length z) }; room = rw (sym j) was };
         }
 
 -- the number in a rule's mark

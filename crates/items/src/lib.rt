@@ -1,5 +1,5 @@
 // The fields of rules, log entries and pairs of forms: of each its tag, its reader over a problem's symbols, and its writer; and numbers in fields of
-// their own, which `fields::put_number_field` writes. A field that is bad has its first byte for a place; the refusal's number is the caller's.
+// their own, which `fields::Writer` writes. A field that is bad has its first byte for a place; the refusal's number is the caller's.
 #![tactic(auto)]
 
 ghost use Rattle.std.specs.Prelude.{◌≡◌, ◌+◌, ◌*◌, ◌≤◌, length};
@@ -7,13 +7,14 @@ ghost use mathlib.Core.List.{flat_map};
 ghost use Rattle.limits.specs.Limits.{most_nodes, most_pair, most_rules, two_byte_values};
 ghost use Rattle.limits.specs.Limits.{field_head, origin_width, rule_width, entry_width};
 ghost use Rattle.terms.specs.Base.{field_bytes};
-ghost use Rattle.fields.specs.Puts.{PutsSome};
+ghost use Rattle.fields.specs.Writes.{WritesSome};
 ghost use Rattle.reading.specs.Answers.{Table};
 ghost use Rattle.slots.specs.Slots.{slot_width, Layout};
 ghost use Rattle.items.specs.Written.{logged_width, each, pair_field, slot_field, logged_field};
 ghost use Rattle.items.specs.Readers.{part, IsNumber, IsPairFound, AreRuleSides, IsRule, HoldsPair, IsRules, IsEntry, IsEntries, IsForms};
 
 use limits::FIELD_HEAD;
+use fields::Writer;
 use slots::origins;
 
 // The tags of a result's fields: the end, the units, and the items.
@@ -70,19 +71,17 @@ pub fn renamed_pair(kept: &[u8], table: &[u8], at: usize, end: usize) -> Option<
 }
 
 // A field of the pair in slot k: some bytes, at most an origin, and the two sides behind them.
-pub fn put_pair(out: &mut [u8], at: usize, tag: u8, head: &[u8], pairs: &[u8], k: usize) -> usize
-    requires { (at + (field_head + length head.now + most_pair) ≤ length out.old) × (length head.now ≤ origin_width) × Layout pairs.now (k + 1) }
-    ensures { PutsSome (field_head + length head.now + most_pair) out.old at 1
-        (field_bytes (pair_field tag head.now pairs.now k)) out.new result }
+pub fn put_pair(w: &mut Writer, tag: u8, head: &[u8], pairs: &[u8], k: usize)
+    requires { (w.old.at + (field_head + length head.now + most_pair) ≤ length w.old.out.now) × (length head.now ≤ origin_width) × Layout pairs.now (k + 1) }
+    ensures { WritesSome (field_head + length head.now + most_pair) w.old w.new 1
+        (field_bytes (pair_field tag head.now pairs.now k)) }
 {
     let left = slots::left(pairs, k);
     let right = slots::right(pairs, k);
-    let n = head.len();
-    let a = fields::put_head(out, at, tag, n + left.len() + right.len());
-    fields::paste(out, a, head);
-    fields::paste(out, a + n, left);
-    fields::paste(out, a + n + left.len(), right);
-    a + n + left.len() + right.len()
+    w.head(tag, head.len() + left.len() + right.len());
+    w.bytes(head);
+    w.bytes(left);
+    w.bytes(right);
 }
 
 // The pair that fills the bytes from a place to an end into slot k, with a mark.
@@ -204,27 +203,24 @@ pub fn read_rules(
 }
 
 // Field 12 of the rule in slot k.
-fn put_rule(out: &mut [u8], at: usize, rules: &[u8], k: usize) -> usize
-    requires rule_width_in_bounds { at + rule_width ≤ length out.old }
+fn put_rule(w: &mut Writer, rules: &[u8], k: usize)
+    requires rule_width_in_bounds { w.old.at + rule_width ≤ length w.old.out.now }
     requires layout { Layout rules.now (k + 1) }
-    ensures { PutsSome rule_width out.old at 1 (field_bytes (slot_field rules.now k)) out.new result }
+    ensures { WritesSome rule_width w.old w.new 1 (field_bytes (slot_field rules.now k)) }
 {
     let number = slots::number(rules, k);
-    put_pair(out, at, RULE, &number, rules, k)
+    put_pair(w, RULE, &number, rules, k);
 }
 
 // Field 12, once a rule.
-pub fn put_rules(out: &mut [u8], at: usize, rules: &[u8], count: usize) -> usize
-    requires count_in_bounds { at + rule_width * count ≤ length out.old }
+pub fn put_rules(w: &mut Writer, rules: &[u8], count: usize)
+    requires count_in_bounds { w.old.at + rule_width * count ≤ length w.old.out.now }
     requires layout { Layout rules.now count }
-    ensures { PutsSome rule_width out.old at count (flat_map field_bytes (each (slot_field rules.now) 0 count))
-        out.new result }
+    ensures { WritesSome rule_width w.old w.new count (flat_map field_bytes (each (slot_field rules.now) 0 count)) }
 {
-    let mut a = at;
     for i in 0..count {
-        a = put_rule(out, a, rules, i);
+        put_rule(w, rules, i);
     }
-    a
 }
 
 // Field 13: the place behind it. Only its length and its kind are read.
@@ -260,18 +256,15 @@ pub fn read_entries(kept: &[u8], at: usize) -> Result<usize, BadField>
 }
 
 // Field 13, once an entry.
-pub fn put_log(out: &mut [u8], at: usize, log: &[u8], count: usize) -> usize
-    requires count_in_bounds { at + entry_width * count ≤ length out.old }
+pub fn put_log(w: &mut Writer, log: &[u8], count: usize)
+    requires count_in_bounds { w.old.at + entry_width * count ≤ length w.old.out.now }
     requires count_in_bounds_2 { logged_width * count ≤ length log.now }
-    ensures { PutsSome entry_width out.old at count (flat_map field_bytes (each (logged_field log.now) 0 count))
-        out.new result }
+    ensures { WritesSome entry_width w.old w.new count (flat_map field_bytes (each (logged_field log.now) 0 count)) }
 {
-    let mut a = at;
     for i in 0..count {
         let e = LOGGED * i;
-        a = fields::put_field(out, a, ENTRY, &log[e..e + LOGGED]);
+        w.field(ENTRY, &log[e..e + LOGGED]);
     }
-    a
 }
 
 // Field 14: the place behind it.

@@ -1,20 +1,12 @@
--- `put_log`: the invariant is that the fields of the entries from i on, put at a, give the whole list. Assumes nothing.
--- Read first: specs/Written (logged_field), fields/specs/Puts (PutsSome), proofs/Writing (puts_entry, Listing).
-use Rattle.items.proofs.Writing.{puts_entry}
-use Rattle.items.proofs.Writing.{listing_start, listing_more, listing_end}
+-- `put_log`: the invariant is that the fields of the entries from i on, behind what was put, give the whole list. Assumes nothing.
+-- Read first: specs/Written (logged_field), fields/specs/Writes (WritesSome), proofs/Writing (puts_entry, Listing).
 use Rattle.std.proofs.Common.{rules}
+use Rattle.items.proofs.Writing.{puts_entry, listing_more, listing_end}
 use Rattle.items.proofs.put_log.Goals as goal
-
-pub loop-i-init : goal.loop-i-init
-loop-i-init c = listing_start _ _ _ _ _
 
 pub loop-i-preserved : goal.loop-i-preserved
 loop-i-preserved c =
-    listing_more _ _ _ _ _ c.requires.count_in_bounds _ _ _ c.loop-i.invariant _ _ c.loop-i-test.true
-    (puts_entry _ _ (search rules) _ _ _ _ c.put_field-a.ensures)
-
-pub shape_of-out : goal.shape_of-out
-shape_of-out c = c.loop-i.invariant.same
+    listing_more _ _ c.requires.count_in_bounds c.loop-i.invariant c.loop-i-test.true (puts_entry _ _ (search rules) c.field.ensures)
 
 pub returns : goal.returns
-returns c = listing_end _ _ _ _ _ c.requires.count_in_bounds _ _ _ c.loop-i.invariant c.loop-i-test.false
+returns c = listing_end _ _ c.requires.count_in_bounds c.loop-i.invariant c.loop-i-test.false

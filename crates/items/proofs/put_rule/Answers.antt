@@ -1,9 +1,9 @@
 -- `put_rule`: the head of its field is the rule's number, by `puts_rule`. Assumes nothing.
--- Read first: specs/Written (slot-field), proofs/Writing.
+-- Read first: specs/Written (slot_field), proofs/Writing.
 use mathlib.Core.Path.{◌≡◌}
 use lib.ListN.{length}
-use Rattle.items.proofs.Writing.{puts_rule}
 use Rattle.std.proofs.Common.{rules}
+use Rattle.items.proofs.Writing.{puts_rule}
 use Rattle.items.proofs.put_rule.Goals as goal
 
 pub returns : goal.returns

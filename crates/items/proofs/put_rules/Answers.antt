@@ -1,27 +1,10 @@
--- `put_rules`: the invariant is that the fields of the slots from i on, put at a, give the whole list. Assumes nothing.
--- Read first: specs/Written (slot_field), fields/specs/Puts (PutsSome), proofs/Writing (Listing).
-use Rattle.slots.proofs.Layouts.{layout_less}
-use Rattle.items.proofs.Writing.{listing_start, listing_more, listing_end}
-use Rattle.std.proofs.Common.{rules}
+-- `put_rules`: the invariant is that the fields of the slots from i on, behind what was put, give the whole list. Assumes nothing.
+-- Read first: specs/Written (slot_field), fields/specs/Writes (WritesSome), proofs/Writing (Listing).
+use Rattle.items.proofs.Writing.{listing_more, listing_end}
 use Rattle.items.proofs.put_rules.Goals as goal
 
-pub loop-i-init : goal.loop-i-init
-loop-i-init c = listing_start _ _ _ _ _
-
-pub put_rule-a-requires : goal.put_rule-a-requires
-put_rule-a-requires c =
-    record {
-      rule_width_in_bounds = search rules;
-      layout = layout_less (search rules) c.requires.layout;
-    }
-
 pub loop-i-preserved : goal.loop-i-preserved
-loop-i-preserved c =
-    listing_more _ _ _ _ _ c.requires.count_in_bounds _ _ _ c.loop-i.invariant _ _ c.loop-i-test.true
-    c.put_rule-a.ensures
-
-pub shape_of-out : goal.shape_of-out
-shape_of-out c = c.loop-i.invariant.same
+loop-i-preserved c = listing_more _ _ c.requires.count_in_bounds c.loop-i.invariant c.loop-i-test.true c.put_rule.ensures
 
 pub returns : goal.returns
-returns c = listing_end _ _ _ _ _ c.requires.count_in_bounds _ _ _ c.loop-i.invariant c.loop-i-test.false
+returns c = listing_end _ _ c.requires.count_in_bounds c.loop-i.invariant c.loop-i-test.false
