@@ -3,7 +3,7 @@ ghost use Rattle.std.specs.Prelude.{◌≡◌, [], ◌∷◌, ◌+◌, ◌<◌, 
 ghost use Rattle.limits.specs.Limits.{two_byte_values, field_head};
 ghost use Rattle.terms.specs.Base.{number_bytes, field_bytes};
 ghost use Rattle.fields.specs.Puts.{tagged};
-ghost use Rattle.fields.specs.Writes.{Writes};
+ghost use Rattle.fields.specs.Adds.{Adds};
 
 // A lent buffer, and the place behind what was written.
 #[derive(Drop)]
@@ -16,7 +16,7 @@ impl<'a> Writer<'a> {
     // One byte.
     pub fn byte(&mut self, b: u8)
         requires { self.old.at < length self.old.out.now }
-        ensures { Writes self.old self.new 1 (b ∷ []) }
+        ensures { Adds self.old self.new 1 (b ∷ []) }
     {
         self.out[self.at] = b;
         self.at += 1;
@@ -25,7 +25,7 @@ impl<'a> Writer<'a> {
     // All of p.
     pub fn bytes(&mut self, p: &[u8])
         requires { self.old.at + length p.now ≤ length self.old.out.now }
-        ensures { Writes self.old self.new (length p.now) p.now }
+        ensures { Adds self.old self.new (length p.now) p.now }
     {
         super::paste(self.out, self.at, p);
         self.at += p.len();
@@ -34,7 +34,7 @@ impl<'a> Writer<'a> {
     // A number in so many bytes, high byte first.
     pub fn number(&mut self, width: usize, n: u32)
         requires { self.old.at + width ≤ length self.old.out.now }
-        ensures { Writes self.old self.new width (number_bytes width n) }
+        ensures { Adds self.old self.new width (number_bytes width n) }
     {
         self.at = super::put_number(self.out, self.at, width, n);
     }
@@ -42,7 +42,7 @@ impl<'a> Writer<'a> {
     // A field's tag and the length of its contents.
     pub fn head(&mut self, tag: u8, len: usize)
         requires { (self.old.at + field_head ≤ length self.old.out.now) × (len < two_byte_values) }
-        ensures { Writes self.old self.new field_head (tag ∷ number_bytes 2 len) }
+        ensures { Adds self.old self.new field_head (tag ∷ number_bytes 2 len) }
     {
         self.byte(tag);
         self.number(2, len as u32);
@@ -51,7 +51,7 @@ impl<'a> Writer<'a> {
     // A field with these contents.
     pub fn field(&mut self, tag: u8, contents: &[u8])
         requires { (self.old.at + field_head + length contents.now ≤ length self.old.out.now) × (length contents.now < two_byte_values) }
-        ensures { Writes self.old self.new (field_head + length contents.now) (field_bytes (tagged tag contents.now)) }
+        ensures { Adds self.old self.new (field_head + length contents.now) (field_bytes (tagged tag contents.now)) }
     {
         self.head(tag, contents.len());
         self.bytes(contents);
@@ -60,7 +60,7 @@ impl<'a> Writer<'a> {
     // A field that holds a number.
     pub fn number_field(&mut self, tag: u8, width: usize, n: u32)
         requires { (self.old.at + field_head + width ≤ length self.old.out.now) × (width < two_byte_values) }
-        ensures { Writes self.old self.new (field_head + width) (field_bytes (tagged tag (number_bytes width n))) }
+        ensures { Adds self.old self.new (field_head + width) (field_bytes (tagged tag (number_bytes width n))) }
     {
         self.head(tag, width);
         self.number(width, n);

@@ -1,6 +1,6 @@
 -- Fields put from their parts: of a pair, head and the two sides of its slot; an entry of the log; and such fields one behind the other. Then what they
 -- are: the fields of the rules, entries and forms that stand in the slots and in the log. Assumes nothing.
--- Read first: specs/Written, fields/specs/Writes, fields/proofs/Writing, completion/specs/Calls (rule_field, entry_field).
+-- Read first: specs/Written, fields/specs/Adds, fields/proofs/Writing, completion/specs/Calls (rule_field, entry_field).
 use mathlib.Core.Path.{◌≡◌, refl, ap, ap₂, subst, subst₂, sym, ◌∙◌}
 use mathlib.Core.List.{List, ◌∷◌, ◌++◌, [], flat_map, map, append_assoc}
 use Prim.Native.Nat.{ℕ, ◌+◌, ◌-◌, ◌*◌, ◌≤◌, suc, ◌<◌}
@@ -12,7 +12,7 @@ use Rattle.limits.specs.Limits.{most_nodes, most_pair, field_head, rule_width, e
 use Rattle.terms.specs.Base.{number_bytes, field_bytes, Field}
 use Rattle.slots.specs.Slots.{slot, number_of, left_of, right_of, mark_of, numbered_bytes, PairAt, Marked, MarkedAt, Holds}
 use Rattle.fields.specs.Puts.{patched, Puts, PutsSome, tagged}
-use Rattle.fields.specs.Writes.{Writes, WritesSome}
+use Rattle.fields.specs.Adds.{Adds, AddsSome}
 use Rattle.fields.specs.declared.writer.Writer.{Writer}
 use Rattle.fields.proofs.Patching.{part_is}
 use Rattle.fields.proofs.Putting.{puts_length, puts_counted}
@@ -31,15 +31,15 @@ use Rattle.items.specs.Written.{logged_width, pair_field, slot_field, logged_fie
 module _ (tag : ℕ) (head slots : List ℕ) (k : ℕ) (left right : List ℕ) (left_is : left ≡ left_of (slot slots k)) (right_is : right ≡ right_of (slot slots k))
     (left_short : length left ≤ most_nodes) (right_short : length right ≤ most_nodes) where
   module _ {w w₁ : Writer} (room : w.at + (field_head + length head + most_pair) ≤ length w.out.now)
-      (p : Writes w w₁ 3 (tag ∷ number_bytes 2 (length head + length left + length right))) where
+      (p : Adds w w₁ 3 (tag ∷ number_bytes 2 (length head + length left + length right))) where
     pub head_room : w₁.at + length head + most_pair ≤ length w₁.out.now
     head_room = let r = writes_room (omega arith) p (length head + most_pair) (omega arith) in omega arith
 
-    pub sides_room : {w₂ : Writer} → Writes w₁ w₂ (length head) head → w₂.at + most_pair ≤ length w₂.out.now
+    pub sides_room : {w₂ : Writer} → Adds w₁ w₂ (length head) head → w₂.at + most_pair ≤ length w₂.out.now
     sides_room q = let r = head_room in writes_room (omega arith) q most_pair (omega arith)
 
-    pub puts_pair : {w₂ w₃ w₄ : Writer} → Writes w₁ w₂ (length head) head → Writes w₂ w₃ (length left) left → Writes w₃ w₄ (length right) right →
-        WritesSome (field_head + length head + most_pair) w w₄ 1 (field_bytes (pair_field tag head slots k))
+    pub puts_pair : {w₂ w₃ w₄ : Writer} → Adds w₁ w₂ (length head) head → Adds w₂ w₃ (length left) left → Adds w₃ w₄ (length right) right →
+        AddsSome (field_head + length head + most_pair) w w₄ 1 (field_bytes (pair_field tag head slots k))
     unfolding pair_field
     puts_pair {w₂} {w₃} {w₄} q₂ q₃ q₄ =
         let r₁ = head_room in
@@ -47,28 +47,28 @@ module _ (tag : ℕ) (head slots : List ℕ) (k : ℕ) (left right : List ℕ) (
         let contents = writes_then (omega arith) q₂ (writes_then (omega arith) q₃ q₄) in
         let are : head ++ (left ++ right) ≡ head ++ (left_of (slot slots k) ++ right_of (slot slots k)) = ap (λ z. head ++ z) (ap₂ ◌++◌ left_is right_is) in
         let sum : length head + (length left + length right) ≡ length head + length left + length right = omega arith in
-        let field = writes_field (omega arith) p (subst₂ (λ x y. Writes w₁ w₄ x y) sum are contents) in
+        let field = writes_field (omega arith) p (subst₂ (λ x y. Adds w₁ w₄ x y) sum are contents) in
         record { same = field.same; puts = record { puts = puts_counted _ _ _ _ _ _ field.puts; room = let n = field.puts.next in omega arith } }
 
 -- `put_rule`: the head is the rule's number
 pub puts_rule : {w w' : Writer} {number : List ℕ} (slots : List ℕ) (k : ℕ) → length number ≡ 2 → number ≡ number_of (slot slots k) →
-    WritesSome (field_head + length number + most_pair) w w' 1 (field_bytes (pair_field 0x12 number slots k)) →
-    WritesSome rule_width w w' 1 (field_bytes (slot_field slots k))
+    AddsSome (field_head + length number + most_pair) w w' 1 (field_bytes (pair_field 0x12 number slots k)) →
+    AddsSome rule_width w w' 1 (field_bytes (slot_field slots k))
 unfolding slot_field
 puts_rule {w} {w'} {number} slots k two is p =
-    let q : WritesSome rule_width w w' 1 (field_bytes (pair_field 0x12 number slots k)) =
+    let q : AddsSome rule_width w w' 1 (field_bytes (pair_field 0x12 number slots k)) =
     record { same = p.same; puts = record { puts = p.puts.puts; room = let m = p.puts.room in omega arith } } in
-    subst (λ n. WritesSome rule_width w w' 1 (field_bytes (pair_field 0x12 n slots k))) is q
+    subst (λ n. AddsSome rule_width w w' 1 (field_bytes (pair_field 0x12 n slots k))) is q
 
 -- field 13, its contents cut from the log
 pub puts_entry : (log : List ℕ) (k : ℕ) → logged_width * (k + 1) ≤ length log → {w w' : Writer} →
-    Writes w w' (3 + length (take (logged_width * k + logged_width - logged_width * k) (drop (logged_width * k) log)))
+    Adds w w' (3 + length (take (logged_width * k + logged_width - logged_width * k) (drop (logged_width * k) log)))
     (field_bytes (tagged 0x13 (take (logged_width * k + logged_width - logged_width * k) (drop (logged_width * k) log)))) →
-    WritesSome entry_width w w' 1 (field_bytes (logged_field log k))
+    AddsSome entry_width w w' 1 (field_bytes (logged_field log k))
 unfolding logged_field
 puts_entry log k room {w} {w'} p =
     let e : ℕ = logged_width * k in
-    let q = subst (λ z. Writes w w' (3 + length z) (field_bytes (tagged 0x13 z))) (part_is log e logged_width) p in
+    let q = subst (λ z. Adds w w' (3 + length z) (field_bytes (tagged 0x13 z))) (part_is log e logged_width) p in
     let n : w'.at ≡ w.at + (3 + length (take logged_width (drop e log))) = q.puts.next in
     let m : length (take logged_width (drop e log)) ≡ logged_width = length-take-le logged_width (drop e log) (omega (arith, length-drop e log)) in
     record { same = q.same; puts = record { puts = puts_counted _ _ _ _ _ _ q.puts; room = omega arith } }
@@ -104,7 +104,7 @@ module _ (field : ℕ → Field) (width : ℕ) where
         let more : width * (i + 1) ≡ width * i + width = mul-add width i 1 ∙ ap (λ (z : ℕ). width * i + z) (mul-one width) in
         omega (arith, h.room, h.same)
 
-    pub listing_more : {w' : Writer} → i < count → WritesSome width w w' 1 (field_bytes (field i)) → Listing field width w₀ count w' (i + 1)
+    pub listing_more : {w' : Writer} → i < count → AddsSome width w w' 1 (field_bytes (field i)) → Listing field width w₀ count w' (i + 1)
     listing_more {w'} l p =
         let x : List ℕ = field_bytes (field i) in
         let rest : List ℕ = bytes (i + 1) (count - (i + 1)) in
@@ -127,7 +127,7 @@ module _ (field : ℕ → Field) (width : ℕ) where
           total = omega (arith, ap length e ∙ length-append x rest);
         }
 
-    pub listing_end : count ≤ i → WritesSome width w₀ w count (bytes 0 count)
+    pub listing_end : count ≤ i → AddsSome width w₀ w count (bytes 0 count)
     unfolding flat_map each
     listing_end l =
         let k : i ≤ count = h.within in

@@ -7,14 +7,14 @@ ghost use mathlib.Core.List.{flat_map};
 ghost use Rattle.limits.specs.Limits.{most_nodes, most_pair, most_rules, two_byte_values};
 ghost use Rattle.limits.specs.Limits.{field_head, origin_width, rule_width, entry_width};
 ghost use Rattle.terms.specs.Base.{field_bytes};
-ghost use Rattle.fields.specs.Writes.{WritesSome};
+ghost use Rattle.fields.specs.Adds.{AddsSome};
 ghost use Rattle.reading.specs.Answers.{Table};
 ghost use Rattle.slots.specs.Slots.{slot_width, Layout};
 ghost use Rattle.items.specs.Written.{logged_width, each, pair_field, slot_field, logged_field};
 ghost use Rattle.items.specs.Readers.{part, IsNumber, IsPairFound, AreRuleSides, IsRule, HoldsPair, IsRules, IsEntry, IsEntries, IsForms};
 
-use limits::FIELD_HEAD;
 use fields::Writer;
+use limits::FIELD_HEAD;
 use slots::origins;
 
 // The tags of a result's fields: the end, the units, and the items.
@@ -73,7 +73,7 @@ pub fn renamed_pair(kept: &[u8], table: &[u8], at: usize, end: usize) -> Option<
 // A field of the pair in slot k: some bytes, at most an origin, and the two sides behind them.
 pub fn put_pair(w: &mut Writer, tag: u8, head: &[u8], pairs: &[u8], k: usize)
     requires { (w.old.at + (field_head + length head.now + most_pair) ≤ length w.old.out.now) × (length head.now ≤ origin_width) × Layout pairs.now (k + 1) }
-    ensures { WritesSome (field_head + length head.now + most_pair) w.old w.new 1
+    ensures { AddsSome (field_head + length head.now + most_pair) w.old w.new 1
         (field_bytes (pair_field tag head.now pairs.now k)) }
 {
     let left = slots::left(pairs, k);
@@ -206,7 +206,7 @@ pub fn read_rules(
 fn put_rule(w: &mut Writer, rules: &[u8], k: usize)
     requires rule_width_in_bounds { w.old.at + rule_width ≤ length w.old.out.now }
     requires layout { Layout rules.now (k + 1) }
-    ensures { WritesSome rule_width w.old w.new 1 (field_bytes (slot_field rules.now k)) }
+    ensures { AddsSome rule_width w.old w.new 1 (field_bytes (slot_field rules.now k)) }
 {
     let number = slots::number(rules, k);
     put_pair(w, RULE, &number, rules, k);
@@ -216,7 +216,7 @@ fn put_rule(w: &mut Writer, rules: &[u8], k: usize)
 pub fn put_rules(w: &mut Writer, rules: &[u8], count: usize)
     requires count_in_bounds { w.old.at + rule_width * count ≤ length w.old.out.now }
     requires layout { Layout rules.now count }
-    ensures { WritesSome rule_width w.old w.new count (flat_map field_bytes (each (slot_field rules.now) 0 count)) }
+    ensures { AddsSome rule_width w.old w.new count (flat_map field_bytes (each (slot_field rules.now) 0 count)) }
 {
     for i in 0..count {
         put_rule(w, rules, i);
@@ -259,7 +259,7 @@ pub fn read_entries(kept: &[u8], at: usize) -> Result<usize, BadField>
 pub fn put_log(w: &mut Writer, log: &[u8], count: usize)
     requires count_in_bounds { w.old.at + entry_width * count ≤ length w.old.out.now }
     requires count_in_bounds_2 { logged_width * count ≤ length log.now }
-    ensures { WritesSome entry_width w.old w.new count (flat_map field_bytes (each (logged_field log.now) 0 count)) }
+    ensures { AddsSome entry_width w.old w.new count (flat_map field_bytes (each (logged_field log.now) 0 count)) }
 {
     for i in 0..count {
         let e = LOGGED * i;

@@ -1,5 +1,5 @@
 -- Fields 03 are copied one by one: those of the first k equations are put, and the fields from i on are to come. Assumes nothing.
--- Read first: specs/Saves (FillFields, PutsEquation, PutsEquations), fields/specs/Puts (PutsSome), fields/proofs/Putting (puts_then).
+-- Read first: specs/Saves (FillFields, PutsEquation, PutsEquations), fields/specs/Adds (AddsSome), fields/proofs/Putting (puts_then).
 use mathlib.Core.Path.{◌≡◌, refl, sym, ap, ◌∙◌}
 use mathlib.Core.List.{List, [], ◌∷◌, ◌++◌, map, flat_map, append_assoc, append-nil}
 use Prim.Native.Nat.{ℕ, ◌+◌, ◌-◌, ◌*◌, ◌<◌, ◌≤◌}
@@ -8,7 +8,9 @@ use lib.ListN.{length, drop, length-take}
 use Rattle.limits.specs.Limits.{most_pair, forms_width}
 use Rattle.terms.specs.Base.{field_bytes}
 use Rattle.terms.specs.Term.{Pair}
-use Rattle.fields.specs.Puts.{Puts, PutsSome, tagged}
+use Rattle.fields.specs.Puts.{tagged}
+use Rattle.fields.specs.Adds.{Adds, AddsSome}
+use Rattle.fields.specs.declared.writer.Writer.{Writer}
 use Rattle.fields.proofs.Appending.{patched_none}
 use Rattle.fields.proofs.Putting.{puts_length, puts_then, puts_counted}
 use Rattle.reading.specs.Forms.{ok, ReadField, due}
@@ -23,21 +25,26 @@ use Rattle.checkpoint.specs.Checkpoint.{equation_field_of}
 use Rattle.saving.specs.Saves.{FillFields, PutsEquation, PutsEquations}
 
 -- no field is put
-puts_none : (out : List ℕ) (at k : ℕ) → PutsSome forms_width out at k [] out at
-puts_none out at k = record { puts = record { bytes = sym (patched_none at out); counted = refl; next = omega arith }; room = omega arith }
+writes_none : (w : Writer) (k : ℕ) → AddsSome forms_width w w k []
+writes_none w k =
+    record {
+      same = refl;
+      puts = record { puts = record { bytes = sym (patched_none w.at w.out.now); counted = refl; next = omega arith }; room = omega arith };
+    }
 
 -- `put_equation`: the contents are longer than a pair, or they are put
-module _ (l : List ℕ) (from end : ℕ) (out : List ℕ) (at : ℕ) where
-  pub field_long : most_pair < end - (from + 3) → PutsEquation l from end out at out at
-  field_long h = record { ys = []; puts = puts_none out at 1; answer = λ s. absurd (omega arith) }
+module _ (l : List ℕ) (from end : ℕ) {w : Writer} where
+  pub field_long : most_pair < end - (from + 3) → PutsEquation l from end w w
+  field_long h = record { ys = []; puts = writes_none w 1; answer = λ s. absurd (omega arith) }
 
-  pub field_put : {out' : List ℕ} {r : ℕ} → end - (from + 3) ≤ most_pair →
-      Puts out at (3 + length (part l (from + 3) end)) (field_bytes (tagged 0x03 (part l (from + 3) end))) out' r → PutsEquation l from end out at out' r
-  field_put {out'} {r} h p =
-      let n = p.next in
+  pub field_put : {w' : Writer} → end - (from + 3) ≤ most_pair →
+      Adds w w' (3 + length (part l (from + 3) end)) (field_bytes (tagged 0x03 (part l (from + 3) end))) → PutsEquation l from end w w'
+  field_put {w'} h p =
+      let n = p.puts.next in
+      let few : w'.at ≤ w.at + forms_width * 1 = omega (arith, length-take (end - (from + 3)) (drop (from + 3) l)) in
       record {
         ys = field_bytes (tagged 0x03 (part l (from + 3) end));
-        puts = record { puts = puts_counted out at _ _ out' r p; room = omega (arith, length-take (end - (from + 3)) (drop (from + 3) l)) };
+        puts = record { same = p.same; puts = record { puts = puts_counted _ _ _ _ _ _ p.puts; room = few } };
         answer = λ s. refl;
       }
 
@@ -52,19 +59,19 @@ pub record ToCome (l : List ℕ) (ys : List ℕ) (k i : ℕ) (es : List Pair) : 
   pub filled : FillFields l i rest
 
 -- `put_equations`
-pub record SoFar (l : List ℕ) (from count : ℕ) (out₀ : List ℕ) (at : ℕ) (out : List ℕ) (k i a : ℕ) : Type 0 where
+pub record SoFar (l : List ℕ) (from count : ℕ) (w₀ w : Writer) (k i : ℕ) : Type 0 where
   pub within : k ≤ count
-  pub same : length out ≡ length out₀
+  pub same : length w.out.now ≡ length w₀.out.now
   pub ys : List ℕ
-  pub puts : PutsSome forms_width out₀ at k ys out a
+  pub puts : AddsSome forms_width w₀ w k ys
   pub to_come : (es : List Pair) → FillFields l from es → length es ≡ count → ToCome l ys k i es
 
-pub so_far_start : (l : List ℕ) (from count : ℕ) (out : List ℕ) (at : ℕ) → SoFar l from count out at out 0 from at
-so_far_start l from count out at = record {
+pub so_far_start : (l : List ℕ) (from count : ℕ) (w : Writer) → SoFar l from count w w 0 from
+so_far_start l from count w = record {
   within = omega arith;
   same = refl;
   ys = [];
-  puts = puts_none out at 0;
+  puts = writes_none w 0;
   to_come = λ es f n. record { rest = es; bytes = refl; number = omega arith; filled = f };
 }
 
@@ -75,10 +82,10 @@ not_ok tag l at (Ok e) d h f q = h e refl
 not_ok tag l at (Err Cut) d h f q = no_ok (sym d ∙ q)
 not_ok tag l at (Err Other) d h f q = no_ok (sym d ∙ q)
 
-module _ (l : List ℕ) (from count : ℕ) (out₀ : List ℕ) (at : ℕ) (room : at + forms_width * count ≤ length out₀) (out : List ℕ) (k i a : ℕ)
-    (s : SoFar l from count out₀ at out k i a) where
+module _ {l : List ℕ} {from count : ℕ} {w₀ w : Writer} (room : w₀.at + forms_width * count ≤ length w₀.out.now) {k i : ℕ}
+    (s : SoFar l from count w₀ w k i) where
   -- a field is put
-  module _ (h : k < count) (e : ℕ) (d : DueTo 0x03 l i e) (out' : List ℕ) (r : ℕ) (q : PutsEquation l i e out a out' r) where
+  module _ (h : k < count) {e : ℕ} (d : DueTo 0x03 l i e) {w' : Writer} (q : PutsEquation l i e w w') where
     one_less : (ys : List ℕ) (es : List Pair) → length es ≡ count → (rest : List Pair) → all_bytes es ≡ ys ++ all_bytes rest → k + length rest ≡ length es →
         FillFields l i rest → ToCome l (ys ++ q.ys) (k + 1) e es
     unfolding FillFields field_at equation_field_of flat_map
@@ -95,27 +102,30 @@ module _ (l : List ℕ) (from count : ℕ) (out₀ : List ℕ) (at : ℕ) (room 
           filled = rw j at f.4;
         }
 
-    pub so_far_more : SoFar l from count out₀ at out' (k + 1) e r
+    pub so_far_more : SoFar l from count w₀ w' (k + 1) e
     so_far_more =
-        let p = s.puts in
-        let n : a ≡ at + length s.ys = p.puts.next in
-        let m : r ≡ a + length q.ys = q.puts.puts.next in
-        let x = puts_then out₀ at _ _ s.ys q.ys out out' a r (omega (arith, p.room)) p.puts q.puts.puts in
+        let p = s.puts.puts in
+        let m = q.puts.puts in
+        let n : w.at ≡ w₀.at + length s.ys = p.puts.next in
+        let x = puts_then _ _ _ _ s.ys q.ys _ _ _ _ (omega (arith, p.room)) p.puts m.puts in
         record {
           within = omega arith;
-          same = puts_length out a _ q.ys out' r (omega (arith, p.room, q.puts.room, s.same)) q.puts.puts ∙ s.same;
+          same = puts_length _ _ _ q.ys _ _ (omega (arith, p.room, m.room, m.puts.next, s.same)) m.puts ∙ s.same;
           ys = s.ys ++ q.ys;
-          puts = record { puts = puts_counted out₀ at _ _ out' r x; room = omega (arith, p.room, q.puts.room) };
+          puts = record {
+            same = q.puts.same ∙ s.puts.same;
+            puts = record { puts = puts_counted _ _ _ _ _ _ x; room = omega (arith, p.room, m.room) };
+          };
           to_come = λ es f c. let t = s.to_come es f c in one_less s.ys es c t.rest t.bytes t.number t.filled;
         }
 
   abbrev All : Type 0
-  All = PutsEquations l from count out₀ at out a
+  All = PutsEquations l from count w₀ w
 
   put_so_far : ((es : List Pair) → length es ≡ count → ToCome l s.ys k i es → s.ys ≡ all_bytes es) → All
   put_so_far answer = record {
     ys = s.ys;
-    puts = record { puts = s.puts.puts; room = omega (arith, s.puts.room, s.within) };
+    puts = record { same = s.puts.same; puts = record { puts = s.puts.puts.puts; room = omega (arith, s.puts.puts.room, s.within) } };
     answer = λ es f c. answer es c (s.to_come es f c);
   }
 

@@ -16,6 +16,7 @@ use Rattle.reading.specs.Answers.{symbols_of, Table}
 use Rattle.completion.specs.Turn.{Candidate}
 use Rattle.completion.specs.Calls.{pair_bytes, rule_field, entry_field, Writes}
 use Rattle.fields.specs.Puts.{tagged}
+use Rattle.fields.specs.declared.writer.Writer.{Writer}
 use Rattle.inputs.specs.Inputs.{marked}
 use Rattle.items.specs.Written.{row, each, pair_field}
 use Rattle.collapse.specs.Rows.{held}
@@ -81,11 +82,12 @@ module _ (tab : List ℕ) (st : State) (c : Checkpoint) (R : Represents tab st c
       ∙ ap (λ l. flat_map field_bytes waiting ++ l)
       (flat_map_append field_bytes log (f22 ∷ []) ∙ ap (λ l. flat_map field_bytes log ++ l) (append-nil (field_bytes f22))))))))
 
--- `save`
-pub saved : {st : State} {tab l out l₁ l₂ after : List ℕ} {from count a b r : ℕ} (q : PutsEquations l from count l₁ a l₂ b) → r ≤ longest_saved →
-    Writes out (field_bytes (tagged 0x01 tab) ++ (q.ys ++ state_bytes st)) after r → Saves st tab l from count out after r
-saved {st} {tab} {out = out} {after = after} {r = r} q few w = record {
+-- `save`: what the writer's buffer holds is what the lent bytes hold behind it
+pub saved : {st : State} {tab l out after : List ℕ} {w₁ w₂ : Writer} (w₃ : Writer) {from count : ℕ} (q : PutsEquations l from count w₁ w₂) → after ≡ w₃.out.now →
+    w₃.at ≤ longest_saved → Writes out (field_bytes (tagged 0x01 tab) ++ (q.ys ++ state_bytes st)) w₃.out.now w₃.at →
+    Saves st tab l from count out after w₃.at
+saved {st} {tab} {out = out} w₃ q e few p = record {
   few = few;
   writes = λ c T s f n R.
-      subst (λ ys. Writes out ys after r) (bytes_are tab st c R q.ys (symbols_are tab st c R T s) (q.answer c.theory.equations f n)) w;
+      rw e (subst (λ ys. Writes out ys w₃.out.now w₃.at) (bytes_are tab st c R q.ys (symbols_are tab st c R T s) (q.answer c.theory.equations f n)) p);
 }

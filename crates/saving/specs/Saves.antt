@@ -6,7 +6,9 @@ use mathlib.Core.List.{List, [], ◌∷◌, ◌++◌, map, flat_map}
 use Rattle.limits.specs.Limits.{most_pairs, most_entries, field_head, forms_width, waiting_width, entry_width, longest_saved}
 use Rattle.terms.specs.Base.{number_bytes, Field, field_bytes}
 use Rattle.terms.specs.Term.{Pair}
-use Rattle.fields.specs.Puts.{tagged, PutsSome}
+use Rattle.fields.specs.Puts.{tagged}
+use Rattle.fields.specs.Adds.{AddsSome}
+use Rattle.fields.specs.declared.writer.Writer.{Writer}
 use Rattle.slots.specs.Slots.{slot, mark_of}
 use Rattle.reading.specs.Forms.{ok, due}
 use Rattle.reading.specs.Answers.{field_at, symbols_of, Table}
@@ -24,15 +26,15 @@ FillFields l at (p ∷ es) =
     (e : ℕ) × (due 0x03 at (drop at l) ≡ ok (field_at 0x03 l at e)) × (e ≤ at + forms_width) × (part l (at + field_head) e ≡ pair_bytes p) × FillFields l e es
 
 -- `put_equation`: the field from `from` to `end`, if its contents have a pair's length
-pub record PutsEquation (l : List ℕ) (from end : ℕ) (before : List ℕ) (at : ℕ) (after : List ℕ) (r : ℕ) : Type 0 where
+pub record PutsEquation (l : List ℕ) (from end : ℕ) (w w' : Writer) : Type 0 where
   pub ys : List ℕ
-  pub puts : PutsSome forms_width before at 1 ys after r
+  pub puts : AddsSome forms_width w w' 1 ys
   pub answer : end ≤ from + forms_width → ys ≡ field_bytes (tagged 0x03 (part l (from + field_head) end))
 
 -- `put_equations`: the fields of whatever equations fill so many there
-pub record PutsEquations (l : List ℕ) (from count : ℕ) (before : List ℕ) (at : ℕ) (after : List ℕ) (r : ℕ) : Type 0 where
+pub record PutsEquations (l : List ℕ) (from count : ℕ) (w w' : Writer) : Type 0 where
   pub ys : List ℕ
-  pub puts : PutsSome forms_width before at count ys after r
+  pub puts : AddsSome forms_width w w' count ys
   pub answer : (es : List Pair) → FillFields l from es → length es ≡ count → ys ≡ flat_map field_bytes (map equation_field_of es)
 
 -- field 21 of the pair in slot k

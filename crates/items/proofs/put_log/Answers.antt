@@ -1,5 +1,5 @@
 -- `put_log`: the invariant is that the fields of the entries from i on, behind what was put, give the whole list. Assumes nothing.
--- Read first: specs/Written (logged_field), fields/specs/Writes (WritesSome), proofs/Writing (puts_entry, Listing).
+-- Read first: specs/Written (logged_field), fields/specs/Adds (AddsSome), proofs/Writing (puts_entry, Listing).
 use Rattle.std.proofs.Common.{rules}
 use Rattle.items.proofs.Writing.{puts_entry, listing_more, listing_end}
 use Rattle.items.proofs.put_log.Goals as goal

@@ -1,5 +1,5 @@
 -- `put_log`: the invariant is that the fields of the entries from i on, behind what was put, give the whole list. Assumes nothing.
--- Read first: specs/Written (logged_field), fields/specs/Writes (WritesSome), proofs/Writing (puts_entry, Listing).
+-- Read first: specs/Written (logged_field), fields/specs/Adds (AddsSome), proofs/Writing (puts_entry, Listing).
 use Rattle.limits.specs.Limits.{entry_width}
 use Rattle.items.specs.Written.{logged_field}
 use Rattle.items.proofs.Writing.{Listing}

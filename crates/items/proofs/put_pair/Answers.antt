@@ -1,5 +1,5 @@
 -- `put_pair`: tag, length, head and the two sides of slot k are a field, by `puts_pair`. Assumes nothing.
--- Read first: specs/Written (pair_field), fields/specs/Writes (WritesSome), proofs/Writing.
+-- Read first: specs/Written (pair_field), fields/specs/Adds (AddsSome), proofs/Writing.
 use Rattle.std.proofs.Common.{arith}
 use Rattle.fields.proofs.Writing.{writes_room}
 use Rattle.items.proofs.Writing.{head_room, sides_room, puts_pair}
@@ -15,8 +15,12 @@ pub bytes-requires-2 : goal.bytes-requires-2
 bytes-requires-2 c =
     let l = c.left-left.ensures in
     let r = c.right-right.ensures in
-    omega (arith, l.result_len_bound, sides_room _ _ _ _ _ _ l.result_value r.result_value l.result_len_bound r.result_len_bound c.requires.0 c.head.ensures
-    c.bytes.ensures)
+    omega (
+      arith,
+      l.result_len_bound,
+      sides_room _ _ _ _ _ _ l.result_value r.result_value l.result_len_bound r.result_len_bound c.requires.0 c.head.ensures
+          c.bytes.ensures,
+    )
 
 pub bytes-requires-3 : goal.bytes-requires-3
 bytes-requires-3 c =

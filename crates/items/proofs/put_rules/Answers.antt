@@ -1,5 +1,5 @@
 -- `put_rules`: the invariant is that the fields of the slots from i on, behind what was put, give the whole list. Assumes nothing.
--- Read first: specs/Written (slot_field), fields/specs/Writes (WritesSome), proofs/Writing (Listing).
+-- Read first: specs/Written (slot_field), fields/specs/Adds (AddsSome), proofs/Writing (Listing).
 use Rattle.items.proofs.Writing.{listing_more, listing_end}
 use Rattle.items.proofs.put_rules.Goals as goal
 

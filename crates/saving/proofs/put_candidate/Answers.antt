@@ -1,5 +1,5 @@
 -- `put_candidate`: the head of its field is the mark, by `puts_candidate`. Assumes nothing.
--- Read first: specs/Saves (waiting-slot), proofs/Putting.
+-- Read first: specs/Saves (waiting_slot), proofs/Putting.
 use mathlib.Core.Path.{◌≡◌}
 use lib.ListN.{length}
 use Rattle.saving.proofs.Putting.{puts_candidate}

@@ -3,8 +3,8 @@
 use Rattle.saving.proofs.Equations.{field_long, field_put}
 use Rattle.saving.proofs.put_equation.Goals as goal
 
-pub returns-then-end-start-gt-PAIR : goal.returns-then-end-start-gt-PAIR
-returns-then-end-start-gt-PAIR c = field_long _ _ _ _ _ c.if-end-start-gt-PAIR.true
+pub returns-else-end-start-le-PAIR : goal.returns-else-end-start-le-PAIR
+returns-else-end-start-le-PAIR c = field_long _ _ _ c.if-end-start-le-PAIR.false
 
-pub returns : goal.returns
-returns c = field_put _ _ _ _ _ c.if-end-start-gt-PAIR.false c.put_field.ensures
+pub returns-then-end-start-le-PAIR : goal.returns-then-end-start-le-PAIR
+returns-then-end-start-le-PAIR c = field_put _ _ _ c.if-end-start-le-PAIR.true c.field.ensures

@@ -5,26 +5,19 @@ use Rattle.saving.proofs.Equations.{so_far_start, so_far_more, put_stopped, put_
 use Rattle.saving.proofs.put_equations.Goals as goal
 
 pub loop-k-init : goal.loop-k-init
-loop-k-init c = so_far_start _ _ _ _ _
+loop-k-init c = so_far_start _ _ _ _
 
-pub put_equation-a-requires : goal.put_equation-a-requires
-put_equation-a-requires c =
+pub put_equation-requires : goal.put_equation-requires
+put_equation-requires c =
     let d = c.in-Ok.ensures in
     let s = c.loop-k.invariant in
-    (omega (arith, s.puts.room, s.same, c.loop-k-test.true, c.requires), d.1, d.2)
+    (omega (arith, s.puts.puts.room, s.same, c.loop-k-test.true, c.requires), d.1, d.2)
 
 pub returns-in_default : goal.returns-in_default
-returns-in_default c =
-    put_stopped _ _ _ _ _ c.requires _ _ _ _ c.loop-k.invariant c.loop-k-test.true c.due.result c.due.ensures
-    c.in_default.not-Ok
+returns-in_default c = put_stopped c.requires c.loop-k.invariant c.loop-k-test.true c.due.result c.due.ensures c.in_default.not-Ok
 
 pub loop-k-preserved : goal.loop-k-preserved
-loop-k-preserved c =
-    so_far_more _ _ _ _ _ c.requires _ _ _ _ c.loop-k.invariant c.loop-k-test.true _ c.in-Ok.ensures _ _
-    c.put_equation-a.ensures
-
-pub shape_of-out : goal.shape_of-out
-shape_of-out c = c.loop-k.invariant.same
+loop-k-preserved c = so_far_more c.requires c.loop-k.invariant c.loop-k-test.true c.in-Ok.ensures c.put_equation.ensures
 
 pub returns : goal.returns
-returns c = put_all _ _ _ _ _ c.requires _ _ _ _ c.loop-k.invariant c.loop-k-test.false
+returns c = put_all c.requires c.loop-k.invariant c.loop-k-test.false

@@ -4,4 +4,4 @@ use Rattle.saving.proofs.Equations.{SoFar}
 use Rattle.saving.proofs.put_equations.Given as goal
 
 abbrev pub invariant-loop-k : goal.invariant-loop-k
-invariant-loop-k l = SoFar l.source l.from l.count l.initial.out l.at l.out l.k l.i l.a
+invariant-loop-k l = SoFar l.source l.from l.count l.initial.w l.w l.k l.i

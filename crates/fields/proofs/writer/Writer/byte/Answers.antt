@@ -1,5 +1,5 @@
 -- `byte`: by `puts_byte`. Assumes nothing.
--- Read first: specs/Writes, proofs/Putting.
+-- Read first: specs/Adds, proofs/Putting.
 use Rattle.std.proofs.Common.{refl}
 use Rattle.fields.proofs.Putting.{puts_byte}
 use Rattle.fields.proofs.writer.Writer.byte.Goals as goal

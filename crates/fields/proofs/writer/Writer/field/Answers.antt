@@ -1,5 +1,5 @@
 -- `field`: a head, and the contents behind it. Assumes nothing.
--- Read first: specs/Writes, proofs/Writing.
+-- Read first: specs/Adds, proofs/Writing.
 use Rattle.std.proofs.Common.{arith}
 use Rattle.fields.proofs.Writing.{writes_room, writes_field}
 use Rattle.fields.proofs.writer.Writer.field.Goals as goal

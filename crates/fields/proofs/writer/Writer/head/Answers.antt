@@ -1,5 +1,5 @@
 -- `head`: one byte, then a number of two bytes. Assumes nothing.
--- Read first: specs/Writes, proofs/Writing.
+-- Read first: specs/Adds, proofs/Writing.
 use Rattle.std.proofs.Common.{arith}
 use Rattle.fields.proofs.Writing.{writes_room, writes_then}
 use Rattle.fields.proofs.writer.Writer.head.Goals as goal

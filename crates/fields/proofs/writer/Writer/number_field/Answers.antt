@@ -1,5 +1,5 @@
 -- `number_field`: a head, and the number behind it. Assumes nothing.
--- Read first: specs/Writes, proofs/Writing.
+-- Read first: specs/Adds, proofs/Writing.
 use Rattle.std.proofs.Common.{arith}
 use Rattle.fields.proofs.Writing.{writes_room, writes_field}
 use Rattle.fields.proofs.writer.Writer.number_field.Goals as goal
