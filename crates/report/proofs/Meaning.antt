@@ -2,7 +2,7 @@
 -- Read first: state/specs/Run (Represents, Leaves), completion/specs/Calls (result_bytes), proofs/Whole.
 use mathlib.Core.Path.{◌≡◌, refl, sym, ap, subst, ◌∙◌}
 use mathlib.Core.List.{List, [], ◌∷◌, ◌++◌, map, flat_map, append_assoc, append-nil}
-use Prim.Native.Nat.{ℕ}
+use Prim.Native.Nat.{ℕ, ◌≤◌}
 use native.Mathlib.Omega.{arith}
 use lib.ListN.{length}
 use borrow.Author.Tests.{lt-ltb, le-ltb}
@@ -27,7 +27,9 @@ use Rattle.state.specs.Run.{Leaves}
 use Rattle.state.proofs.Written.{rules_written, log_written}
 use Rattle.collapse.proofs.Rows.{held_rows, length_held, length_rows, row_at}
 use Rattle.state.specs.declared.State.{State}
-use Rattle.report.specs.Report.{oldest_if}
+use Rattle.limits.specs.Limits.{most_result}
+use Rattle.fields.specs.declared.writer.Writer.{Writer}
+use Rattle.report.specs.Report.{oldest_if, Reports}
 use Rattle.report.proofs.Whole.{all_bytes}
 
 -- Field 14.
@@ -85,3 +87,13 @@ module _ (tab : List ℕ) (f : Finished) (st : State) (end : Ending) (paid : ℕ
 
   pub reported : (before after : List ℕ) (r n : ℕ) → n ≡ end_of end → Writes before (put n) after r → Writes before (result_bytes f) after r
   reported before after r n e w = subst (λ ys. Writes before ys after r) (ap put e ∙ bytes_are) w
+
+-- `report`: what the writer's buffer holds is what the lent bytes hold behind it
+abbrev all_put : State → Ending → ℕ → ℕ → List ℕ
+all_put st end paid n =
+    all_bytes n paid (each (slot_field st.pairs.bytes) 0 st.live) (each (logged_field st.log.bytes) 0 st.log.count)
+    (oldest_if end st.pairs.bytes st.live st.pairs.count)
+
+pub reports : (st : State) (end : Ending) (paid n : ℕ) (before : List ℕ) {after : List ℕ} (w : Writer) → after ≡ w.out.now → n ≡ end_of end →
+    w.at ≤ most_result → Writes before (all_put st end paid n) w.out.now w.at → Reports st end paid before after w.at
+reports st end paid n before w e is few p = rw e (record { writes = λ tab f h. reported tab f st end paid h before w.out.now w.at n is p; few = few })

@@ -1,6 +1,6 @@
 -- Field 14 is put or left out, and all fields one behind the other fill the front of the buffer, which has room for them. Assumes nothing.
 -- Read first: specs/Report (oldest_if), completion/specs/Calls (Writes), fields/proofs/Putting.
-use mathlib.Core.Path.{◌≡◌, refl, sym, ◌∙◌}
+use mathlib.Core.Path.{◌≡◌, refl, sym, ap, ◌∙◌}
 use mathlib.Core.List.{List, [], ◌++◌, flat_map}
 use Prim.Native.Nat.{ℕ, ◌+◌, ◌*◌, ◌<◌, ◌≤◌}
 use native.Mathlib.Omega.{arith}
@@ -11,19 +11,24 @@ use Rattle.terms.specs.Base.{number_bytes, Field, field_bytes}
 use Rattle.rewriting.specs.declared.End.{End as Ending}
 use Rattle.rewriting.specs.declared.End.TheVariants.{Complete, NeitherAbove, Spent, TooLarge, RulesFull, LogFull}
 use Rattle.completion.specs.Calls.{written, Writes}
-use Rattle.fields.specs.Puts.{Puts, PutsSome, tagged}
+use Rattle.fields.specs.Puts.{patched, tagged}
+use Rattle.fields.specs.Adds.{Adds, AddsSome}
+use Rattle.fields.specs.declared.writer.Writer.{Writer}
+use Rattle.fields.proofs.Writing.{writes_length}
 use Rattle.fields.proofs.Appending.{patched_none, patched_front}
 use Rattle.fields.proofs.Putting.{puts_length, puts_then}
 use Rattle.items.specs.Written.{pair_field}
 use Rattle.report.specs.Report.{oldest_if}
 
 -- `put_oldest`
-module _ (out : List ℕ) (at : ℕ) where
-  nothing : (ys : List ℕ) → ys ≡ [] → PutsSome forms_width out at 1 ys out at
-  nothing ys e = rw e (record { puts = record { bytes = sym (patched_none at out); counted = refl; next = omega arith }; room = omega arith })
+module _ {w : Writer} where
+  nothing : (ys : List ℕ) → ys ≡ [] → AddsSome forms_width w w 1 ys
+  nothing ys e = rw e (record {
+    same = refl;
+    puts = record { puts = record { bytes = sym (patched_none w.at w.out.now); counted = refl; next = omega arith }; room = omega arith };
+  })
 
-  pub oldest_none : (end : Ending) (slots : List ℕ) (live count : ℕ) → (end ≡ NeitherAbove → ⊥) →
-      PutsSome forms_width out at 1 (oldest_if end slots live count) out at
+  pub oldest_none : (end : Ending) (slots : List ℕ) (live count : ℕ) → (end ≡ NeitherAbove → ⊥) → AddsSome forms_width w w 1 (oldest_if end slots live count)
   oldest_none end slots live count h = nothing _ (go end h)
     where
       go : (e : Ending) → (e ≡ NeitherAbove → ⊥) → oldest_if e slots live count ≡ []
@@ -35,14 +40,14 @@ module _ (out : List ℕ) (at : ℕ) where
       go LogFull h = unfold oldest_if in refl
 
   module _ (end : Ending) (slots : List ℕ) (live count : ℕ) (neither : end ≡ NeitherAbove) where
-    pub none_oldest : count ≤ live → PutsSome forms_width out at 1 (oldest_if end slots live count) out at
+    pub none_oldest : count ≤ live → AddsSome forms_width w w 1 (oldest_if end slots live count)
     none_oldest h = nothing _ (unfold oldest_if in rw (neither, le-ltb live count h) refl)
 
-    pub oldest_put : {out' : List ℕ} {r : ℕ} → live < count →
-        PutsSome (field_head + 0 + most_pair) out at 1 (field_bytes (pair_field 0x14 [] slots live)) out' r →
-        PutsSome forms_width out at 1 (oldest_if end slots live count) out' r
+    pub oldest_put : {w' : Writer} → live < count → AddsSome (field_head + 0 + most_pair) w w' 1 (field_bytes (pair_field 0x14 [] slots live)) →
+        AddsSome forms_width w w' 1 (oldest_if end slots live count)
     unfolding oldest_if
-    oldest_put h p = rw (neither, lt-ltb live count h) (record { puts = p.puts; room = let m = p.room in omega arith })
+    oldest_put h p =
+        rw (neither, lt-ltb live count h) (record { same = p.same; puts = record { puts = p.puts.puts; room = let m = p.puts.room in omega arith } })
 
 -- all fields
 unfoldable pub all_bytes : ℕ → ℕ → List Field → List Field → List ℕ → List ℕ
@@ -50,28 +55,44 @@ all_bytes end units rules log forms =
     field_bytes (tagged 0x10 (number_bytes 1 end))
     ++ (field_bytes (tagged 0x11 (number_bytes 4 units)) ++ (flat_map field_bytes rules ++ (flat_map field_bytes log ++ forms)))
 
--- `report`
-module _ (out l₁ l₂ l₃ l₄ l₅ : List ℕ) (end units live entries a b c d r : ℕ) (rules log : List Field) (forms : List ℕ)
-    (room : most_result ≤ length out) (live_few : live ≤ most_rules) (log_few : entries ≤ most_entries)
-    (p : Puts out 0 4 (field_bytes (tagged 0x10 (number_bytes 1 end))) l₁ a)
-    (q : Puts l₁ a 7 (field_bytes (tagged 0x11 (number_bytes 4 units))) l₂ b)
-    (s : PutsSome rule_width l₂ b live (flat_map field_bytes rules) l₃ c)
-    (t : PutsSome entry_width l₃ c entries (flat_map field_bytes log) l₄ d)
-    (u : PutsSome forms_width l₄ d 1 forms l₅ r) where
-  pub wrote_all : Writes out (all_bytes end units rules log forms) l₅ r
+-- `report`: room behind the end, the units, the rules and the log
+module _ {w w₁ : Writer} {x₁ : List ℕ} (front : w.at ≡ 0) (room : most_result ≤ length w.out.now) (p : Adds w w₁ 4 x₁) where
+  pub units_room : w₁.at + 7 + rule_width * most_rules + entry_width * most_entries + forms_width ≤ length w₁.out.now
+  units_room = omega (arith, writes_length (omega arith) p, p.puts.next)
+
+  module _ {w₂ : Writer} {x₂ : List ℕ} (q : Adds w₁ w₂ 7 x₂) where
+    pub rules_room : w₂.at + rule_width * most_rules + entry_width * most_entries + forms_width ≤ length w₂.out.now
+    rules_room = let r = units_room in omega (arith, writes_length (omega arith) q, q.puts.next)
+
+    module _ {w₃ : Writer} {x₃ : List ℕ} {live : ℕ} (live_few : live ≤ most_rules) (s : AddsSome rule_width w₂ w₃ live x₃) where
+      pub log_room : w₃.at + entry_width * most_entries + forms_width ≤ length w₃.out.now
+      log_room = let r = rules_room in let n = s.puts.puts.next in omega (arith, s.puts.room, puts_length _ _ _ _ _ _ (omega (arith, s.puts.room)) s.puts.puts)
+
+      pub forms_room : {w₄ : Writer} {x₄ : List ℕ} {entries : ℕ} → AddsSome entry_width w₃ w₄ entries x₄ → entries ≤ most_entries →
+          w₄.at + forms_width ≤ length w₄.out.now
+      forms_room t few =
+          let r = log_room in
+          let n = t.puts.puts.next in
+          omega (arith, t.puts.room, puts_length _ _ _ _ _ _ (omega (arith, t.puts.room)) t.puts.puts)
+
+module _ {w w₁ w₂ w₃ w₄ w₅ : Writer} (front : w.at ≡ 0) (room : most_result ≤ length w.out.now) (end units live entries : ℕ)
+    (rules log : List Field) (forms : List ℕ) (live_few : live ≤ most_rules) (log_few : entries ≤ most_entries)
+    (p : Adds w w₁ 4 (field_bytes (tagged 0x10 (number_bytes 1 end)))) (q : Adds w₁ w₂ 7 (field_bytes (tagged 0x11 (number_bytes 4 units))))
+    (s : AddsSome rule_width w₂ w₃ live (flat_map field_bytes rules)) (t : AddsSome entry_width w₃ w₄ entries (flat_map field_bytes log))
+    (u : AddsSome forms_width w₄ w₅ 1 forms) where
+  pub wrote_few : w₅.at ≤ most_result
+  wrote_few = omega (arith, p.puts.next, q.puts.next, s.puts.room, t.puts.room, u.puts.room)
+
+  pub wrote_all : Writes w.out.now (all_bytes end units rules log forms) w₅.out.now w₅.at
   unfolding all_bytes written
   wrote_all =
-      let na : a ≡ 0 + 4 = p.next in
-      let nb : b ≡ a + 7 = q.next in
-      let nc : c ≤ b + rule_width * live = s.room in
-      let mc : c ≡ b + length (flat_map field_bytes rules) = s.puts.next in
-      let nd : d ≤ c + entry_width * entries = t.room in
-      let md : d ≡ c + length (flat_map field_bytes log) = t.puts.next in
-      let k₁ : length l₁ ≡ length out = puts_length out 0 4 _ l₁ a (omega arith) p in
-      let k₂ : length l₂ ≡ length l₁ = puts_length l₁ a 7 _ l₂ b (omega arith) q in
-      let k₃ : length l₃ ≡ length l₂ = puts_length l₂ b _ _ l₃ c (omega arith) s.puts in
-      let x₄ = puts_then l₃ c _ (length forms) (flat_map field_bytes log) forms l₄ l₅ d r (omega arith) t.puts u.puts in
-      let x₃ = puts_then l₂ b (length (flat_map field_bytes rules)) _ (flat_map field_bytes rules) _ l₃ l₅ c r (omega arith) s.puts x₄ in
-      let x₂ = puts_then l₁ a 7 _ _ _ l₂ l₅ b r (omega arith) q x₃ in
-      let x₁ = puts_then out 0 4 _ _ _ l₁ l₅ a r (omega arith) p x₂ in
-      record { bytes = x₁.bytes ∙ patched_front _ out; count = omega (arith, x₁.next, x₁.counted) }
+      let ys : List ℕ = field_bytes (tagged 0x10 (number_bytes 1 end))
+      ++ (field_bytes (tagged 0x11 (number_bytes 4 units)) ++ (flat_map field_bytes rules ++ (flat_map field_bytes log ++ forms))) in
+      let r₁ = units_room front room p in
+      let r₂ = rules_room front room p q in
+      let r₃ = log_room front room p q live_few s in
+      let x₄ = puts_then _ _ _ _ _ forms _ _ _ _ (omega (arith, t.puts.puts.next, t.puts.room)) t.puts.puts u.puts.puts in
+      let x₃ = puts_then _ _ _ _ _ _ _ _ _ _ (omega (arith, s.puts.puts.next, s.puts.room)) s.puts.puts x₄ in
+      let x₂ = puts_then _ _ 7 _ _ _ _ _ _ _ (omega arith) q.puts x₃ in
+      let x₁ = puts_then _ _ 4 _ _ _ _ _ _ _ (omega arith) p.puts x₂ in
+      record { bytes = x₁.bytes ∙ ap (λ z. patched z ys w.out.now) front ∙ patched_front _ w.out.now; count = omega (arith, x₁.next, x₁.counted) }

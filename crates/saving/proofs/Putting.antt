@@ -62,8 +62,8 @@ module _ {st : State} (fine : Fine st) {w w₁ : Writer} {x₁ : List ℕ} (room
       pub log_room : w₃.at + entry_width * most_entries + 4 ≤ length w₃.out.now
       log_room = let r = waiting_room in let n = s.puts.puts.next in omega (arith, s.puts.room, puts_length _ _ _ _ _ _ (omega (arith, s.puts.room)) s.puts.puts)
 
-      pub back_room : {w₄ : Writer} {n : ℕ} {x₄ : List ℕ} → n ≤ most_entries → AddsSome entry_width w₃ w₄ n x₄ → w₄.at + 4 ≤ length w₄.out.now
-      back_room few t =
+      pub back_room : {w₄ : Writer} {n : ℕ} {x₄ : List ℕ} → AddsSome entry_width w₃ w₄ n x₄ → n ≤ most_entries → w₄.at + 4 ≤ length w₄.out.now
+      back_room t few =
           let r = log_room in
           let n = t.puts.puts.next in
           omega (arith, t.puts.room, puts_length _ _ _ _ _ _ (omega (arith, t.puts.room)) t.puts.puts)

@@ -19,8 +19,10 @@ put_log-requires-clause-count_in_bounds c =
 pub number_field-requires-2 : goal.number_field-requires-2
 number_field-requires-2 c =
     let few = c.requires.fine.log_few in
-    let b = c.requires.state_width_in_bounds in
-    (omega (arith, back_room c.requires.fine b c.number_field.ensures c.put_rules.ensures c.put_waiting.ensures few c.put_log.ensures), omega arith)
+    let b = c.requires.state_width_in_bounds in (
+      omega (arith, back_room c.requires.fine b c.number_field.ensures c.put_rules.ensures c.put_waiting.ensures c.put_log.ensures (omega (arith, few))),
+      omega arith,
+    )
 
 pub returns : goal.returns
 returns c =
