@@ -1,4 +1,4 @@
--- `Puts` one behind the other compose; so heads and fields are put from their parts. Assumes nothing.
+-- `Puts` one behind the other compose; so parts that stand one behind the other are put at once. Assumes nothing.
 -- Read first: specs/Puts, proofs/Appending.
 use mathlib.Core.Path.{◌≡◌, refl, ap, ap₂, ◌∙◌}
 use mathlib.Core.List.{List, [], ◌∷◌, ◌++◌}
@@ -27,30 +27,9 @@ puts_then l at n m xs ys l₁ l₂ a r room p q =
       next = q.next ∙ omega (arith, p.next);
     }
 
--- a part of another list
-pub puts_part : (l from l' : List ℕ) (at a n : ℕ) → a + n ≤ length from → l' ≡ patched at (take (a + n - a) (drop a from)) l →
-    Puts l at n (take n (drop a from)) l' (at + n)
-puts_part l from l' at a n h e =
-    let z : a + n - a ≡ n = omega arith in
-    record { bytes = rw z at e; counted = length-take-le n (drop a from) (omega (arith, length-drop a from)); next = refl }
-
 -- one byte
 pub puts_byte : (l : List ℕ) (at b : ℕ) → at < length l → Puts l at 1 (b ∷ []) (set l at b) (at + 1)
 puts_byte l at b h = record { bytes = patched_one at b l h; counted = refl; next = refl }
-
--- a tag and a length
-pub puts_head : (l : List ℕ) (at tag len : ℕ) (l' : List ℕ) (r : ℕ) → at + 3 ≤ length l →
-    Puts (set l at tag) (at + 1) 2 (number_bytes 2 len) l' r → Puts l at 3 (tag ∷ number_bytes 2 len) l' r
-puts_head l at tag len l' r room p =
-    puts_then l at 1 2 (tag ∷ []) (number_bytes 2 len) (set l at tag) l' (at + 1) r (omega arith)
-    (puts_byte l at tag (omega arith)) p
-
--- a field, from its head and its contents
-pub puts_field : (l : List ℕ) (at tag len : ℕ) (cs l₁ l₂ : List ℕ) (a r : ℕ) → at + 3 + len ≤ length l →
-    Puts l at 3 (tag ∷ number_bytes 2 len) l₁ a → Puts l₁ a len cs l₂ r → Puts l at (3 + len) (field_bytes (tagged tag cs)) l₂ r
-unfolding field_bytes
-puts_field l at tag len cs l₁ l₂ a r room p q =
-    rw q.counted (puts_then l at 3 len (tag ∷ number_bytes 2 len) cs l₁ l₂ a r (omega arith) p q)
 
 pub puts_counted : (l : List ℕ) (at n : ℕ) (xs l' : List ℕ) (r : ℕ) → Puts l at n xs l' r → Puts l at (length xs) xs l' r
 puts_counted l at n xs l' r p = record { bytes = p.bytes; counted = refl; next = p.next ∙ omega (arith, p.counted) }

@@ -51,13 +51,13 @@ module _ (l tab ends cs : List ℕ) (k : Spelt l tab ends cs) where
           ∙ take_at (renamed_bytes (take r e)) (drop r e) r
           (length_renamed (take r e) ∙ length-take-le r e (omega (arith, spelt_few.0, spelt_few.1)))
 
-      pub spelt_written : (n : ℕ) (d₀ d₁ : List ℕ) → Puts d₀ 0 (3 + length (take r q)) (field_bytes (tagged 0x15 (take r q))) d₁ n →
-          WritesSpelt l tab ends cs n d₀ d₁
+      pub spelt_written : (n : ℕ) (d₀ d₁ : List ℕ) {d₂ : List ℕ} → d₂ ≡ d₁ → Puts d₀ 0 (3 + length (take r q)) (field_bytes (tagged 0x15 (take r q))) d₁ n →
+          WritesSpelt l tab ends cs n d₀ d₂
       unfolding instance_field
-      spelt_written n d₀ d₁ f =
+      spelt_written n d₀ d₁ {d₂} same f =
           let c : (u : Term) → Spells (arena l tab ends) (at cs) 0 u → take r q ≡ renamed_bytes (term_bytes u)
           = λ u p. front_is ∙ ap renamed_bytes (spelt_bytes u p) in
           let k : n ≡ length (field_bytes (tagged 0x15 (take r q))) = omega (arith, f.next, f.counted) in
-          let w : d₁ ≡ written (field_bytes (tagged 0x15 (take r q))) d₀ = unfold written in
-          f.bytes ∙ patched_front (field_bytes (tagged 0x15 (take r q))) d₀ in
+          let w : d₂ ≡ written (field_bytes (tagged 0x15 (take r q))) d₀ = unfold written in
+          same ∙ f.bytes ∙ patched_front (field_bytes (tagged 0x15 (take r q))) d₀ in
           record { count = λ u p. rw (c u p) at k; leaves = λ u p. rw (c u p) at w }

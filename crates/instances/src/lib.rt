@@ -6,6 +6,7 @@ ghost use Rattle.limits.specs.Limits.{most_nodes, field_head};
 ghost use Rattle.instances.specs.Common.{TwoSides, SidesUnify, SpeltIn, WritesSpeltIn};
 
 use classes::Arena;
+use fields::Writer;
 
 // The tag of the result's field.
 const INSTANCE: u8 = 0x15;
@@ -19,7 +20,9 @@ fn write_instance(arena: &Arena, res: &mut [u8]) -> usize
     let mut out = [0u8; limits::NODES];
     let n = mgu::write(arena, 0, &mut out, 0);
     naming::rename_front(&mut out, n);
-    fields::put_field(res, 0, INSTANCE, &out[..n])
+    let mut w = Writer { out: res, at: 0 };
+    w.field(INSTANCE, &out[..n]);
+    w.at
 }
 
 #[derive(Clone, Copy, Debug, PartialEq, Eq)]

@@ -3,6 +3,7 @@
 use native.Mathlib.Omega.{arith}
 use mathlib.Core.Path.{refl}
 use lib.ListN.{length-take}
+use Rattle.std.proofs.Common.{rules}
 use Rattle.instances.proofs.Instances.{spelt_room, spelt_few, front_room, spelt_written}
 use Rattle.instances.proofs.write_instance.Goals as goal
 
@@ -17,8 +18,8 @@ rename_front-requires c =
 pub slice_bounds-out-end : goal.slice_bounds-out-end
 slice_bounds-out-end c = let f = spelt_few _ _ _ _ c.requires.spelt _ _ _ refl c.write-n.ensures in omega (arith, f)
 
-pub slice_bounds-put_field-end : goal.slice_bounds-put_field-end
-slice_bounds-put_field-end c =
+pub slice_bounds-field-end : goal.slice_bounds-field-end
+slice_bounds-field-end c =
     let f = spelt_few _ _ _ _ c.requires.spelt _ _ _ refl c.write-n.ensures in
     omega (
       arith,
@@ -26,13 +27,13 @@ slice_bounds-put_field-end c =
       length-take c.write-n.result c.rename_front.new.out,
     )
 
-pub put_field-requires : goal.put_field-requires
-put_field-requires c =
+pub field-requires : goal.field-requires
+field-requires c =
     let f = spelt_few _ _ _ _ c.requires.spelt _ _ _ refl c.write-n.ensures in
     let n = length-take c.write-n.result c.rename_front.new.out in
     (omega (arith, f, n, c.requires.most_nodes_in_bounds), omega (arith, f, n))
 
 pub returns : goal.returns
 returns c =
-    spelt_written _ _ _ _ c.requires.spelt _ _ _ refl c.write-n.ensures _
-    c.rename_front.ensures _ _ _ c.put_field.ensures
+    let named = c.field.ensures.same in
+    spelt_written _ _ _ _ c.requires.spelt _ _ _ refl c.write-n.ensures _ c.rename_front.ensures _ _ _ (search rules) c.field.ensures.puts
