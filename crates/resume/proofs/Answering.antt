@@ -25,8 +25,10 @@ use Rattle.loading.specs.declared.Counts.{Counts}
 use Rattle.loading.specs.Loads.{LoadedAt}
 use Rattle.resume.proofs.Standing.{run_leaves}
 use Rattle.resume.specs.Resumes.{state_of, RunsRecord, TakenAt, resumed_told, Redelivers, ResumedFew}
-use Rattle.resume.specs.declared.Resumed.{Resumed}
-use Rattle.resume.specs.declared.Resumed.TheVariants.{Written, Refused}
+use Rattle.std.proofs.Common.{Result, Ok, Err}
+use Rattle.problem.specs.Reasons.{number_of_reason}
+use Rattle.problem.specs.declared.Reason.TheVariants.{ShortBuffer}
+use Rattle.problem.specs.declared.Refusal.{Refusal}
 
 -- `read_resumption`
 module _ (l : List ℕ) (budget : ℕ) where
@@ -48,18 +50,18 @@ pub writes_front : {before ys after : List ℕ} {r : ℕ} → Writes before ys a
 writes_front {before} {ys} {after} {r} w = ap (take r) w.bytes ∙ written_front ys before r (sym w.count)
 
 -- `resume`
-pub record Answered (l : List ℕ) (budget : ℕ) (before after : List ℕ) (r : Resumed) : Type 0 where
+pub record Answered (l : List ℕ) (budget : ℕ) (before after : List ℕ) (r : Result ℕ Refusal) : Type 0 where
   pub answer : resumed_told r ≡ counted (resume_call l budget (length before))
   pub bytes : after ≡ after_complete (resume_call l budget (length before)) before
   pub delivery : Redelivers l budget after r
   pub few : ResumedFew r
 
 module _ (l : List ℕ) (budget : ℕ) (before : List ℕ) where
-  answered : {after : List ℕ} {r : Resumed} (c : Reading (List ℕ)) → resume_call l budget (length before) ≡ c → resumed_told r ≡ counted c →
+  answered : {after : List ℕ} {r : Result ℕ Refusal} (c : Reading (List ℕ)) → resume_call l budget (length before) ≡ c → resumed_told r ≡ counted c →
       after ≡ after_complete c before → Redelivers l budget after r → ResumedFew r → Answered l budget before after r
   answered c e a b d few = record { answer = a ∙ ap counted (sym e); bytes = b ∙ ap (λ x. after_complete x before) (sym e); delivery = d; few = few }
 
-  pub answers_short : length before < least_buffer → Answered l budget before before (Refused short_buffer 0)
+  pub answers_short : length before < least_buffer → Answered l budget before before (Err (record { reason = ShortBuffer; place = 0 }))
   unfolding resumed_told counted after_complete Redelivers ResumedFew resume_call enough
   answers_short h =
       answered (refused short_buffer 0) (refuses _ short_buffer 0 _ (lt-ltb (length before) least_buffer h)) refl refl
@@ -71,10 +73,11 @@ module _ (l : List ℕ) (budget : ℕ) (before : List ℕ) where
   unfolding resume_call
   with_room room = bind_ok _ (room_enough (length before) room)
 
-  pub answers_refused : {n p : ℕ} → least_buffer ≤ length before → read_resumption l budget ≡ refused n p → Answered l budget before before (Refused n p)
+  pub answers_refused : {r : Refusal} → least_buffer ≤ length before →
+      read_resumption l budget ≡ refused (number_of_reason r.reason) r.place → Answered l budget before before (Err r)
   unfolding resumed_told counted after_complete Redelivers ResumedFew
-  answers_refused {n} {p} room e =
-      answered (refused n p) (with_room room ∙ bind_refused _ e) refl refl (λ T f w. never_16 T f l w budget n p e) tt
+  answers_refused {r} room e =
+      answered (refused _ _) (with_room room ∙ bind_refused _ e) refl refl (λ T f w. never_16 T f l w budget _ r.place e) tt
 
   -- what is written delivers: the record was that of the run's own theory and last state
   delivers : {c : Checkpoint} {after : List ℕ} {r : ℕ} → read_resumption l budget ≡ ok c → Writes before (result_bytes (resumed c budget)) after r →
@@ -88,7 +91,7 @@ module _ (l : List ℕ) (budget : ℕ) (before : List ℕ) where
 
   pub answers_written : {front : Front} {slots log : List ℕ} {counts : Counts} {o : Ran} {after : List ℕ} {r : ℕ} → least_buffer ≤ length before →
       ((c : Checkpoint) × TakenAt l budget front slots log counts c) → RunsRecord l front (state_of front.next counts slots log budget) o →
-      Reports o.state o.end o.paid before after r → Answered l budget before after (Written r)
+      Reports o.state o.end o.paid before after r → Answered l budget before after (Ok r)
   unfolding resumed_told counted after_complete Redelivers ResumedFew
   answers_written room (c, A) R W =
       let w = W.writes _ _ (run_leaves A.loaded budget R) in

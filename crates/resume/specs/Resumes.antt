@@ -1,7 +1,7 @@
 -- Document 02, Seven: what `resume` answers, and what is promised of the bytes it takes and leaves; and what its parts hand on. Section 21 of
 -- docs/DEFINITION.md. Assumes nothing.
 -- Read first: checkpoint/specs/Resume, checkpoint/specs/Wrote, loading/specs/Loads (LoadedAt), run/specs/Runs (RunsFrom).
-use Rattle.std.specs.Prelude.{◌≡◌, List, [], ℕ, ◌-◌, ◌≤◌, length, take}
+use Rattle.std.specs.Prelude.{Result, Ok, Err, ◌≡◌, List, [], ℕ, ◌-◌, ◌≤◌, length, take}
 use Rattle.limits.specs.Limits.{most_budget, most_result}
 use Rattle.reading.specs.Stops.{wrong_saved}
 use Rattle.reading.specs.Answers.{symbols_of}
@@ -18,10 +18,9 @@ use Rattle.run.specs.declared.Ran.{Ran}
 use Rattle.loading.specs.declared.Front.{Front}
 use Rattle.loading.specs.declared.Counts.{Counts}
 use Rattle.loading.specs.Loads.{LoadedAt}
-use Rattle.resume.specs.declared.Taken.{Taken}
-use Rattle.resume.specs.declared.Taken.TheVariants.{Fine as Takes, Refused as NotTaken}
-use Rattle.resume.specs.declared.Resumed.{Resumed}
-use Rattle.resume.specs.declared.Resumed.TheVariants.{Written, Refused}
+use Rattle.loading.specs.declared.Loaded.{Loaded}
+use Rattle.problem.specs.Reasons.{number_of_reason}
+use Rattle.problem.specs.declared.Refusal.{Refusal}
 
 -- `state_of`
 abbrev pub state_of : ℕ → Counts → List ℕ → List ℕ → ℕ → State
@@ -49,23 +48,23 @@ pub record TakenAt (l : List ℕ) (budget : ℕ) (front : Front) (slots log : Li
   pub loaded : LoadedAt l front slots log counts c
   pub budget_few : budget ≤ most_budget
 
-abbrev pub IsTaken : List ℕ → ℕ → List ℕ → List ℕ → Taken → Type 0
-IsTaken l budget slots log (Takes front counts) = (c : Checkpoint) × TakenAt l budget front slots log counts c
-IsTaken l budget slots log (NotTaken n p) = read_resumption l budget ≡ refused n p
+abbrev pub IsTaken : List ℕ → ℕ → List ℕ → List ℕ → Result Loaded Refusal → Type 0
+IsTaken l budget slots log (Ok r) = (c : Checkpoint) × TakenAt l budget r.front slots log r.counts c
+IsTaken l budget slots log (Err r) = read_resumption l budget ≡ refused (number_of_reason r.reason) r.place
 
 -- the count of result bytes, or the refusal's number and place
-unfoldable pub resumed_told : Resumed → Reading ℕ
-resumed_told (Written count) = ok count
-resumed_told (Refused number place) = refused number place
+unfoldable pub resumed_told : Result ℕ Refusal → Reading ℕ
+resumed_told (Ok count) = ok count
+resumed_told (Err r) = refused (number_of_reason r.reason) r.place
 
 -- at most so many result bytes, whatever record is taken up
-unfoldable pub ResumedFew : Resumed → Type 0
-ResumedFew (Written count) = count ≤ most_result
-ResumedFew (Refused number place) = Unit {0}
+unfoldable pub ResumedFew : Result ℕ Refusal → Type 0
+ResumedFew (Ok count) = count ≤ most_result
+ResumedFew (Err r) = Unit {0}
 
 -- Of a record that the engine wrote for a problem's theory T, f being what that run left: "16 .. never for one that the engine wrote"; what is written is
 -- the result of the run that goes on in the state of f with the new budget, and delivers for T. [21.18 to 21.21]
-unfoldable pub Redelivers : List ℕ → ℕ → List ℕ → Resumed → Type 0
-Redelivers saved budget result (Written count) = (T : Theory) (f : Finished) → EngineSaved T f saved →
+unfoldable pub Redelivers : List ℕ → ℕ → List ℕ → Result ℕ Refusal → Type 0
+Redelivers saved budget result (Ok count) = (T : Theory) (f : Finished) → EngineSaved T f saved →
     Delivered T (run_from T f.state budget) (record { result = take count result; saved = [] })
-Redelivers saved budget result (Refused number place) = (T : Theory) (f : Finished) → EngineSaved T f saved → number ≡ wrong_saved → ⊥
+Redelivers saved budget result (Err r) = (T : Theory) (f : Finished) → EngineSaved T f saved → number_of_reason r.reason ≡ wrong_saved → ⊥

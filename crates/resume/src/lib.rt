@@ -12,21 +12,14 @@ ghost use Rattle.state.specs.Run.{Fine};
 ghost use Rattle.resume.specs.Resumes.{state_of, RunsRecord, IsTaken, resumed_told, Redelivers, ResumedFew};
 
 use limits::FIELD_HEAD;
-use loading::{Counts, Front, Loaded};
+use loading::{Counts, LoadError, Loaded};
+use problem::{Reason, Refusal};
 use run::Ran;
 use slots::Pairs;
 use state::{Log, State};
 
-// The numbers of document 02's refusals of a saved record, as reading/specs/Stops names them.
-
-// A saved record that breaks its form and limits.
-pub const WRONG_SAVED: u8 = 16;
-
-// A new budget above 1,000,000.
-pub const LARGE_BUDGET: u8 = 17;
-
 // The state that was saved, with so many units.
-pub fn state_of(
+fn state_of(
     next: usize,
     counts: Counts,
     bytes: [u8; slots::ROOM],
@@ -38,7 +31,7 @@ pub fn state_of(
 {
     State {
         pairs: Pairs {
-            bytes: bytes,
+            bytes,
             count: counts.pairs,
         },
         live: counts.live,
@@ -48,87 +41,82 @@ pub fn state_of(
             count: counts.entries,
         },
         back: counts.back,
-        units: units,
+        units,
     }
 }
 
-// Turns from a state, for the theory of a record whose front is this.
-pub fn go_on(kept: &[u8], front: Front, first: State) -> Ran
-    requires { (length kept.now ≤ most_saved) × SymbolsAt kept.now front.table × (front.equations ≤ most_equations) × Fine first }
-    ensures { RunsRecord kept.now front first result }
+// Turns from the saved state for the theory of the record that was read, with so many units.
+pub fn go_on(
+    kept: &[u8],
+    loaded: Loaded,
+    pairs: [u8; slots::ROOM],
+    log: [u8; state::LOG],
+    units: u32,
+) -> Ran
+    requires front { (length kept.now ≤ most_saved) × SymbolsAt kept.now loaded.front.table × (loaded.front.equations ≤ most_equations) }
+    requires first { (1 ≤ loaded.front.next) × Fine (state_of loaded.front.next loaded.counts pairs log units) }
+    ensures { RunsRecord kept.now loaded.front (state_of loaded.front.next loaded.counts pairs log units) result }
 {
+    let front = loaded.front;
+    let first = state_of(front.next, loaded.counts, pairs, log, units);
     let end = front.table;
-    let count = front.equations;
     let table = &kept[FIELD_HEAD..end];
-    let inputs = inputs::read(kept, table, end, count);
+    let inputs = inputs::read(kept, table, end, front.equations);
     run::run_from(first, inputs, table)
 }
 
-// What is taken up again, or a refusal with its number and its place.
-#[derive(Drop)]
-pub enum Taken {
-    Fine { front: Front, counts: Counts },
-    Refused { number: u8, place: usize },
-}
-
 // A saved record, read for a new budget: 2, 16, then 17.
-pub fn read_resumption(kept: &[u8], budget: u64, pairs: &mut [u8], log: &mut [u8]) -> Taken
+pub fn read_resumption(
+    kept: &[u8],
+    budget: u64,
+    pairs: &mut [u8],
+    log: &mut [u8],
+) -> Result<Loaded, Refusal>
     requires { (slot_width * most_pairs ≤ length pairs.old) × (logged_width * most_entries ≤ length log.old) }
     ensures { IsTaken kept.now budget pairs.new log.new result }
 {
-    match loading::load(kept, pairs, log) {
-        Loaded::Long => Taken::Refused {
-            number: problem::LONG_PROBLEM,
-            place: limits::SAVED,
-        },
-        Loaded::Bad(place) => Taken::Refused {
-            number: WRONG_SAVED,
-            place,
-        },
-        Loaded::Fine { front, counts } => {
-            if budget > limits::BUDGET as u64 {
-                return Taken::Refused {
-                    number: LARGE_BUDGET,
-                    place: 0,
-                };
-            }
-            Taken::Fine { front, counts }
+    let loaded = match loading::load(kept, pairs, log) {
+        Ok(loaded) => loaded,
+        Err(LoadError::Long) => {
+            return Err(Refusal {
+                reason: Reason::LongProblem,
+                place: limits::SAVED,
+            });
         }
+        Err(LoadError::Bad(place)) => {
+            return Err(Refusal {
+                reason: Reason::WrongSaved,
+                place,
+            });
+        }
+    };
+    if budget > limits::BUDGET as u64 {
+        return Err(Refusal {
+            reason: Reason::LargeBudget,
+            place: 0,
+        });
     }
+    Ok(loaded)
 }
 
-#[derive(Drop)]
-pub enum Resumed {
-    // The count of result bytes.
-    Written(usize),
-    // Refused, with the number and the place.
-    Refused { number: u8, place: usize },
-}
-
-// A saved record taken up again with a new budget. For every record the answer and the lent result bytes are the definition's. Of a record that the
-// engine wrote: it is not refused with 16, and what is written delivers for the problem that its run began with.
-pub fn resume(kept: &[u8], budget: u64, res: &mut [u8]) -> Resumed
+// A saved record taken up again with a new budget: the count of result bytes. For every record the answer and the lent result bytes are the
+// definition's. Of a record that the engine wrote: it is not refused with 16, and what is written delivers for the problem that its run began with.
+pub fn resume(kept: &[u8], budget: u64, res: &mut [u8]) -> Result<usize, Refusal>
     ensures answer { resumed_told result ≡ counted (resume_call kept.now budget (length res.old)) }
     ensures bytes { res.new ≡ after_complete (resume_call kept.now budget (length res.old)) res.old }
     ensures delivery { Redelivers kept.now budget res.new result }
     ensures few { ResumedFew result }
 {
     if res.len() < limits::BUFFER {
-        return Resumed::Refused {
-            number: problem::SHORT_BUFFER,
+        return Err(Refusal {
+            reason: Reason::ShortBuffer,
             place: 0,
-        };
+        });
     }
     let mut pairs = [0u8; slots::ROOM];
     let mut log = [0u8; state::LOG];
-    match read_resumption(kept, budget, &mut pairs, &mut log) {
-        Taken::Refused { number, place } => Resumed::Refused { number, place },
-        Taken::Fine { front, counts } => {
-            let first = state_of(front.next, counts, pairs, log, budget as u32);
-            let ran = go_on(kept, front, first);
-            let end = ran.end;
-            let n = report::report(ran.state, end, ran.paid, res);
-            Resumed::Written(n)
-        }
-    }
+    let loaded = read_resumption(kept, budget, &mut pairs, &mut log)?;
+    let ran = go_on(kept, loaded, pairs, log, budget as u32);
+    let end = ran.end;
+    Ok(report::report(ran.state, end, ran.paid, res))
 }

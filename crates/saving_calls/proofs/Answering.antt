@@ -30,10 +30,13 @@ use Rattle.loading.specs.declared.Counts.{Counts}
 use Rattle.resume.specs.Resumes.{state_of, RunsRecord, TakenAt}
 use Rattle.resume.proofs.Standing.{run_leaves}
 use Rattle.resume.proofs.Answering.{writes_front}
-use Rattle.saving_calls.specs.Leaving.{one_short, left_told, lengths, LeftFew, LeavesAs, LeavesBoth}
+use Rattle.saving_calls.specs.Leaving.{one_short, left_told, lengths, CountsFew, LeftFew, LeavesAs, LeavesBoth}
 use Rattle.saving_calls.specs.Leaving.{RunsProblem, SavingDelivers, SavingRedelivers}
 use Rattle.saving_calls.specs.declared.Left.{Left}
-use Rattle.saving_calls.specs.declared.Left.TheVariants.{Written, Refused}
+use Rattle.std.proofs.Common.{Result, Ok, Err}
+use Rattle.problem.specs.Reasons.{number_of_reason}
+use Rattle.problem.specs.declared.Reason.TheVariants.{ShortBuffer}
+use Rattle.problem.specs.declared.Refusal.{Refusal}
 use Rattle.saving_calls.proofs.Writing.{problem_theory, record_theory}
 
 -- `short`
@@ -77,57 +80,57 @@ lent_enough result saved m h = go (ltb result least_buffer) (ltb saved least_sav
     go false false h = refl
 
 -- The answer of a call that comes to this reading, with what is promised of the bytes that it leaves.
-pub record Answered (call : Reading LeftBytes) (D : List ℕ → List ℕ → Left → Type 0) (before after before' after' : List ℕ) (r : Left) : Type 0 where
+pub record Answered (call : Reading LeftBytes) (D : List ℕ → List ℕ → Result Left Refusal → Type 0) (before after before' after' : List ℕ)
+    (r : Result Left Refusal) : Type 0 where
   pub answer : left_told r ≡ lengths call
   pub result : after ≡ after_result call before
   pub saved : after' ≡ after_saved call before'
   pub delivery : D after after' r
   pub few : LeftFew r
 
-module _ {call : Reading LeftBytes} {D : List ℕ → List ℕ → Left → Type 0} {before before' : List ℕ} where
-  answers_refused : {n p : ℕ} → call ≡ refused n p → D before before' (Refused n p) → Answered call D before before before' before' (Refused n p)
+module _ {call : Reading LeftBytes} {D : List ℕ → List ℕ → Result Left Refusal → Type 0} {before before' : List ℕ} where
+  answers_refused : {r : Refusal} → call ≡ refused (number_of_reason r.reason) r.place → D before before' (Err r) →
+      Answered call D before before before' before' (Err r)
   unfolding left_told lengths after_result after_saved LeftFew
   answers_refused e d = record { answer = rw e refl; result = rw e refl; saved = rw e refl; delivery = d; few = tt }
 
-  answers_written : {y : LeftBytes} {after after' : List ℕ} → call ≡ ok y → (r : Left) → LeavesAs y before after before' after' r → LeftFew r →
-      D after after' r → Answered call D before after before' after' r
-  unfolding left_told lengths after_result after_saved
-  answers_written e (Written n m) (w, v) few d =
+  answers_written : {y : LeftBytes} {after after' : List ℕ} → call ≡ ok y → (r : Left) → LeavesAs y before after before' after' r → CountsFew r →
+      D after after' (Ok r) → Answered call D before after before' after' (Ok r)
+  unfolding left_told lengths after_result after_saved LeftFew
+  answers_written e r (w, v) few d =
       record { answer = rw (e, w.count, v.count) refl; result = rw e w.bytes; saved = rw e v.bytes; delivery = d; few = few }
-  answers_written e (Refused n p) h few d = absurd h
 
 -- what stands at the front of the two buffers delivers
-delivers : {T : Theory} {f : Finished} {y : LeftBytes} {before after before' after' : List ℕ} {n m : ℕ} → Delivered T f y →
-    LeavesAs y before after before' after' (Written n m) → Delivered T f (record { result = take n after; saved = take m after' })
+delivers : {T : Theory} {f : Finished} {y : LeftBytes} {before after before' after' : List ℕ} {r : Left} → Delivered T f y →
+    LeavesAs y before after before' after' r → Delivered T f (record { result = take r.result after; saved = take r.saved after' })
 delivers {T} {f} D (w, v) =
     subst₂ (λ a b. Delivered T f (record { result = a; saved = b })) (sym (writes_front w)) (sym (writes_front v)) D
 
 -- `complete_saving`
 module _ (problem before before' : List ℕ) where
-  abbrev Completes : List ℕ → List ℕ → Left → Type 0
+  abbrev Completes : List ℕ → List ℕ → Result Left Refusal → Type 0
   Completes after after' r =
       Answered (complete_saving_call problem (length before) (length before')) (SavingDelivers problem) before after before' after' r
 
-  pub completes_short : one_short (length before) (length before') ≡ true → Completes before before' (Refused short_buffer 0)
+  pub completes_short : one_short (length before) (length before') ≡ true → Completes before before' (Err (record { reason = ShortBuffer; place = 0 }))
   unfolding complete_saving_call SavingDelivers
   completes_short h = answers_refused (lent_short _ _ _ h) tt
 
   module _ (enough : one_short (length before) (length before') ≡ false) where
-    pub completes_refused : (n p : ℕ) → parse problem ≡ refused n p → Completes before before' (Refused n p)
+    pub completes_refused : (r : Refusal) → parse problem ≡ refused (number_of_reason r.reason) r.place → Completes before before' (Err r)
     unfolding complete_saving_call SavingDelivers
-    completes_refused n p e = answers_refused (lent_enough _ _ _ enough ∙ bind_refused _ e) tt
+    completes_refused r e = answers_refused (lent_enough _ _ _ enough ∙ bind_refused _ e) tt
 
     completion_delivers : (after after' : List ℕ) (P : Problem) → parse problem ≡ ok P → (r : Left) →
-        LeavesAs (leaves (theory P) (run P)) before after before' after' r → SavingDelivers problem after after' r
+        LeavesAs (leaves (theory P) (run P)) before after before' after' r → SavingDelivers problem after after' (Ok r)
     unfolding SavingDelivers
-    completion_delivers after after' P e (Written n m) w = λ Q q.
+    completion_delivers after after' P e r w = λ Q q.
         let same : P ≡ Q = ok_injective (sym e ∙ q) in
-        subst (λ (Q : Problem). Delivered (theory Q) (run Q) (record { result = take n after; saved = take m after' })) same
+        subst (λ (Q : Problem). Delivered (theory Q) (run Q) (record { result = take r.result after; saved = take r.saved after' })) same
         (delivers (problem_delivered problem P e) w)
-    completion_delivers after after' P e (Refused n p) h = absurd h
 
     pub completes_written : {e b at n : ℕ} {P : Problem} {o : Ran} {after after' : List ℕ} {r : Left} → ParsedAt problem e b at n P →
-        RunsProblem problem e b at n o → LeavesBoth o problem e at n before after before' after' r → Completes after after' r
+        RunsProblem problem e b at n o → LeavesBoth o problem e at n before after before' after' r → Completes after after' (Ok r)
     unfolding complete_saving_call
     completes_written {P = P} {after = after} {after' = after'} {r = r} A R L =
         let w : LeavesAs (leaves (theory P) (run P)) before after before' after' r = L.both (theory P) (run P) (problem_theory A) (R.answer P A) in
@@ -135,33 +138,32 @@ module _ (problem before before' : List ℕ) where
 
 -- `resume_saving`
 module _ (kept : List ℕ) (budget : ℕ) (before before' : List ℕ) where
-  abbrev Resumes : List ℕ → List ℕ → Left → Type 0
+  abbrev Resumes : List ℕ → List ℕ → Result Left Refusal → Type 0
   Resumes after after' r =
       Answered (resume_saving_call kept budget (length before) (length before')) (SavingRedelivers kept budget) before after before' after' r
 
-  pub resumes_short : one_short (length before) (length before') ≡ true → Resumes before before' (Refused short_buffer 0)
+  pub resumes_short : one_short (length before) (length before') ≡ true → Resumes before before' (Err (record { reason = ShortBuffer; place = 0 }))
   unfolding resume_saving_call SavingRedelivers
   resumes_short h = answers_refused (lent_short _ _ _ h) (λ T f w e. absurd (omega (arith, e)))
 
   module _ (enough : one_short (length before) (length before') ≡ false) where
-    pub resumes_refused : (n p : ℕ) → read_resumption kept budget ≡ refused n p → Resumes before before' (Refused n p)
+    pub resumes_refused : (r : Refusal) → read_resumption kept budget ≡ refused (number_of_reason r.reason) r.place → Resumes before before' (Err r)
     unfolding resume_saving_call SavingRedelivers
-    resumes_refused n p e = answers_refused (lent_enough _ _ _ enough ∙ bind_refused _ e) (λ T f w. never_16 T f kept w budget n p e)
+    resumes_refused r e = answers_refused (lent_enough _ _ _ enough ∙ bind_refused _ e) (λ T f w. never_16 T f kept w budget _ r.place e)
 
     -- the record was that of the run's own theory and last state
     resumption_delivers : (after after' : List ℕ) (c : Checkpoint) → read_resumption kept budget ≡ ok c → (r : Left) →
-        LeavesAs (leaves c.theory (resumed c budget)) before after before' after' r → SavingRedelivers kept budget after after' r
+        LeavesAs (leaves c.theory (resumed c budget)) before after before' after' r → SavingRedelivers kept budget after after' (Ok r)
     unfolding SavingRedelivers resumed
-    resumption_delivers after after' c e (Written n m) w = λ T f saved.
+    resumption_delivers after after' c e r w = λ T f saved.
         let D = resumed_delivered T f kept budget c saved e in
         let left : LeftBytes = leaves T (run_from T f.state budget) in
         let is : left ≡ leaves c.theory (resumed c budget) = ap (λ (x : Checkpoint). leaves x.theory (resumed x budget)) (sym D.0) in
         delivers (subst (Delivered T (run_from T f.state budget)) is D.1) w
-    resumption_delivers after after' c e (Refused n p) h = absurd h
 
     pub resumes_written : {front : Front} {slots log : List ℕ} {counts : Counts} {o : Ran} {after after' : List ℕ} {r : Left} →
         ((c : Checkpoint) × TakenAt kept budget front slots log counts c) → RunsRecord kept front (state_of front.next counts slots log budget) o →
-        LeavesBoth o kept front.table front.table front.equations before after before' after' r → Resumes after after' r
+        LeavesBoth o kept front.table front.table front.equations before after before' after' r → Resumes after after' (Ok r)
     unfolding resume_saving_call
     resumes_written {after = after} {after' = after'} {r = r} (c, A) R L =
         let w : LeavesAs (leaves c.theory (resumed c budget)) before after before' after' r =

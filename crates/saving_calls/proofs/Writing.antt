@@ -33,7 +33,6 @@ use Rattle.run.proofs.Begun.{begun_leaves}
 use Rattle.saving.specs.Saves.{Saves}
 use Rattle.saving.proofs.Filling.{problem_filled, record_filled}
 use Rattle.saving_calls.specs.Leaving.{LeftFew, TheoryAt, SavesIf, LeavesBoth, RunsProblem}
-use Rattle.saving_calls.specs.declared.Left.TheVariants.{Written}
 
 -- `save_if`: with end 21 the record, with another nothing
 saved_none : (e : End) (c : Checkpoint) → (ending e ≡ Spent → ⊥) → saved_at e c ≡ []
@@ -75,8 +74,8 @@ table_few l e h = omega (arith, length-take (e - 3) (drop 3 l))
 
 pub leaves_both : {o : Ran} {l : List ℕ} {e from count : ℕ} {before after before' after' : List ℕ} {n m : ℕ} →
     Reports o.state o.end o.paid before after n → SavesIf o.state o.end (part l 3 e) l from count before' after' m →
-    LeavesBoth o l e from count before after before' after' (Written n m)
-unfolding leaves LeftFew
+    LeavesBoth o l e from count before after before' after' (record { result = n; saved = m })
+unfolding leaves
 leaves_both {o} {l} {e} R S =
     record {
       few = (R.few, S.few);

@@ -1,7 +1,7 @@
 -- Document 02, Seven: what the calls that save answer, and what is promised of the bytes they take and leave; and what their parts hand on. Section 21 of
 -- docs/DEFINITION.md. Assumes nothing.
 -- Read first: checkpoint/specs/Resume, checkpoint/specs/Wrote, saving/specs/Saves, report/specs/Report.
-use Rattle.std.specs.Prelude.{◌≡◌, Bool, ◌||◌, List, ℕ, ◌≤◌, ltb, length, take}
+use Rattle.std.specs.Prelude.{Result, Ok, Err, ◌≡◌, Bool, ◌||◌, List, ℕ, ◌≤◌, ltb, length, take}
 use Rattle.limits.specs.Limits.{least_buffer, least_saved, most_result, longest_saved}
 use Rattle.reading.specs.Stops.{wrong_saved}
 use Rattle.reading.specs.Answers.{symbols_of, Table}
@@ -21,7 +21,8 @@ use Rattle.state.specs.Run.{Fine, Represents, Leaves}
 use Rattle.run.specs.declared.Ran.{Ran}
 use Rattle.saving.specs.Saves.{FillFields}
 use Rattle.saving_calls.specs.declared.Left.{Left}
-use Rattle.saving_calls.specs.declared.Left.TheVariants.{Written, Refused}
+use Rattle.problem.specs.Reasons.{number_of_reason}
+use Rattle.problem.specs.declared.Refusal.{Refusal}
 
 -- The two counts: of the result's bytes, and of the saved record's.
 pub record Lengths : Type 0 where
@@ -29,18 +30,21 @@ pub record Lengths : Type 0 where
   pub saved : ℕ
 
 -- "its length is returned too, 0 .. on another end"; a refusal has its number and its place [21.2]
-unfoldable pub left_told : Left → Reading Lengths
-left_told (Written n m) = ok (record { result = n; saved = m })
-left_told (Refused number place) = refused number place
+unfoldable pub left_told : Result Left Refusal → Reading Lengths
+left_told (Ok r) = ok (record { result = r.result; saved = r.saved })
+left_told (Err r) = refused (number_of_reason r.reason) r.place
 
 unfoldable pub lengths : Reading LeftBytes → Reading Lengths
 lengths (ok l) = ok (record { result = length l.result; saved = length l.saved })
 lengths (refused number place) = refused number place
 
 -- at most so many bytes of either, whatever is completed or taken up
-unfoldable pub LeftFew : Left → Type 0
-LeftFew (Written n m) = (n ≤ most_result) × (m ≤ longest_saved)
-LeftFew (Refused number place) = Unit {0}
+abbrev pub CountsFew : Left → Type 0
+CountsFew r = (r.result ≤ most_result) × (r.saved ≤ longest_saved)
+
+unfoldable pub LeftFew : Result Left Refusal → Type 0
+LeftFew (Ok r) = CountsFew r
+LeftFew (Err r) = Unit {0}
 
 -- `short`: one of two lent buffers of these lengths is too short
 unfoldable pub one_short : ℕ → ℕ → Bool
@@ -61,11 +65,10 @@ pub record SavesIf (st : State) (end : Ending) (tab l : List ℕ) (from count : 
 
 -- `leave`
 abbrev pub LeavesAs : LeftBytes → List ℕ → List ℕ → List ℕ → List ℕ → Left → Type 0
-LeavesAs y before after before' after' (Written n m) = Writes before y.result after n × Writes before' y.saved after' m
-LeavesAs y before after before' after' (Refused number place) = ⊥
+LeavesAs y before after before' after' r = Writes before y.result after r.result × Writes before' y.saved after' r.saved
 
 pub record LeavesBoth (o : Ran) (l : List ℕ) (e from count : ℕ) (before after before' after' : List ℕ) (r : Left) : Type 0 where
-  pub few : LeftFew r
+  pub few : CountsFew r
   pub both : (T : Theory) (f : Finished) → TheoryAt (part l 3 e) l from count T → Leaves (part l 3 e) f o.state o.end o.paid →
       LeavesAs (leaves T f) before after before' after' r
 
@@ -75,14 +78,14 @@ pub record RunsProblem (l : List ℕ) (e b at n : ℕ) (o : Ran) : Type 0 where
   pub answer : (P : Problem) → ParsedAt l e b at n P → Leaves (part l 3 e) (run P) o.state o.end o.paid
 
 -- What `complete_saving` leaves of an accepted problem: of its run. [21.18 to 21.21]
-unfoldable pub SavingDelivers : List ℕ → List ℕ → List ℕ → Left → Type 0
-SavingDelivers problem result saved (Written n m) = (P : Problem) → parse problem ≡ ok P →
-    Delivered (theory P) (run P) (record { result = take n result; saved = take m saved })
-SavingDelivers problem result saved (Refused number place) = Unit {0}
+unfoldable pub SavingDelivers : List ℕ → List ℕ → List ℕ → Result Left Refusal → Type 0
+SavingDelivers problem result saved (Ok r) = (P : Problem) → parse problem ≡ ok P →
+    Delivered (theory P) (run P) (record { result = take r.result result; saved = take r.saved saved })
+SavingDelivers problem result saved (Err r) = Unit {0}
 
 -- What `resume_saving` leaves of a record that the engine wrote, f being what its run had left: of the run that goes on in the state of f with the new
 -- budget; "16 .. never for one that the engine wrote". [21.18 to 21.21]
-unfoldable pub SavingRedelivers : List ℕ → ℕ → List ℕ → List ℕ → Left → Type 0
-SavingRedelivers kept budget result saved (Written n m) = (T : Theory) (f : Finished) → EngineSaved T f kept →
-    Delivered T (run_from T f.state budget) (record { result = take n result; saved = take m saved })
-SavingRedelivers kept budget result saved (Refused number place) = (T : Theory) (f : Finished) → EngineSaved T f kept → number ≡ wrong_saved → ⊥
+unfoldable pub SavingRedelivers : List ℕ → ℕ → List ℕ → List ℕ → Result Left Refusal → Type 0
+SavingRedelivers kept budget result saved (Ok r) = (T : Theory) (f : Finished) → EngineSaved T f kept →
+    Delivered T (run_from T f.state budget) (record { result = take r.result result; saved = take r.saved saved })
+SavingRedelivers kept budget result saved (Err r) = (T : Theory) (f : Finished) → EngineSaved T f kept → number_of_reason r.reason ≡ wrong_saved → ⊥

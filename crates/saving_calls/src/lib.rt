@@ -9,27 +9,23 @@ ghost use Rattle.checkpoint.specs.Resume.{complete_saving_call, resume_saving_ca
 ghost use Rattle.saving_calls.specs.Leaving.{one_short, left_told, lengths, SavesIf, LeavesBoth, RunsProblem, SavingDelivers, SavingRedelivers, LeftFew};
 
 use limits::FIELD_HEAD;
-use resume::Taken;
+use problem::{Input, Reason, Refusal};
 use rewriting::End;
 use run::Ran;
 use state::State;
 
-#[derive(Drop)]
-pub enum Left {
-    // The counts of result bytes and of bytes of the saved record, 0 where there is none.
-    Written { result: usize, saved: usize },
-    // Refused, with the number and the place.
-    Refused { number: u8, place: usize },
+// The counts of result bytes and of bytes of the saved record, 0 where there is none.
+#[derive(Clone, Copy, Debug, PartialEq, Eq)]
+pub struct Left {
+    pub result: usize,
+    pub saved: usize,
 }
 
 // Whether one of two lent buffers of these lengths is too short.
 fn short(res: usize, saved: usize) -> bool
     ensures { result ≡ one_short res saved }
 {
-    if res < limits::BUFFER {
-        return true;
-    }
-    saved < limits::SAVED
+    res < limits::BUFFER || saved < limits::SAVED
 }
 
 // The saved record of a state in which a run ended, only with end 21; its theory stands in lent bytes.
@@ -78,26 +74,27 @@ fn leave(
         count,
         saved,
     );
-    Left::Written {
+    Left {
         result: n,
         saved: m,
     }
 }
 
-// The turns of an accepted problem, whose symbols stand before `table_end`.
-fn begin(problem: &[u8], table_end: usize, equations: usize, count: usize, budget: usize) -> Ran
-    requires field_head_le_table_end { (field_head ≤ table_end) × (table_end ≤ length problem.now) × (length problem.now ≤ two_byte_values) }
-    requires count_le_most_equations { (count ≤ most_equations) × (budget ≤ most_budget) }
-    ensures { RunsProblem problem.now table_end budget equations count result }
+// The turns of an accepted problem.
+fn begin(problem: &[u8], input: Input) -> Ran
+    requires field_head_le_table_end { (field_head ≤ input.table_end) × (input.table_end ≤ length problem.now) × (length problem.now ≤ two_byte_values) }
+    requires count_le_most_equations { (input.count ≤ most_equations) × (input.budget ≤ most_budget) }
+    ensures { RunsProblem problem.now input.table_end input.budget input.equations input.count result }
 {
-    let table = &problem[FIELD_HEAD..table_end];
-    let inputs = inputs::read(problem, table, equations, count);
-    run::run(inputs, table, budget as u32)
+    let end = input.table_end;
+    let table = &problem[FIELD_HEAD..end];
+    let inputs = inputs::read(problem, table, input.equations, input.count);
+    run::run(inputs, table, input.budget as u32)
 }
 
 // Completion, as `complete` does it, and on end 21 a saved record of the run. For every input the answer and both lent buffers are the definition's.
 // What is written delivers as complete's result does, and counts as written by the engine.
-pub fn complete_saving(problem: &[u8], res: &mut [u8], saved: &mut [u8]) -> Left
+pub fn complete_saving(problem: &[u8], res: &mut [u8], saved: &mut [u8]) -> Result<Left, Refusal>
     ensures answer { left_told result ≡ lengths
         (complete_saving_call problem.now (length res.old) (length saved.old)) }
     ensures res { res.new ≡ after_result
@@ -108,28 +105,32 @@ pub fn complete_saving(problem: &[u8], res: &mut [u8], saved: &mut [u8]) -> Left
     ensures few { LeftFew result }
 {
     if short(res.len(), saved.len()) {
-        return Left::Refused {
-            number: problem::SHORT_BUFFER,
+        return Err(Refusal {
+            reason: Reason::ShortBuffer,
             place: 0,
-        };
+        });
     }
-    match problem::parse(problem) {
-        problem::Input::Refused { number, place } => Left::Refused { number, place },
-        problem::Input::Fine {
-            table_end,
-            budget,
-            equations,
-            count,
-        } => {
-            let ran = begin(problem, table_end, equations, count, budget);
-            leave(ran, problem, table_end, equations, count, res, saved)
-        }
-    }
+    let input = problem::parse(problem)?;
+    let ran = begin(problem, input);
+    Ok(leave(
+        ran,
+        problem,
+        input.table_end,
+        input.equations,
+        input.count,
+        res,
+        saved,
+    ))
 }
 
 // A saved record taken up again, as `resume` does it, and on end 21 again a saved record of the run. For every input the answer and both lent buffers
 // are the definition's. Of a record that the engine wrote: it is not refused with 16, and what is written delivers and counts as written by the engine.
-pub fn resume_saving(kept: &[u8], budget: u64, res: &mut [u8], saved: &mut [u8]) -> Left
+pub fn resume_saving(
+    kept: &[u8],
+    budget: u64,
+    res: &mut [u8],
+    saved: &mut [u8],
+) -> Result<Left, Refusal>
     ensures answer { left_told result ≡ lengths
         (resume_saving_call kept.now budget (length res.old) (length saved.old)) }
     ensures res { res.new ≡ after_result
@@ -140,21 +141,23 @@ pub fn resume_saving(kept: &[u8], budget: u64, res: &mut [u8], saved: &mut [u8])
     ensures few { LeftFew result }
 {
     if short(res.len(), saved.len()) {
-        return Left::Refused {
-            number: problem::SHORT_BUFFER,
+        return Err(Refusal {
+            reason: Reason::ShortBuffer,
             place: 0,
-        };
+        });
     }
     let mut pairs = [0u8; slots::ROOM];
     let mut log = [0u8; state::LOG];
-    match resume::read_resumption(kept, budget, &mut pairs, &mut log) {
-        Taken::Refused { number, place } => Left::Refused { number, place },
-        Taken::Fine { front, counts } => {
-            let first = resume::state_of(front.next, counts, pairs, log, budget as u32);
-            let ran = resume::go_on(kept, front, first);
-            let table_end = front.table;
-            let count = front.equations;
-            leave(ran, kept, table_end, table_end, count, res, saved)
-        }
-    }
+    let loaded = resume::read_resumption(kept, budget, &mut pairs, &mut log)?;
+    let ran = resume::go_on(kept, loaded, pairs, log, budget as u32);
+    let table_end = loaded.front.table;
+    Ok(leave(
+        ran,
+        kept,
+        table_end,
+        table_end,
+        loaded.front.equations,
+        res,
+        saved,
+    ))
 }

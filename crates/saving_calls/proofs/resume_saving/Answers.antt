@@ -4,6 +4,7 @@
 use mathlib.Core.Path.{sym, ◌∙◌}
 use native.Mathlib.Omega.{arith}
 use Rattle.resume.proofs.Standing.{taken_needs}
+use Rattle.items.proofs.Passed.{err_passed}
 use Rattle.saving_calls.proofs.Answering.{room, resumes_short, resumes_refused, resumes_written}
 use Rattle.saving_calls.proofs.resume_saving.Goals as goal
 
@@ -20,22 +21,17 @@ returns-then-short c =
 
 pub overflow_cast-budget : goal.overflow_cast-budget
 overflow_cast-budget c =
-    let q = taken_needs c.in-Fine.ensures in
+    let q = taken_needs c.in_ok-loaded.ensures in
     record { fits = omega (arith, q.budget_few) }
-
-pub state_of-first-requires : goal.state_of-first-requires
-state_of-first-requires c =
-    let q = taken_needs c.in-Fine.ensures in
-    q.next_some
 
 pub go_on-ran-requires : goal.go_on-ran-requires
 go_on-ran-requires c =
-    let q = taken_needs c.in-Fine.ensures in
-    (q.small, q.table, q.equations_few, rw c.state_of-first.ensures (q.fine _))
+    let q = taken_needs c.in_ok-loaded.ensures in
+    record { front = (q.small, q.table, q.equations_few); first = (q.next_some, q.fine _) }
 
 pub leave-requires : goal.leave-requires
 leave-requires c =
-    let q = taken_needs c.in-Fine.ensures in
+    let q = taken_needs c.in_ok-loaded.ensures in
     let lent = room _ _ (sym c.short.ensures ∙ c.if-short.false) in
     let T = q.table in
     record {
@@ -43,23 +39,21 @@ leave-requires c =
       field_head_le_table_end = (omega (arith, T.low), T.within, T.high, q.equations_few);
     }
 
-pub returns-in-Refused : goal.returns-in-Refused
-returns-in-Refused c =
-    let a = resumes_refused _ _ _ _ (sym c.short.ensures ∙ c.if-short.false) _ _
-    c.in-Refused.ensures in
+pub returns-in_err-loaded : goal.returns-in_err-loaded
+returns-in_err-loaded c =
+    let a = resumes_refused _ _ _ _ (sym c.short.ensures ∙ c.if-short.false) _ c.in_err-loaded.ensures in
+    let up = err_passed _ c.from_residual.ensures.1 in
     record {
-      answer = a.answer;
+      answer = rw up a.answer;
       res = a.result;
       saved = a.saved;
-      delivery = a.delivery;
-      few = a.few;
+      delivery = rw up a.delivery;
+      few = rw up a.few;
     }
 
-pub returns-in-Fine : goal.returns-in-Fine
-returns-in-Fine c =
-    let q = c.in-Fine.ensures in
-    let R = rw c.state_of-first.ensures at c.go_on-ran.ensures in
-    let a = resumes_written _ _ _ _ (sym c.short.ensures ∙ c.if-short.false) q R c.leave.ensures in
+pub returns : goal.returns
+returns c =
+    let a = resumes_written _ _ _ _ (sym c.short.ensures ∙ c.if-short.false) c.in_ok-loaded.ensures c.go_on-ran.ensures c.leave.ensures in
     record {
       answer = a.answer;
       res = a.result;
