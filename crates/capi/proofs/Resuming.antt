@@ -16,11 +16,11 @@ use Rattle.checkpoint.specs.Resume.{Left as LeftBytes, resume_call, complete_sav
 use Rattle.checkpoint.specs.Wrote.{Delivered}
 use Rattle.checkpoint.proofs.Refusals.{SavingWithin, resume_within, complete_saving_within, resume_saving_within}
 use Rattle.resume.specs.Resumes.{resumed_told, ResumedFew, Redelivers}
-use Rattle.resume.specs.declared.Resumed.{Resumed}
-use Rattle.resume.specs.declared.Resumed.TheVariants.{Written, Refused}
+use Rattle.std.proofs.Common.{Result, Ok, Err}
+use Rattle.problem.specs.declared.Refusal.{Refusal}
+use Rattle.problem.specs.Reasons.{number_of_reason}
 use Rattle.saving_calls.specs.Leaving.{Lengths, left_told, lengths, LeftFew, SavingDelivers, SavingRedelivers}
 use Rattle.saving_calls.specs.declared.Left.{Left}
-use Rattle.saving_calls.specs.declared.Left.TheVariants.{Written as WrittenBoth, Refused as RefusedBoth}
 use Rattle.capi.specs.Codes.{code, answer_code, left_code, CodeSaves, CodeLeaves, CodeResumes, CodeResumesSaving}
 use Rattle.capi.proofs.Unpacked.{Unpacks, code_unpacks, refused_unpacks, UnpacksAnswer}
 
@@ -44,26 +44,26 @@ refused_lengths (ok l) h n at e = absurd (no_ok e)
 refused_lengths (refused m place) h n at e = saving_refused m place n at e h
 
 -- resume
-resume_unpacks : (kept : List ℕ) (budget buffer : ℕ) (a : Resumed) → resumed_told a ≡ counted (resume_call kept budget buffer) → ResumedFew a →
+resume_unpacks : (kept : List ℕ) (budget buffer : ℕ) (a : Result ℕ Refusal) → resumed_told a ≡ counted (resume_call kept budget buffer) → ResumedFew a →
     UnpacksAnswer (answer_code (resumed_told a)) (resumed_told a)
 unfolding resumed_told answer_code ResumedFew
-resume_unpacks kept budget buffer (Written n) t h = code_unpacks 1 0 n (omega arith) (omega arith)
-resume_unpacks kept budget buffer (Refused n at) t h =
-    refused_counted (resume_call kept budget buffer) (resume_within kept budget buffer) n at t
+resume_unpacks kept budget buffer (Ok n) t h = code_unpacks 1 0 n (omega arith) (omega arith)
+resume_unpacks kept budget buffer (Err e) t h =
+    refused_counted (resume_call kept budget buffer) (resume_within kept budget buffer) (number_of_reason e.reason) e.place t
 
-code_of_resumed : (kept : List ℕ) (budget : ℕ) (after : List ℕ) (r : ℕ) (a : Resumed) → UnpacksAnswer r (resumed_told a) →
+code_of_resumed : (kept : List ℕ) (budget : ℕ) (after : List ℕ) (r : ℕ) (a : Result ℕ Refusal) → UnpacksAnswer r (resumed_told a) →
     Redelivers kept budget after a → CodeResumes kept budget after r
 unfolding resumed_told Redelivers CodeResumes CodeLeaves
-code_of_resumed kept budget after r (Written n) u d = λ T f w. (
+code_of_resumed kept budget after r (Ok n) u d = λ T f w. (
   λ k. subst (λ (m : ℕ). Delivered T (run_from T f.state budget) (record { result = take m after; saved = [] })) (sym u.value_is) (d T f w),
   λ k. absurd (omega (arith, u.kind_is)),
 )
-code_of_resumed kept budget after r (Refused n at) u d = λ T f w. (
+code_of_resumed kept budget after r (Err e) u d = λ T f w. (
   λ k. absurd (omega (arith, u.kind_is)),
   λ k q. d T f w (sym u.number_is ∙ q),
 )
 
-pub code_resumes : (kept : List ℕ) (budget buffer : ℕ) (after : List ℕ) (a : Resumed) (r : ℕ) →
+pub code_resumes : (kept : List ℕ) (budget buffer : ℕ) (after : List ℕ) (a : Result ℕ Refusal) (r : ℕ) →
     resumed_told a ≡ counted (resume_call kept budget buffer) → ResumedFew a → Redelivers kept budget after a →
     r ≡ answer_code (counted (resume_call kept budget buffer)) → CodeResumes kept budget after r
 code_resumes kept budget buffer after a r t h d q =
@@ -74,42 +74,42 @@ abbrev UnpacksLeft : ℕ → Reading Lengths → Type 0
 UnpacksLeft r (ok l) = Unpacks r 1 l.saved l.result
 UnpacksLeft r (refused number place) = Unpacks r 0 number place
 
-left_unpacks : (c : Reading LeftBytes) → SavingWithin (λ _. Unit {0}) c → (a : Left) → left_told a ≡ lengths c → LeftFew a →
+left_unpacks : (c : Reading LeftBytes) → SavingWithin (λ _. Unit {0}) c → (a : Result Left Refusal) → left_told a ≡ lengths c → LeftFew a →
     UnpacksLeft (left_code (left_told a)) (left_told a)
 unfolding left_told left_code LeftFew
-left_unpacks c w (WrittenBoth n m) t h =
-    let q : m % two_byte_values ≡ m = omega (arith, h.1) in
-    rw q (code_unpacks 1 m n (omega (arith, h.1)) (omega (arith, h.0)))
-left_unpacks c w (RefusedBoth n at) t h = refused_lengths c w n at t
+left_unpacks c w (Ok l) t h =
+    let q : l.saved % two_byte_values ≡ l.saved = omega (arith, h.1) in
+    rw q (code_unpacks 1 l.saved l.result (omega (arith, h.1)) (omega (arith, h.0)))
+left_unpacks c w (Err e) t h = refused_lengths c w (number_of_reason e.reason) e.place t
 
-code_of_saved : (problem after after' : List ℕ) (r : ℕ) (a : Left) → UnpacksLeft r (left_told a) → SavingDelivers problem after after' a →
+code_of_saved : (problem after after' : List ℕ) (r : ℕ) (a : Result Left Refusal) → UnpacksLeft r (left_told a) → SavingDelivers problem after after' a →
     CodeSaves problem after after' r
 unfolding left_told SavingDelivers CodeSaves
-code_of_saved problem after after' r (WrittenBoth n m) u d = λ k P e.
+code_of_saved problem after after' r (Ok l) u d = λ k P q.
     subst₂ (λ (x y : ℕ). Delivered (theory P) (run P) (record { result = take x after; saved = take y after' }))
-    (sym u.value_is) (sym u.number_is) (d P e)
-code_of_saved problem after after' r (RefusedBoth n at) u d = λ k. absurd (omega (arith, u.kind_is))
+    (sym u.value_is) (sym u.number_is) (d P q)
+code_of_saved problem after after' r (Err e) u d = λ k. absurd (omega (arith, u.kind_is))
 
-code_of_both : (kept : List ℕ) (budget : ℕ) (after after' : List ℕ) (r : ℕ) (a : Left) → UnpacksLeft r (left_told a) →
+code_of_both : (kept : List ℕ) (budget : ℕ) (after after' : List ℕ) (r : ℕ) (a : Result Left Refusal) → UnpacksLeft r (left_told a) →
     SavingRedelivers kept budget after after' a → CodeResumesSaving kept budget after after' r
 unfolding left_told SavingRedelivers CodeResumesSaving CodeLeaves
-code_of_both kept budget after after' r (WrittenBoth n m) u d = λ T f w. (
+code_of_both kept budget after after' r (Ok l) u d = λ T f w. (
   λ k. subst₂ (λ (x y : ℕ). Delivered T (run_from T f.state budget) (record { result = take x after; saved = take y after' }))
       (sym u.value_is) (sym u.number_is) (d T f w),
   λ k. absurd (omega (arith, u.kind_is)),
 )
-code_of_both kept budget after after' r (RefusedBoth n at) u d = λ T f w. (
+code_of_both kept budget after after' r (Err e) u d = λ T f w. (
   λ k. absurd (omega (arith, u.kind_is)),
   λ k q. d T f w (sym u.number_is ∙ q),
 )
 
-pub code_saves : (problem : List ℕ) (buffer lent : ℕ) (after after' : List ℕ) (a : Left) (r : ℕ) →
+pub code_saves : (problem : List ℕ) (buffer lent : ℕ) (after after' : List ℕ) (a : Result Left Refusal) (r : ℕ) →
     left_told a ≡ lengths (complete_saving_call problem buffer lent) → LeftFew a → SavingDelivers problem after after' a →
     r ≡ left_code (lengths (complete_saving_call problem buffer lent)) → CodeSaves problem after after' r
 code_saves problem buffer lent after after' a r t h d q =
     code_of_saved problem after after' r a (rw (q, ← t) (left_unpacks _ (complete_saving_within problem buffer lent) a t h)) d
 
-pub code_resumes_saving : (kept : List ℕ) (budget buffer lent : ℕ) (after after' : List ℕ) (a : Left) (r : ℕ) →
+pub code_resumes_saving : (kept : List ℕ) (budget buffer lent : ℕ) (after after' : List ℕ) (a : Result Left Refusal) (r : ℕ) →
     left_told a ≡ lengths (resume_saving_call kept budget buffer lent) → LeftFew a → SavingRedelivers kept budget after after' a →
     r ≡ left_code (lengths (resume_saving_call kept budget buffer lent)) → CodeResumesSaving kept budget after after' r
 code_resumes_saving kept budget buffer lent after after' a r t h d q =

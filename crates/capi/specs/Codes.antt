@@ -1,6 +1,6 @@
 -- The calls' answers as one number for C: a kind times 2 ^ 48, document 01's number times 2 ^ 32, and below it a value of 32 bits; an answer taken
 -- apart; and demand 3 of the bytes that C takes and leaves; section 15 of docs/DEFINITION.md. Assumes nothing.
-use Rattle.std.specs.Prelude.{◌≡◌, List, [], ◌↔◌, ℕ, ◌+◌, ◌*◌, ◌/◌, ◌%◌, take}
+use Rattle.std.specs.Prelude.{◌≡◌, List, [], ◌↔◌, ℕ, ◌+◌, ◌*◌, ◌/◌, ◌%◌, take, Option, Some, None}
 use Rattle.limits.specs.Limits.{two_byte_values}
 use Rattle.reading.specs.Stops.{wrong_saved}
 use Rattle.problem.specs.Problem.{Reading, ok, refused, Theory, Problem, theory, parse}
@@ -13,7 +13,7 @@ use Rattle.saving_calls.specs.Leaving.{Lengths}
 use Rattle.decide.specs.Decide.{Answer, are_same, are_different, numbered, Counted}
 use Rattle.decide.specs.Answers.{WroteFor, Leads}
 use Rattle.lower.specs.declared.Which.{Which}
-use Rattle.lower.specs.declared.Which.TheVariants.{First, Second, Neither}
+use Rattle.lower.specs.declared.Which.TheVariants.{First, Second}
 use Rattle.calls.specs.Answers.{Returned, bytes_written, none_common, number_only, number_and_place}
 
 -- A value has 32 bits, and a number the 16 above it: a value is below 2 ^ 32, which is what a number counts, and a kind counts 2 ^ 48. [15.1]
@@ -66,10 +66,10 @@ left_code (ok l) = code 1 (l.saved % two_byte_values) l.result
 left_code (refused n at) = code 0 n at
 
 -- lower: 1 for the first, 2 for the second, 0 for a refusal [15.8]
-unfoldable pub lower_code : Which → ℕ
-lower_code First = 1
-lower_code Second = 2
-lower_code Neither = 0
+unfoldable pub lower_code : Option Which → ℕ
+lower_code (Some First) = 1
+lower_code (Some Second) = 2
+lower_code None = 0
 
 -- subterm: the part's first byte times 2 ^ 32, and how many bytes it has; 0 for a refusal [15.4]
 unfoldable pub part_code : Part → ℕ

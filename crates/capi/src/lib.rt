@@ -4,6 +4,7 @@
 ghost use Rattle.std.specs.Prelude.{◌≡◌, ◌≤◌, eqb, length};
 ghost use Rattle.completion.specs.Calls.{complete_call, compare_call, unify_call, subterm_part, after_complete, after_unify};
 ghost use Rattle.completion.specs.Calls.{counted};
+ghost use Rattle.problem.specs.Reasons.{number_of_reason};
 ghost use Rattle.calls.specs.Answers.{unify_returns, subterm_refused};
 ghost use Rattle.checkpoint.specs.Resume.{resume_call, complete_saving_call, resume_saving_call, after_result, after_saved};
 ghost use Rattle.saving_calls.specs.Leaving.{left_told, lengths};
@@ -13,6 +14,12 @@ ghost use Rattle.lower.specs.Lower.{which, lower_refused};
 ghost use Rattle.capi.specs.Codes.{code, value_in, number_in, answer_code, unify_code, decide_code, outermost_code, left_code, lower_code, part_code};
 ghost use Rattle.capi.specs.Codes.{CodeDelivers, CodeDecides, CodesAgree, CodeSaves, CodeResumes, CodeResumesSaving};
 
+use decide::Decided;
+use instances::Found;
+use lower::Which;
+use order::Compared;
+use problem::Refusal;
+use rewriting::End;
 use saving_calls::Left;
 
 // The values of 32 bits, 2^32, which is what a number counts; and what a kind counts, 2^48.
@@ -20,11 +27,19 @@ const VALUES: u64 = 4294967296;
 
 const KIND: u64 = 281474976710656;
 
+// Kept: an answer as one number, its kind and the papers' numbers in it, since C calls these.
 fn code(kind: u64, number: u8, value: usize) -> u64
     requires { kind ≤ 3 }
     ensures { result ≡ code kind number value }
 {
-    kind * KIND + terms::wide(number) as u64 * VALUES + value as u64 % VALUES
+    kind * KIND + u64::from(number) * VALUES + value as u64 % VALUES
+}
+
+// A refusal has kind 0.
+fn refused(refusal: Refusal) -> u64
+    ensures { result ≡ code 0 (number_of_reason refusal.reason) refusal.place }
+{
+    code(0, u8::from(refusal.reason), refusal.place)
 }
 
 #[unsafe(no_mangle)]
@@ -32,11 +47,11 @@ pub extern "C" fn vb_compare(problem: &[u8]) -> u64
     ensures { result ≡ answer_code (compare_call problem.now) }
 {
     match calls::compare(problem) {
-        calls::Compared::LeftAbove => code(1, 0, 1),
-        calls::Compared::RightAbove => code(1, 0, 2),
-        calls::Compared::Identical => code(1, 0, 3),
-        calls::Compared::Neither => code(1, 0, 4),
-        calls::Compared::Refused { number, place } => code(0, number, place),
+        Ok(Compared::LeftAbove) => code(1, 0, 1),
+        Ok(Compared::RightAbove) => code(1, 0, 2),
+        Ok(Compared::Identical) => code(1, 0, 3),
+        Ok(Compared::Neither) => code(1, 0, 4),
+        Err(refusal) => refused(refusal),
     }
 }
 
@@ -46,10 +61,10 @@ pub extern "C" fn vb_unify(problem: &[u8], res: &mut [u8]) -> u64
     ensures res_after { res.new ≡ after_unify (unify_call problem.now (length res.old)) res.old }
 {
     match calls::unify(problem, res) {
-        calls::Unified::Instance(n) => code(1, 0, n),
-        calls::Unified::Nothing => code(2, 0, 0),
-        calls::Unified::TooLarge => code(3, rewriting::number(rewriting::End::TooLarge), 0),
-        calls::Unified::Refused { number, place } => code(0, number, place),
+        Ok(Found::Instance(n)) => code(1, 0, n),
+        Ok(Found::Nothing) => code(2, 0, 0),
+        Ok(Found::TooLarge) => code(3, u8::from(End::TooLarge), 0),
+        Err(refusal) => refused(refusal),
     }
 }
 
@@ -58,9 +73,11 @@ pub extern "C" fn vb_subterm(problem: &[u8], position: usize) -> u64
     ensures value { result ≡ part_code (subterm_part problem.now position) }
     ensures refused { eqb result 0 ≡ subterm_refused problem.now position }
 {
-    let b = calls::subterm_bounds(problem, position);
-    let start = b.start;
-    let bytes = b.end - start;
+    let Some(bounds) = calls::subterm_bounds(problem, position) else {
+        return 0;
+    };
+    let start = bounds.start;
+    let bytes = bounds.end - start;
     start as u64 % VALUES * VALUES + bytes as u64 % VALUES
 }
 
@@ -73,11 +90,11 @@ pub extern "C" fn vb_decide(problem: &[u8], kept: &[u8]) -> u64
         (outermost_code (outermost_call problem.now kept.now)) }
 {
     match decide::decide(problem, kept) {
-        decide::Decided::Same(_) => code(1, 0, 1),
-        decide::Decided::Different(_) => code(1, 0, 2),
-        decide::Decided::Spent(_) => code(3, rewriting::number(rewriting::End::Spent), 0),
-        decide::Decided::TooLarge(_) => code(3, rewriting::number(rewriting::End::TooLarge), 0),
-        decide::Decided::Refused { number, place } => code(0, number, place),
+        Ok(Decided::Same(_)) => code(1, 0, 1),
+        Ok(Decided::Different(_)) => code(1, 0, 2),
+        Ok(Decided::Spent(_)) => code(3, u8::from(End::Spent), 0),
+        Ok(Decided::TooLarge(_)) => code(3, u8::from(End::TooLarge), 0),
+        Err(refusal) => refused(refusal),
     }
 }
 
@@ -90,19 +107,11 @@ pub extern "C" fn vb_outermost(problem: &[u8], kept: &[u8]) -> u64
         (decide_code (without_units (decide_call problem.now kept.now))) result }
 {
     match decide::outermost(problem, kept) {
-        decide::Decided::Same(units) => code(1, 1, units as usize),
-        decide::Decided::Different(units) => code(1, 2, units as usize),
-        decide::Decided::Spent(units) => code(
-            3,
-            rewriting::number(rewriting::End::Spent),
-            units as usize,
-        ),
-        decide::Decided::TooLarge(units) => code(
-            3,
-            rewriting::number(rewriting::End::TooLarge),
-            units as usize,
-        ),
-        decide::Decided::Refused { number, place } => code(0, number, place),
+        Ok(Decided::Same(units)) => code(1, 1, units as usize),
+        Ok(Decided::Different(units)) => code(1, 2, units as usize),
+        Ok(Decided::Spent(units)) => code(3, u8::from(End::Spent), units as usize),
+        Ok(Decided::TooLarge(units)) => code(3, u8::from(End::TooLarge), units as usize),
+        Err(refusal) => refused(refusal),
     }
 }
 
@@ -113,9 +122,9 @@ pub extern "C" fn vb_lower(symbols: &[u8], first: &[u8], second: &[u8]) -> u64
     ensures refused { eqb result 0 ≡ lower_refused symbols.now first.now second.now }
 {
     match lower::choose(symbols, first, second) {
-        lower::Which::Neither => 0,
-        lower::Which::First => 1,
-        lower::Which::Second => 2,
+        None => 0,
+        Some(Which::First) => 1,
+        Some(Which::Second) => 2,
     }
 }
 
@@ -127,20 +136,20 @@ pub extern "C" fn vb_complete(problem: &[u8], res: &mut [u8]) -> u64
     ensures delivery { CodeDelivers problem.now res.new result }
 {
     match complete::complete(problem, res) {
-        complete::Completed::Written(n) => code(1, 0, n),
-        complete::Completed::Refused { number, place } => code(0, number, place),
+        Ok(n) => code(1, 0, n),
+        Err(refusal) => refused(refusal),
     }
 }
 
 // The saved record's length is the number.
-fn left_code(left: Left) -> u64
+fn left_code(left: Result<Left, Refusal>) -> u64
     ensures { result ≡ left_code (left_told left) }
 {
     match left {
-        Left::Written { result, saved } => {
+        Ok(Left { result, saved }) => {
             KIND + saved as u64 % limits::LENGTHS as u64 * VALUES + result as u64 % VALUES
         }
-        Left::Refused { number, place } => code(0, number, place),
+        Err(refusal) => refused(refusal),
     }
 }
 
@@ -165,8 +174,8 @@ pub extern "C" fn vb_resume(kept: &[u8], budget: u64, res: &mut [u8]) -> u64
     ensures delivery { CodeResumes kept.now budget res.new result }
 {
     match resume::resume(kept, budget, res) {
-        resume::Resumed::Written(n) => code(1, 0, n),
-        resume::Resumed::Refused { number, place } => code(0, number, place),
+        Ok(count) => code(1, 0, count),
+        Err(refusal) => refused(refusal),
     }
 }
 

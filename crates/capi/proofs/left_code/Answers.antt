@@ -5,10 +5,10 @@ use Rattle.saving_calls.specs.Leaving.{left_told}
 use Rattle.capi.specs.Codes.{code, left_code}
 use Rattle.capi.proofs.left_code.Goals as goal
 
-pub returns-in-Written : goal.returns-in-Written
+pub returns-in-Ok : goal.returns-in-Ok
 unfolding left_told left_code code
-returns-in-Written c = rw c.in-Written.is (omega arith)
+returns-in-Ok c = rw c.in-Ok.is (omega arith)
 
-pub returns-in-Refused : goal.returns-in-Refused
+pub returns-in-Err : goal.returns-in-Err
 unfolding left_told left_code
-returns-in-Refused c = rw c.in-Refused.is c.code.ensures
+returns-in-Err c = rw c.in-Err.is c.refused.ensures

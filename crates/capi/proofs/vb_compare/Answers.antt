@@ -5,22 +5,22 @@ use Rattle.calls.specs.Answers.{compared_told}
 use Rattle.capi.specs.Codes.{answer_code}
 use Rattle.capi.proofs.vb_compare.Goals as goal
 
-pub returns-in-LeftAbove : goal.returns-in-LeftAbove
+pub returns-in-Ok-LeftAbove : goal.returns-in-Ok-LeftAbove
 unfolding compared_told answer_code
-returns-in-LeftAbove c = c.code.ensures ∙ ap answer_code c.in-LeftAbove.ensures
+returns-in-Ok-LeftAbove c = c.code.ensures ∙ ap answer_code (rw c.in-Ok-LeftAbove.field-0-is at c.in-Ok-LeftAbove.ensures)
 
-pub returns-in-RightAbove : goal.returns-in-RightAbove
+pub returns-in-Ok-RightAbove : goal.returns-in-Ok-RightAbove
 unfolding compared_told answer_code
-returns-in-RightAbove c = c.code-in-RightAbove.ensures ∙ ap answer_code c.in-RightAbove.ensures
+returns-in-Ok-RightAbove c = c.code-in-Ok-RightAbove.ensures ∙ ap answer_code (rw c.in-Ok-RightAbove.field-0-is at c.in-Ok-RightAbove.ensures)
 
-pub returns-in-Identical : goal.returns-in-Identical
+pub returns-in-Ok-Identical : goal.returns-in-Ok-Identical
 unfolding compared_told answer_code
-returns-in-Identical c = c.code-in-Identical.ensures ∙ ap answer_code c.in-Identical.ensures
+returns-in-Ok-Identical c = c.code-in-Ok-Identical.ensures ∙ ap answer_code (rw c.in-Ok-Identical.field-0-is at c.in-Ok-Identical.ensures)
 
-pub returns-in-Neither : goal.returns-in-Neither
+pub returns-in-Ok-Neither : goal.returns-in-Ok-Neither
 unfolding compared_told answer_code
-returns-in-Neither c = c.code-in-Neither.ensures ∙ ap answer_code c.in-Neither.ensures
+returns-in-Ok-Neither c = c.code-in-Ok-Neither.ensures ∙ ap answer_code (rw c.in-Ok-Neither.field-0-is at c.in-Ok-Neither.ensures)
 
-pub returns-in-Refused : goal.returns-in-Refused
+pub returns-in-Err : goal.returns-in-Err
 unfolding compared_told answer_code
-returns-in-Refused c = c.code-in-Refused.ensures ∙ ap answer_code c.in-Refused.ensures
+returns-in-Err c = c.refused.ensures ∙ ap answer_code c.in-Err.ensures

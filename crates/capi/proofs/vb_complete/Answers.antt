@@ -7,24 +7,16 @@ use Rattle.capi.specs.Codes.{answer_code}
 use Rattle.capi.proofs.Delivering.{code_delivers}
 use Rattle.capi.proofs.vb_complete.Goals as goal
 
-pub returns-in-Written : goal.returns-in-Written
+pub returns-in-Ok : goal.returns-in-Ok
 unfolding completed_told answer_code
-returns-in-Written c =
+returns-in-Ok c =
     let q = c.complete.ensures in
-    let a = c.code.ensures ∙ ap answer_code (rw c.in-Written.is at q.answer) in
-    record {
-      value = a;
-      res_after = q.bytes;
-      delivery = code_delivers _ _ _ _ _ q.answer q.delivery a;
-    }
+    let a = c.code.ensures ∙ ap answer_code (rw c.in-Ok.is at q.answer) in
+    record { value = a; res_after = q.bytes; delivery = code_delivers _ _ _ _ _ q.answer q.delivery a }
 
-pub returns-in-Refused : goal.returns-in-Refused
+pub returns-in-Err : goal.returns-in-Err
 unfolding completed_told answer_code
-returns-in-Refused c =
+returns-in-Err c =
     let q = c.complete.ensures in
-    let a = c.code-in-Refused.ensures ∙ ap answer_code (rw c.in-Refused.is at q.answer) in
-    record {
-      value = a;
-      res_after = q.bytes;
-      delivery = code_delivers _ _ _ _ _ q.answer q.delivery a;
-    }
+    let a = c.refused.ensures ∙ ap answer_code (rw c.in-Err.is at q.answer) in
+    record { value = a; res_after = q.bytes; delivery = code_delivers _ _ _ _ _ q.answer q.delivery a }

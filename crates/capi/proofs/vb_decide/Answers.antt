@@ -9,57 +9,37 @@ use Rattle.capi.specs.Codes.{code, decide_code}
 use Rattle.capi.proofs.Deciding.{decide_promises}
 use Rattle.capi.proofs.vb_decide.Goals as goal
 
-pub returns-in-Same : goal.returns-in-Same
+pub returns-in-Ok-Same : goal.returns-in-Ok-Same
 unfolding decided_told without_units decide_code
-returns-in-Same c =
-    let q = c.in-Same.ensures in
+returns-in-Ok-Same c =
+    let q = rw c.in-Ok-Same.field-0-is at c.in-Ok-Same.ensures in
     let told = decide_promises _ _ _ q.equations q.agrees _ q.answer c.code.ensures in
-    record {
-      value = told.0;
-      equations = told.1.0;
-      agrees = told.1.1;
-    }
+    record { value = told.0; equations = told.1.0; agrees = told.1.1 }
 
-pub returns-in-Different : goal.returns-in-Different
+pub returns-in-Ok-Different : goal.returns-in-Ok-Different
 unfolding decided_told without_units decide_code
-returns-in-Different c =
-    let q = c.in-Different.ensures in
-    let told = decide_promises _ _ _ q.equations q.agrees _ q.answer c.code-in-Different.ensures in
-    record {
-      value = told.0;
-      equations = told.1.0;
-      agrees = told.1.1;
-    }
+returns-in-Ok-Different c =
+    let q = rw c.in-Ok-Different.field-0-is at c.in-Ok-Different.ensures in
+    let told = decide_promises _ _ _ q.equations q.agrees _ q.answer c.code-in-Ok-Different.ensures in
+    record { value = told.0; equations = told.1.0; agrees = told.1.1 }
 
-pub returns-in-Spent : goal.returns-in-Spent
+pub returns-in-Ok-Spent : goal.returns-in-Ok-Spent
 unfolding decided_told without_units decide_code number_of
-returns-in-Spent c =
-    let q = c.in-Spent.ensures in
-    let told = decide_promises _ _ _ q.equations q.agrees _ q.answer (c.code-in-Spent.ensures ∙ ap (λ (n : ℕ). code 3 n 0) c.number.ensures) in
-    record {
-      value = told.0;
-      equations = told.1.0;
-      agrees = told.1.1;
-    }
+returns-in-Ok-Spent c =
+    let q = rw c.in-Ok-Spent.field-0-is at c.in-Ok-Spent.ensures in
+    let told = decide_promises _ _ _ q.equations q.agrees _ q.answer (c.code-in-Ok-Spent.ensures ∙ ap (λ (n : ℕ). code 3 n 0) c.from.ensures) in
+    record { value = told.0; equations = told.1.0; agrees = told.1.1 }
 
-pub returns-in-TooLarge : goal.returns-in-TooLarge
+pub returns-in-Ok-TooLarge : goal.returns-in-Ok-TooLarge
 unfolding decided_told without_units decide_code number_of
-returns-in-TooLarge c =
-    let q = c.in-TooLarge.ensures in
-    let told = decide_promises _ _ _ q.equations q.agrees _ q.answer (c.code-in-TooLarge.ensures ∙ ap (λ (n : ℕ). code 3 n 0) c.number-in-TooLarge.ensures) in
-    record {
-      value = told.0;
-      equations = told.1.0;
-      agrees = told.1.1;
-    }
+returns-in-Ok-TooLarge c =
+    let q = rw c.in-Ok-TooLarge.field-0-is at c.in-Ok-TooLarge.ensures in
+    let told = decide_promises _ _ _ q.equations q.agrees _ q.answer (c.code-in-Ok-TooLarge.ensures ∙ ap (λ (n : ℕ). code 3 n 0) c.from-in-Ok-TooLarge.ensures) in
+    record { value = told.0; equations = told.1.0; agrees = told.1.1 }
 
-pub returns-in-Refused : goal.returns-in-Refused
+pub returns-in-Err : goal.returns-in-Err
 unfolding decided_told without_units decide_code
-returns-in-Refused c =
-    let q = c.in-Refused.ensures in
-    let told = decide_promises _ _ _ q.equations q.agrees _ q.answer c.code-in-Refused.ensures in
-    record {
-      value = told.0;
-      equations = told.1.0;
-      agrees = told.1.1;
-    }
+returns-in-Err c =
+    let q = c.in-Err.ensures in
+    let told = decide_promises _ _ _ q.equations q.agrees _ q.answer c.refused.ensures in
+    record { value = told.0; equations = told.1.0; agrees = told.1.1 }

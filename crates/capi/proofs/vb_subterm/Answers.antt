@@ -8,12 +8,15 @@ use Rattle.capi.specs.Codes.{value_end, part_code}
 use Rattle.capi.proofs.Unpacked.{subterm_zero}
 use Rattle.capi.proofs.vb_subterm.Goals as goal
 
+pub returns-in_default : goal.returns-in_default
+returns-in_default c = ?
+
 pub returns : goal.returns
 unfolding part_code
 returns c =
     let problem = c.args.problem.now in
     let position = c.args.position in
-    let P = c.subterm_bounds-b.ensures in
+    let P = c.in-Some.ensures in
     let a = ap₂ (λ (a b : ℕ). a % value_end * value_end + b % value_end) P.start P.bytes in
     record {
       value = a;

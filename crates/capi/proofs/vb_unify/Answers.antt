@@ -8,34 +8,26 @@ use Rattle.calls.specs.Answers.{unified_told}
 use Rattle.capi.specs.Codes.{code, unify_code}
 use Rattle.capi.proofs.vb_unify.Goals as goal
 
-pub returns-in-Instance : goal.returns-in-Instance
+pub returns-in-Ok-Instance : goal.returns-in-Ok-Instance
 unfolding unified_told unify_code
-returns-in-Instance c =
-    record {
-      value = c.code.ensures ∙ ap unify_code c.in-Instance.ensures.told;
-      res_after = c.in-Instance.ensures.leaves;
-    }
+returns-in-Ok-Instance c =
+    let q = rw c.in-Ok-Instance.field-0-is at c.in-Ok-Instance.ensures in
+    record { value = c.code.ensures ∙ ap unify_code q.told; res_after = q.leaves }
 
-pub returns-in-Nothing : goal.returns-in-Nothing
+pub returns-in-Ok-Nothing : goal.returns-in-Ok-Nothing
 unfolding unified_told unify_code
-returns-in-Nothing c =
-    record {
-      value = c.code-in-Nothing.ensures ∙ ap unify_code c.in-Nothing.ensures.told;
-      res_after = c.in-Nothing.ensures.leaves;
-    }
+returns-in-Ok-Nothing c =
+    let q = rw c.in-Ok-Nothing.field-0-is at c.in-Ok-Nothing.ensures in
+    record { value = c.code-in-Ok-Nothing.ensures ∙ ap unify_code q.told; res_after = q.leaves }
 
-pub returns-in-TooLarge : goal.returns-in-TooLarge
+pub returns-in-Ok-TooLarge : goal.returns-in-Ok-TooLarge
 unfolding unified_told unify_code end_number number_of
-returns-in-TooLarge c =
-    record {
-      value = c.code-in-TooLarge.ensures ∙ ap (λ (n : ℕ). code 3 n 0) c.number.ensures ∙ ap unify_code c.in-TooLarge.ensures.told;
-      res_after = c.in-TooLarge.ensures.leaves;
-    }
+returns-in-Ok-TooLarge c =
+    let q = rw c.in-Ok-TooLarge.field-0-is at c.in-Ok-TooLarge.ensures in
+    record { value = c.code-in-Ok-TooLarge.ensures ∙ ap (λ (n : ℕ). code 3 n 0) c.from.ensures ∙ ap unify_code q.told; res_after = q.leaves }
 
-pub returns-in-Refused : goal.returns-in-Refused
+pub returns-in-Err : goal.returns-in-Err
 unfolding unified_told unify_code
-returns-in-Refused c =
-    record {
-      value = c.code-in-Refused.ensures ∙ ap unify_code c.in-Refused.ensures.told;
-      res_after = c.in-Refused.ensures.leaves;
-    }
+returns-in-Err c =
+    let q = c.in-Err.ensures in
+    record { value = c.refused.ensures ∙ ap unify_code q.told; res_after = q.leaves }
