@@ -8,8 +8,7 @@ use Rattle.limits.specs.Limits.{most_entries}
 use Rattle.problem.specs.Problem.{Theory}
 use Rattle.rewriting.specs.Rewrite.{Paid, done, stop}
 use Rattle.rewriting.specs.declared.End.{End as Ending}
-use Rattle.rewriting.specs.declared.Verdict.{Verdict}
-use Rattle.rewriting.specs.declared.Verdict.TheVariants.{GoesOn, Ends}
+use Rattle.std.specs.Prelude.{Option, Some, None}
 use Rattle.rewriting.proofs.Verdicts.{goes≢ends, same_end}
 use Rattle.completion.specs.Turn.{waiting_input, Candidate, State as RunState, Finished, turn, initial, run_from}
 use Rattle.completion.proofs.Limits.{length_candidates}
@@ -62,7 +61,7 @@ pub looping_begins : {tab : List ℕ} {inputs : Pairs} {first : State} {t : Turn
 looping_begins A = record { fine = A.safe.fine; within = omega arith; way = λ T I budget f W. W }
 
 -- a turn more
-next_turn : (tab inputs : List ℕ) (count : ℕ) (T : Theory) (budget : ℕ) (f : Finished) (t u : Turned) → Given tab inputs count T → t.verdict ≡ GoesOn →
+next_turn : (tab inputs : List ℕ) (count : ℕ) (T : Theory) (budget : ℕ) (f : Finished) (t u : Turned) → Given tab inputs count T → t.end ≡ None →
     Turns tab inputs count t.state u → OnTheWay tab T budget f t → OnTheWay tab T budget f u
 next_turn tab inputs count T budget f t u G v A W = go (turn T W.state W.units) refl W.turned
   where
@@ -73,7 +72,7 @@ next_turn tab inputs count T budget f t u G v A W = go (turn T W.state W.units) 
         run_goes_on T budget f W.state W.units W.running s left e (turn_less T W.state s W.units left e) in
         record { state = s; units = t.state.units; running = subst (Running T budget f s) (sym a.1) r; turned = A.answer T G s a.2 }
 
-pub loops_on : {tab : List ℕ} {inputs : Pairs} {t₀ t u : Turned} → Looping tab inputs t₀ t → t.verdict ≡ GoesOn →
+pub loops_on : {tab : List ℕ} {inputs : Pairs} {t₀ t u : Turned} → Looping tab inputs t₀ t → t.end ≡ None →
     Turns tab inputs.bytes inputs.count t.state u → Looping tab inputs t₀ u
 loops_on {tab} {inputs} {t₀} {t} {u} L v A =
     let a = L.within in
@@ -85,27 +84,27 @@ loops_on {tab} {inputs} {t₀} {t} {u} L v A =
     }
 
 -- A turn that goes on makes an entry, of at most 512; one that ends is the last.
-unfoldable pub ongoing : Verdict → ℕ
-ongoing GoesOn = 1
-ongoing (Ends e) = 0
+unfoldable pub ongoing : Option Ending → ℕ
+ongoing None = 1
+ongoing (Some e) = 0
 
 abbrev pub left_over : Turned → ℕ
-left_over t = ongoing t.verdict + 2 * (most_entries - t.state.log.count)
+left_over t = ongoing t.end + 2 * (most_entries - t.state.log.count)
 
-pub loop_falls : (t u : Turned) → t.verdict ≡ GoesOn → TurnSafe t.state u → left_over u < left_over t
+pub loop_falls : (t u : Turned) → t.end ≡ None → TurnSafe t.state u → left_over u < left_over t
 unfolding ongoing
-loop_falls t u v A = go u.verdict refl
+loop_falls t u v A = go u.end refl
   where
-    go : (w : Verdict) → u.verdict ≡ w → left_over u < left_over t
-    go GoesOn e =
+    go : (w : Option Ending) → u.end ≡ w → left_over u < left_over t
+    go None e =
         let few = A.fine.log_few in
         omega (arith, A.grows e, ap ongoing v, ap ongoing e)
-    go (Ends f) e =
+    go (Some f) e =
         let same : u.state.log.count ≡ t.state.log.count = ap (λ (x : State). x.log.count) (A.stays (λ g. goes≢ends g e)) in
         omega (arith, same, ap ongoing v, ap ongoing e)
 
 -- `run_from`
-ends : (tab : List ℕ) (T : Theory) (budget : ℕ) (f : Finished) (t : Turned) (end : Ending) → t.verdict ≡ Ends end → OnTheWay tab T budget f t →
+ends : (tab : List ℕ) (T : Theory) (budget : ℕ) (f : Finished) (t : Turned) (end : Ending) → t.end ≡ Some end → OnTheWay tab T budget f t →
     Leaves tab f t.state end (budget - t.state.units)
 ends tab T budget f t end v W = go (turn T W.state W.units) refl W.turned
   where
@@ -117,7 +116,7 @@ ends tab T budget f t end v W = go (turn T W.state W.units) refl W.turned
         (record { state = a.2; end_is = same_end v a.0; paid_is = ap (λ u. budget - u) a.1 })
 
 pub run_ended : {tab : List ℕ} {inputs : Pairs} {first : State} {t₀ t : Turned} {end : Ending} {o : Ran} →
-    Turns tab inputs.bytes inputs.count first t₀ → Looping tab inputs t₀ t → t.verdict ≡ Ends end → o ≡ ended_run t end first.units →
+    Turns tab inputs.bytes inputs.count first t₀ → Looping tab inputs t₀ t → t.end ≡ Some end → o ≡ ended_run t end first.units →
     RunsFrom tab inputs first o
 run_ended {tab} {inputs} {first} {t₀} {t} {end} A L v e =
     subst (RunsFrom tab inputs first) (sym e)

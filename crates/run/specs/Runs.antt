@@ -11,7 +11,7 @@ use Rattle.state.specs.declared.State.{State}
 use Rattle.state.specs.declared.Turned.{Turned}
 use Rattle.run.specs.declared.Ran.{Ran}
 
--- `ended`
+-- the end of the run, from the turn that ended it
 abbrev pub ended_run : Turned → Ending → ℕ → Ran
 ended_run t end budget = record { state = t.state; end = end; paid = budget - t.state.units }
 

@@ -1,15 +1,15 @@
 // The run: turns until one ends it.
 #![tactic(auto)]
 
-ghost use Rattle.std.specs.Prelude.{◌≡◌, ◌≤◌};
+ghost use Rattle.std.specs.Prelude.{◌≤◌};
 ghost use Rattle.limits.specs.Limits.{most_equations};
 ghost use Rattle.slots.specs.Slots.{Layout};
 ghost use Rattle.state.specs.Run.{Fine};
-ghost use Rattle.run.specs.Runs.{ended_run, RunsFrom, Runs};
+ghost use Rattle.run.specs.Runs.{RunsFrom, Runs};
 
-use rewriting::{End, Verdict};
+use rewriting::End;
 use slots::Pairs;
-use state::{State, Turned};
+use state::State;
 
 // The last state; how the run ended; the units paid.
 #[derive(Drop)]
@@ -17,19 +17,6 @@ pub struct Ran {
     pub state: State,
     pub end: End,
     pub paid: u32,
-}
-
-// The end of the run, from the turn that ended it.
-fn ended(t: Turned, end: End, budget: u32) -> Ran
-    requires { t.state.units ≤ budget }
-    ensures { result ≡ ended_run t end budget }
-{
-    let state = t.state;
-    Ran {
-        state: state,
-        end: end,
-        paid: budget - state.units,
-    }
 }
 
 // Turns from a state until one ends the run; its units are the budget.
@@ -41,9 +28,12 @@ pub fn run_from(first: State, inputs: Pairs, table: &[u8]) -> Ran
     let budget = first.units;
     let mut t = turn::turn(first, &inputs.bytes, number, table);
     loop {
-        let verdict = t.verdict;
-        if let Verdict::Ends(end) = verdict {
-            return ended(t, end, budget);
+        if let Some(end) = t.end {
+            return Ran {
+                state: t.state,
+                end,
+                paid: budget - t.state.units,
+            };
         }
         t = turn::turn(t.state, &inputs.bytes, number, table);
     }
@@ -54,6 +44,5 @@ pub fn run(inputs: Pairs, table: &[u8], budget: u32) -> Ran
     requires { Layout inputs.bytes inputs.count × (inputs.count ≤ most_equations) }
     ensures { Runs table.now inputs budget result }
 {
-    let first = State::initial(inputs, budget);
-    run_from(first, inputs, table)
+    run_from(State::initial(inputs, budget), inputs, table)
 }

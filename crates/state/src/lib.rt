@@ -20,7 +20,7 @@ const SETTLED: u16 = 0;
 
 const PUT_BACK: u16 = 0xffff;
 
-// The entries, oldest first.
+// The entries, oldest first. Kept: bytes with the count of the entries in them, since memory is fixed.
 #[derive(Clone, Copy)]
 pub struct Log {
     pub bytes: [u8; LOG],

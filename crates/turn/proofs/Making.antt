@@ -14,7 +14,7 @@ use Rattle.rewriting.specs.Rewrite.{Paid, done, stop}
 use Rattle.rewriting.specs.Ends.{ending}
 use Rattle.rewriting.specs.declared.End.{End as Ending}
 use Rattle.rewriting.specs.declared.End.TheVariants.{TooLarge, RulesFull}
-use Rattle.rewriting.specs.declared.Verdict.TheVariants.{GoesOn, Ends}
+use Rattle.std.specs.Prelude.{None, Some}
 use Rattle.rewriting.proofs.Verdicts.{goes≢ends, same_end}
 use Rattle.completion.specs.Turn.{State as RunState, Taken as TakenPair, orient, waits_again, kept, normalise_rights, make_rule}
 use Rattle.completion.specs.Calls.{origin_bytes}
@@ -32,8 +32,8 @@ use Rattle.turn.proofs.Steady.{with_rules, units_represent, slots_represent}
 
 -- what is made of a pair, without the state at a stop
 abbrev pub MadeIs : List ℕ → Turned → Paid RunState → Type 0
-MadeIs tab o (done s' left) = (o.verdict ≡ GoesOn) × (o.state.units ≡ left) × Represents tab o.state s'
-MadeIs tab o (stop f left) = (o.verdict ≡ Ends (ending f)) × (o.state.units ≡ left)
+MadeIs tab o (done s' left) = (o.end ≡ None) × (o.state.units ≡ left) × Represents tab o.state s'
+MadeIs tab o (stop f left) = (o.end ≡ Some (ending f)) × (o.state.units ≡ left)
 
 module _ (tab : List ℕ) (T : Theory) (s : RunState) (k : TakenPair) (units : ℕ) where
   abbrev made : Paid RunState
@@ -86,7 +86,7 @@ module _ (tab : List ℕ) (T : Theory) (s : RunState) (k : TakenPair) (units : �
             (rules_stored tab entered.pairs.bytes (older ++ (new ∷ [])) with_new.waiting stands.pairs.holds)
 
         -- a right side stopped
-        pub make_rights_end : (st : State) {end : Ending} → c.verdict ≡ Ends end → MadeIs tab (ended_as st end c.units) made
+        pub make_rights_end : (st : State) {end : Ending} → c.end ≡ Some end → MadeIs tab (ended_as st end c.units) made
         make_rights_end st {end} w = go (normalise_rights [] older new units) refl composed
           where
             go : (p : Paid (List Rule)) → normalise_rights [] older new units ≡ p → AllIs tab b (older ++ (new ∷ [])) c p →
@@ -95,13 +95,13 @@ module _ (tab : List ℕ) (T : Theory) (s : RunState) (k : TakenPair) (units : �
             go (stop e left) q a =
                 subst (MadeIs tab (ended_as st end c.units))
                 (sym (make_rights_stop T s k units few N.sides N.oriented (omega (arith, live_is)) e left q))
-                (ap Ends (same_end w a.0), a.1)
+                (ap Some (same_end w a.0), a.1)
 
         -- all right sides were done
         abbrev last : Turned
         last = goes_on_as (with_slots entered b) c.units
 
-        pub make_goes : c.verdict ≡ GoesOn → MadeIs tab last made
+        pub make_goes : c.end ≡ None → MadeIs tab last made
         make_goes w = go (normalise_rights [] older new units) refl composed
           where
             go : (p : Paid (List Rule)) → normalise_rights [] older new units ≡ p → AllIs tab b (older ++ (new ∷ [])) c p → MadeIs tab last made

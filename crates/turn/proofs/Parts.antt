@@ -13,7 +13,7 @@ use Rattle.terms.specs.Term.{Pair, pair_variables}
 use Rattle.rewriting.specs.Rewrite.{Paid, done, stop, too_large, and_then, ◌>>=◌, end_if}
 use Rattle.rewriting.specs.declared.End.{End as Ending}
 use Rattle.rewriting.specs.declared.End.TheVariants.{TooLarge as EndsLarge, RulesFull}
-use Rattle.rewriting.specs.declared.Verdict.TheVariants.{GoesOn, Ends}
+use Rattle.std.specs.Prelude.{None, Some, Result, Ok, Err}
 use Rattle.rewriting.proofs.Verdicts.{goes≢ends, same_end}
 use Rattle.order.specs.Walk.{rank}
 use Rattle.problem.specs.Problem.{rank_of, Theory}
@@ -22,14 +22,13 @@ use Rattle.completion.specs.Calls.{origin_bytes}
 use Rattle.slots.specs.Slots.{slot, mark_of, Layout, PairAt}
 use Rattle.slots.proofs.Layouts.{layout_less}
 use Rattle.orient.specs.Orients.{LowPair}
-use Rattle.orient.specs.declared.Way.{Way}
-use Rattle.orient.specs.declared.Way.TheVariants.{Rule, Neither, TooLarge}
+use Rattle.orient.specs.declared.Unoriented.{Unoriented}
+use Rattle.orient.specs.declared.Unoriented.TheVariants.{Neither, TooLarge}
 use Rattle.forms.specs.declared.Taken.{Taken}
 use Rattle.compose.specs.declared.Composed.{Composed}
 use Rattle.compose.specs.Rights.{All, ComposesFew}
 use Rattle.state.specs.declared.State.{State}
 use Rattle.state.specs.declared.Log.{Log}
-use Rattle.state.specs.declared.Oriented.{Oriented}
 use Rattle.state.specs.declared.Turned.{Turned}
 use Rattle.state.specs.Run.{FineBut, Fine, Represents, goes_on_as, ended_as}
 use Rattle.state.specs.Steps.{behind_first, without_oldest, with_entry, OrientsIs, Takes, Orients, PutsBack, Collapses, Logs}
@@ -41,7 +40,7 @@ use Rattle.turn.proofs.Making.{MadeIs, make_large, make_neither, make_full, make
 -- steps 2 and 3, from a state that has begun its turn
 pub record Settles (st : State) (t : Taken) (o : Turned) : Type 0 where
   pub safe : t.units ≤ st.units → TurnSafe st o
-  pub goes : o.verdict ≡ GoesOn
+  pub goes : o.end ≡ None
   pub units : o.state.units ≡ t.units
   pub represents : (tab : List ℕ) (s : RunState) (from : Origin) → Represents tab st s → mark_of (slot t.pair 0) ≡ origin_bytes from →
       Represents tab o.state (with_entry (without_oldest s) from 0)
@@ -86,9 +85,9 @@ pub compose_room : {tab origin : List ℕ} {made : ℕ} {st next entered : State
 compose_room C L = let F = L.fine 1 C.fine in layout_less F.within F.layout
 
 -- all right sides were done
-pub all_done : {tab pairs pairs' : List ℕ} {live units : ℕ} {c : Composed} → ComposesFew tab live pairs pairs' units c → c.verdict ≡ GoesOn →
+pub all_done : {tab pairs pairs' : List ℕ} {live units : ℕ} {c : Composed} → ComposesFew tab live pairs pairs' units c → c.end ≡ None →
     (live ≤ most_rules) × All tab pairs pairs' live units c
-all_done few w = ⊎_elim (λ f. absurd (goes≢ends w (ap (λ (x : Composed). x.verdict) f.1))) (λ f. f) few
+all_done few w = ⊎_elim (λ f. absurd (goes≢ends w (ap (λ (x : Composed). x.end) f.1))) (λ f. f) few
 
 -- `make_rule` looks at what waits in the pair that was taken only
 make_without : (T : Theory) (s : RunState) (k : TakenPair) (u : ℕ) → make_rule T (without_oldest s) k u ≡ make_rule T s k u
@@ -107,22 +106,17 @@ module _ (tab : List ℕ) (s : RunState) where
   stop_turned first end n R (done s' left) a = absurd (goes≢ends a.0 refl)
   stop_turned first end n R (stop f left) a = (a.0, a.1, units_represent n R)
 
-  go_turned : (o : Turned) → o.verdict ≡ GoesOn → (p : Paid RunState) → MadeIs tab o p → TurnedIs tab s o p
+  go_turned : (o : Turned) → o.end ≡ None → (p : Paid RunState) → MadeIs tab o p → TurnedIs tab s o p
   go_turned o v (done s' left) a = a
   go_turned o v (stop f left) a = absurd (goes≢ends v a.0)
 
--- what is answered, way by way
-module _ {tab pair : List ℕ} {first rest : State} {o : Oriented} (F : Fine first) (K : Takes first rest) (O : Orients tab pair rest o) where
-  -- what `orient` says of the pair that was taken
-  told : (T : Theory) → rank_of T.symbols ≡ rank tab → (s : RunState) (k : TakenPair) → Represents tab first s →
-      PairAt most_apart tab pair 0 k.pair.sides → OrientsIs tab T (without_oldest s) k.pair.sides o.state o.way
-  told T ranks s k R shown = O.answer T ranks (without_oldest s) k.pair.sides (K.represents tab s R) shown
-
-  -- the way is known, and steps 4 to 7 of the state without the pair come to something
-  module _ (units : ℕ) (r : Turned) {w : Way} (v : o.way ≡ w) where
+-- what is answered, by what `orient` says
+module _ {tab pair : List ℕ} {first rest : State} (F : Fine first) (K : Takes first rest) where
+  -- steps 4 to 7 of the state without the pair come to something
+  module _ {o : Result State Unoriented} (O : Orients tab pair rest o) (units : ℕ) (r : Turned) where
     abbrev Comes : Type 0
     Comes = (T : Theory) (s : RunState) (k : TakenPair) → Represents tab rest s → s.waiting ≡ k.waiting → PairAt most_apart tab pair 0 k.pair.sides →
-        mark_of (slot pair 0) ≡ origin_bytes k.pair.origin → OrientsIs tab T s k.pair.sides o.state w → MadeIs tab r (make_rule T s k units)
+        mark_of (slot pair 0) ≡ origin_bytes k.pair.origin → OrientsIs tab T s k.pair.sides o → MadeIs tab r (make_rule T s k units)
 
     comes : Comes → (T : Theory) → rank_of T.symbols ≡ rank tab → (s : RunState) (k : TakenPair) → Represents tab first s →
         k.waiting ≡ behind_first s.waiting → PairAt most_apart tab pair 0 k.pair.sides → mark_of (slot pair 0) ≡ origin_bytes k.pair.origin →
@@ -130,7 +124,7 @@ module _ {tab pair : List ℕ} {first rest : State} {o : Oriented} (F : Fine fir
     comes h T ranks s k R waits shown mark =
         subst (MadeIs tab r) (make_without T s k units)
         (h T (without_oldest s) k (K.represents tab s R) (sym waits) shown mark
-        (subst (OrientsIs tab T (without_oldest s) k.pair.sides o.state) v (told T ranks s k R shown)))
+        (O.answer T ranks (without_oldest s) k.pair.sides (K.represents tab s R) shown))
 
     makes_stop : {end : Ending} {n : ℕ} → r ≡ ended_as first end n → n ≤ units → Comes → Makes tab pair first units r
     makes_stop {end} {n} e l h =
@@ -142,7 +136,7 @@ module _ {tab pair : List ℕ} {first rest : State} {o : Oriented} (F : Fine fir
               (subst (λ x. MadeIs tab x (make_rule T s k units)) e (comes h T ranks s k R waits shown mark)));
         }
 
-    makes_on : r.verdict ≡ GoesOn → Fine r.state → r.state.log.count ≡ rest.log.count + 1 → r.state.units ≤ units → Comes →
+    makes_on : r.end ≡ None → Fine r.state → r.state.log.count ≡ rest.log.count + 1 → r.state.units ≤ units → Comes →
         Makes tab pair first units r
     makes_on g fine grows l h =
         record {
@@ -150,54 +144,56 @@ module _ {tab pair : List ℕ} {first rest : State} {o : Oriented} (F : Fine fir
           answer = λ T ranks s k R waits shown mark. go_turned tab s r g (make_rule T s k units) (comes h T ranks s k R waits shown mark);
         }
 
-  pub makes_large : {units : ℕ} {r : Turned} → o.way ≡ TooLarge → r ≡ ended_as first EndsLarge units → Makes tab pair first units r
-  makes_large {units} {r} v e =
-      makes_stop units r v e (omega arith) (λ T s k R waits shown mark many.
+  pub makes_large : {units : ℕ} {r : Turned} → Orients tab pair rest (Err TooLarge) → r ≡ ended_as first EndsLarge units →
+      Makes tab pair first units r
+  makes_large {units} {r} O e =
+      makes_stop O units r e (omega arith) (λ T s k R waits shown mark many.
       subst (λ x. MadeIs tab x (make_rule T s k units)) (sym e) (make_large tab T s k units first many))
 
-  pub put_back_needs : o.way ≡ Neither → first.log.count < most_entries → Layout pair 1 →
+  pub put_back_needs : Orients tab pair rest (Err Neither) → first.log.count < most_entries → Layout pair 1 →
       (Fine rest × (rest.pairs.count ≤ most_rules) × (rest.log.count < most_entries)) × (Layout pair 1 × LowPair pair)
-  put_back_needs v room y = ((K.fine, orient_room F K, omega (arith, same_count K.same.log)), (y, O.low v))
+  put_back_needs O room y = ((K.fine, orient_room F K, omega (arith, same_count K.same.log)), (y, O.low refl))
 
-  pub makes_neither : {units : ℕ} {r : Turned} {back : State} → o.way ≡ Neither → PutsBack pair rest back → r ≡ goes_on_as back units →
-      Makes tab pair first units r
-  makes_neither {units} {r} {back} v B e =
+  pub makes_neither : {units : ℕ} {r : Turned} {back : State} → Orients tab pair rest (Err Neither) → PutsBack pair rest back →
+      r ≡ goes_on_as back units → Makes tab pair first units r
+  makes_neither {units} {r} {back} O B e =
       subst (Makes tab pair first units) (sym e)
-      (makes_on units (goes_on_as back units) v refl (units_fine units B.fine) B.entries (omega arith) (λ T s k R waits shown mark h.
+      (makes_on O units (goes_on_as back units) refl (units_fine units B.fine) B.entries (omega arith) (λ T s k R waits shown mark h.
       make_neither tab T s k units h.0 h.1 (B.represents tab s k R waits shown h.0 mark)))
 
-  pub collapse_room : o.way ≡ Rule → FineBut 1 1 o.state × (0 < o.state.live)
-  collapse_room v = (O.fine v, omega (arith, O.live v))
+  module _ {placed : State} (O : Orients tab pair rest (Ok placed)) where
+    pub collapse_room : FineBut 1 1 placed × (0 < placed.live)
+    collapse_room = (O.more.fine, omega (arith, O.more.live))
 
-  module _ {next : State} (C : Collapses tab o.state next) where
-    log_same : next.log.count ≡ rest.log.count
-    log_same = same_count C.same.log ∙ same_count O.same.log
+    module _ {next : State} (C : Collapses tab placed next) where
+      log_same : next.log.count ≡ rest.log.count
+      log_same = same_count C.same.log ∙ same_count O.more.same.log
 
-    pub enter_needs : first.log.count < most_entries → Layout pair 1 → FineBut 1 1 next × (next.log.count < most_entries) × Layout pair 1
-    enter_needs room y = (C.fine, omega (arith, log_same, same_count K.same.log), y)
+      pub enter_needs : first.log.count < most_entries → Layout pair 1 → FineBut 1 1 next × (next.log.count < most_entries) × Layout pair 1
+      enter_needs room y = (C.fine, omega (arith, log_same, same_count K.same.log), y)
 
-    module _ (v : o.way ≡ Rule) {entered : State} (L : Logs next (mark_of (slot pair 0)) next.made entered) {units : ℕ} {r : Turned} {b : List ℕ}
-        {c : Composed} (few : ComposesFew tab entered.live entered.pairs.bytes b units c) where
-      -- a 33rd live rule, or a right side stopped
-      pub makes_ends : {end : Ending} → c.verdict ≡ Ends end → r ≡ ended_as first end c.units → Makes tab pair first units r
-      makes_ends {end} w e = go few
-        where
-          go : ComposesFew tab entered.live entered.pairs.bytes b units c → Makes tab pair first units r
-          go (inl f) =
-              let u : c.units ≡ units = ap (λ (x : Composed). x.units) f.1 in
-              let x : end ≡ RulesFull = same_end w (ap (λ (x : Composed). x.verdict) f.1) in
-              let q : r ≡ ended_as first RulesFull units = e ∙ ap₂ (λ a b. ended_as first a b) x u in
-              makes_stop units r v q (omega arith) (λ T s k R waits shown mark h.
-              subst (λ x. MadeIs tab x (make_rule T s k units)) (sym q) (make_full tab T s k units h.0 waits h.1 C mark L first f.0))
-          go (inr f) =
-              makes_stop units r v e f.1.left_over (λ T s k R waits shown mark h.
-              subst (λ x. MadeIs tab x (make_rule T s k units)) (sym e)
-              (make_rights_end tab T s k units h.0 waits h.1 C mark L f.0 f.1 first w))
+      module _ {entered : State} (L : Logs next (mark_of (slot pair 0)) next.made entered) {units : ℕ} {r : Turned} {b : List ℕ}
+          {c : Composed} (few : ComposesFew tab entered.live entered.pairs.bytes b units c) where
+        -- a 33rd live rule, or a right side stopped
+        pub makes_ends : {end : Ending} → c.end ≡ Some end → r ≡ ended_as first end c.units → Makes tab pair first units r
+        makes_ends {end} w e = go few
+          where
+            go : ComposesFew tab entered.live entered.pairs.bytes b units c → Makes tab pair first units r
+            go (inl f) =
+                let u : c.units ≡ units = ap (λ (x : Composed). x.units) f.1 in
+                let x : end ≡ RulesFull = same_end w (ap (λ (x : Composed). x.end) f.1) in
+                let q : r ≡ ended_as first RulesFull units = e ∙ ap₂ (λ a b. ended_as first a b) x u in
+                makes_stop O units r q (omega arith) (λ T s k R waits shown mark h.
+                subst (λ x. MadeIs tab x (make_rule T s k units)) (sym q) (make_full tab T s k units h.0 waits h.1 C mark L first f.0))
+            go (inr f) =
+                makes_stop O units r e f.1.left_over (λ T s k R waits shown mark h.
+                subst (λ x. MadeIs tab x (make_rule T s k units)) (sym e)
+                (make_rights_end tab T s k units h.0 waits h.1 C mark L f.0 f.1 first w))
 
-      pub makes_goes : c.verdict ≡ GoesOn → r ≡ goes_on_as (with_slots entered b) c.units → Makes tab pair first units r
-      makes_goes w e =
-          let A = all_done few w in
-          subst (Makes tab pair first units) (sym e)
-          (makes_on units (goes_on_as (with_slots entered b) c.units) v refl (slots_fine c.units (L.fine 1 C.fine) A.1.only A.0)
-          (omega (arith, L.entries, log_same)) A.1.left_over (λ T s k R waits shown mark h.
-          make_goes tab T s k units h.0 waits h.1 C mark L A.0 A.1 w))
+        pub makes_goes : c.end ≡ None → r ≡ goes_on_as (with_slots entered b) c.units → Makes tab pair first units r
+        makes_goes w e =
+            let A = all_done few w in
+            subst (Makes tab pair first units) (sym e)
+            (makes_on O units (goes_on_as (with_slots entered b) c.units) refl (slots_fine c.units (L.fine 1 C.fine) A.1.only A.0)
+            (omega (arith, L.entries, log_same)) A.1.left_over (λ T s k R waits shown mark h.
+            make_goes tab T s k units h.0 waits h.1 C mark L A.0 A.1 w))

@@ -8,7 +8,7 @@ use lib.ListN.{length}
 use Rattle.limits.specs.Limits.{most_rules}
 use Rattle.rewriting.specs.Overlap.{Rule, sides_of}
 use Rattle.rewriting.specs.declared.End.{End as Ending}
-use Rattle.rewriting.specs.declared.Verdict.TheVariants.{GoesOn}
+use Rattle.std.specs.Prelude.{None}
 use Rattle.rewriting.proofs.Verdicts.{goes≢ends}
 use Rattle.completion.specs.Turn.{State as RunState}
 use Rattle.slots.specs.Slots.{Stored}
@@ -52,7 +52,7 @@ module _ {st : State} where
   pub stop_safe : {end : Ending} {u : ℕ} → Fine st → u ≤ st.units → TurnSafe st (ended_as st end u)
   stop_safe {u = u} F l = record { fine = units_fine u F; grows = λ v. absurd (goes≢ends v refl); stays = λ _. refl; less = l }
 
-  pub go_safe : {o : Turned} → o.verdict ≡ GoesOn → Fine o.state → o.state.log.count ≡ st.log.count + 1 → o.state.units ≤ st.units →
+  pub go_safe : {o : Turned} → o.end ≡ None → Fine o.state → o.state.log.count ≡ st.log.count + 1 → o.state.units ≤ st.units →
       TurnSafe st o
   go_safe v F g l = record { fine = F; grows = λ _. g; stays = λ f. absurd (f v); less = l }
 

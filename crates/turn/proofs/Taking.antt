@@ -26,9 +26,8 @@ use Rattle.slots.specs.Slots.{slot, mark_of, Layout, PairAt, MarkedAt, Stored, H
 use Rattle.slots.proofs.Listing.{all_first}
 use Rattle.inputs.specs.Inputs.{marked}
 use Rattle.rewriting.specs.declared.End.TheVariants.{NeitherAbove}
-use Rattle.joining.specs.declared.Found.TheVariants.{Ends}
+use Rattle.std.specs.Prelude.{Err}
 use Rattle.forms.specs.declared.Taken.{Taken}
-use Rattle.joining.specs.declared.Walk.{Walk}
 use Rattle.forms.specs.Forms.{compared, walk_of, Walked, found, short, large, on, OldestIs}
 use Rattle.scanning.specs.Walk.{StopsWith, Finds, ScanIs, InSlots}
 use Rattle.state.specs.Steps.{behind_first}
@@ -108,24 +107,21 @@ past : (tab : List ℕ) (t : Taken) (units : ℕ) (T : Theory) (s : RunState) {w
 past tab t units T s {w} may e h =
     subst (LookIs tab t w s) (sym (taking_on T s units may)) (subst (λ b. LookIs tab t b s (take_pair T s.rules s.waiting units)) (sym e) h)
 
--- `look`
-module _ {tab pairs inputs : List ℕ} {w : Waiting} {count units : ℕ} {t : Taken} where
-  -- every one waiting has been put back
-  pub look_ends : {f : Walk} {z : List ℕ} → (w.count ≡ 0 → ⊥) → w.count ≤ w.back → Layout z 1 → f ≡ record { found = Ends NeitherAbove; units = units } →
-      t ≡ record { found = f.found; units = f.units; pair = z } → Looks tab pairs w inputs count units t
-  look_ends {f} {z} some all y q e =
-      let e' : t ≡ record { found = Ends NeitherAbove; units = units; pair = z } =
-      e ∙ ap (λ (x : Walk). record { found = x.found; units = x.units; pair = z }) q in
-      record {
-        layout = subst (λ (x : Taken). Layout x.pair 1) (sym e') y;
-        left_over = let u = ap (λ (x : Taken). x.units) e' in omega arith;
-        answer = λ T G s A.
-            let n = A.waiting_is in
-            let b = A.back_is in
-            let h : AllPutBack s = record { some = omega arith; all = omega arith } in
-            subst (LookIs tab t (ltb 0 w.count) s) (sym (taking_ends T s units h)) (ap (λ (x : Taken). x.units) e', ap (λ (x : Taken). x.found) e');
-      }
+-- `look`: every one waiting has been put back
+pub look_ends : {tab pairs inputs : List ℕ} {w : Waiting} {count units : ℕ} {z : List ℕ} → (w.count ≡ 0 → ⊥) → w.count ≤ w.back → Layout z 1 →
+    Looks tab pairs w inputs count units (record { found = Err NeitherAbove; units = units; pair = z })
+look_ends {tab} {w = w} {units = units} {z = z} some all y = record {
+  layout = y;
+  left_over = omega arith;
+  answer = λ T G s A.
+      let n = A.waiting_is in
+      let b = A.back_is in
+      let h : AllPutBack s = record { some = omega arith; all = omega arith } in
+      let all_of : Taken = record { found = Err NeitherAbove; units = units; pair = z } in
+      subst (LookIs tab all_of (ltb 0 w.count) s) (sym (taking_ends T s units h)) (refl, refl);
+}
 
+module _ {tab pairs inputs : List ℕ} {w : Waiting} {count units : ℕ} {t : Taken} where
   pub look_oldest : (w.count ≡ 0 → ⊥) → w.back < w.count → OldestIs tab pairs w.live units t → Looks tab pairs w inputs count units t
   look_oldest some older O =
       record {

@@ -15,7 +15,7 @@ use Rattle.rewriting.specs.Rewrite.{End, complete, neither_above, spent, too_lar
 use Rattle.rewriting.specs.Ends.{ending}
 use Rattle.rewriting.specs.declared.End.{End as Ending}
 use Rattle.rewriting.specs.declared.End.TheVariants.{Spent, LogFull}
-use Rattle.rewriting.specs.declared.Verdict.TheVariants.{Ends}
+use Rattle.std.specs.Prelude.{Some, Result, Ok, Err}
 use Rattle.completion.specs.Turn.{State as RunState, Taken as TakenPair, settled, turn}
 use Rattle.completion.specs.Calls.{origin_bytes}
 use Rattle.completion.proofs.Turning.{taking, turn_unpaid, turn_stops, turn_log_full, turn_settles, turn_makes}
@@ -29,7 +29,7 @@ use Rattle.state.specs.Steps.{behind_first, without_oldest, with_entry}
 use Rattle.turn.specs.declared.Waiting.{Waiting}
 use Rattle.forms.specs.Forms.{due_after}
 use Rattle.forms.specs.declared.Due.{Due}
-use Rattle.forms.specs.declared.Due.TheVariants.{Stop, Settle, Make}
+use Rattle.forms.specs.declared.Due.TheVariants.{Settle, Make}
 use Rattle.turn.specs.Turns.{Given, waiting_behind, PairsOf, FormsIn, LookStops, LookIs, Looks, TurnSafe, TurnedIs, Turns}
 use Rattle.turn.proofs.Parts.{Settles, Makes}
 use Rattle.collapse.proofs.Rows.{length_held}
@@ -38,7 +38,7 @@ use Rattle.state.proofs.Steady.{units_fine}
 use Rattle.turn.proofs.Steady.{units_represent, stop_safe, begun_safe}
 
 -- Step 1 stopped
-look_stop : (e : End) (t : Taken) (waits : Bool) (n : ℕ) → LookStops e t waits → due_after t.found waits n ≡ Stop (ending e)
+look_stop : (e : End) (t : Taken) (waits : Bool) (n : ℕ) → LookStops e t waits → due_after t.found waits n ≡ Err (ending e)
 unfolding due_after ending
 look_stop complete t waits n h = ap₂ (λ f w. due_after f w n) h.0 h.1
 look_stop neither_above t waits n h = ap (λ f. due_after f waits n) h
@@ -48,15 +48,15 @@ look_stop rules_full t waits n h = absurd h
 look_stop log_full t waits n h = absurd h
 
 -- what the definition takes, by what is due
-data Step (tab : List ℕ) (T : Theory) (s : RunState) (u : ℕ) (t : Taken) (n : ℕ) (d : Due) : Type 0 where
-  stops : (e : End) → taking T s u ≡ stop e t.units → d ≡ Stop (ending e) → Step tab T s u t n d
-  full : (k : TakenPair) → taking T s u ≡ done k t.units → most_entries ≤ n → d ≡ Stop LogFull → Step tab T s u t n d
+data Step (tab : List ℕ) (T : Theory) (s : RunState) (u : ℕ) (t : Taken) (n : ℕ) (d : Result Due Ending) : Type 0 where
+  stops : (e : End) → taking T s u ≡ stop e t.units → d ≡ Err (ending e) → Step tab T s u t n d
+  full : (k : TakenPair) → taking T s u ≡ done k t.units → most_entries ≤ n → d ≡ Err LogFull → Step tab T s u t n d
   settles : (k : TakenPair) → taking T s u ≡ done k t.units → n < most_entries → k.waiting ≡ behind_first s.waiting →
-      mark_of (slot t.pair 0) ≡ origin_bytes k.pair.origin → same k.pair.sides.left k.pair.sides.right ≡ true → d ≡ Settle →
+      mark_of (slot t.pair 0) ≡ origin_bytes k.pair.origin → same k.pair.sides.left k.pair.sides.right ≡ true → d ≡ Ok Settle →
       Step tab T s u t n d
   makes : (k : TakenPair) → taking T s u ≡ done k t.units → n < most_entries → k.waiting ≡ behind_first s.waiting →
       mark_of (slot t.pair 0) ≡ origin_bytes k.pair.origin → same k.pair.sides.left k.pair.sides.right ≡ false →
-      PairAt most_apart tab t.pair 0 k.pair.sides → d ≡ Make → Step tab T s u t n d
+      PairAt most_apart tab t.pair 0 k.pair.sides → d ≡ Ok Make → Step tab T s u t n d
 
 module _ (tab : List ℕ) (T : Theory) (s : RunState) (u : ℕ) (t : Taken) (waits : Bool) (n : ℕ) where
   abbrev Steps : Type 0
@@ -71,11 +71,11 @@ module _ (tab : List ℕ) (T : Theory) (s : RunState) (u : ℕ) (t : Taken) (wai
       r : taking T s u ≡ done k t.units
       r = q ∙ ap (done k) (sym a.0)
 
-      equal : same k.pair.sides.left k.pair.sides.right ≡ true → (d : Due) → Room n Settle d → due_after t.found waits n ≡ d → Steps
+      equal : same k.pair.sides.left k.pair.sides.right ≡ true → (d : Result Due Ending) → Room n Settle d → due_after t.found waits n ≡ d → Steps
       equal e d (none_left h w) z = full k r h (z ∙ w)
       equal e d (some_left h w) z = settles k r h a.1 a.2 e (z ∙ w)
 
-      differ : same k.pair.sides.left k.pair.sides.right ≡ false → PairAt most_apart tab t.pair 0 k.pair.sides → (d : Due) → Room n Make d →
+      differ : same k.pair.sides.left k.pair.sides.right ≡ false → PairAt most_apart tab t.pair 0 k.pair.sides → (d : Result Due Ending) → Room n Make d →
           due_after t.found waits n ≡ d → Steps
       differ e y d (none_left h w) z = full k r h (z ∙ w)
       differ e y d (some_left h w) z = makes k r h a.1 a.2 e y (z ∙ w)
@@ -123,7 +123,7 @@ settled_as tab r s k w R =
     }))
     (sym w) R
 
-ends_full : Ends LogFull ≡ Ends (ending log_full)
+ends_full : Some LogFull ≡ Some (ending log_full)
 unfolding ending
 ends_full = refl
 
@@ -154,7 +154,7 @@ some_units : (n : ℕ) → (n ≡ 0 → ⊥) → n ≡ suc (n - 1)
 some_units zero h = absurd (h refl)
 some_units (suc n) h = omega arith
 
-module _ {tab inputs : List ℕ} {count : ℕ} {st begun : State} {w : Waiting} {t : Taken} {d : Due} (F : Fine st) (some : st.units ≡ 0 → ⊥)
+module _ {tab inputs : List ℕ} {count : ℕ} {st begun : State} {w : Waiting} {t : Taken} {d : Result Due Ending} (F : Fine st) (some : st.units ≡ 0 → ⊥)
     (began : Began st begun) (waits_are : w ≡ waiting_of begun) (looked : Looks tab begun.pairs.bytes w inputs count begun.units t)
     (due : d ≡ due_after t.found (ltb 0 w.count) begun.log.count) where
   abbrev u : ℕ
@@ -190,7 +190,7 @@ module _ {tab inputs : List ℕ} {count : ℕ} {st begun : State} {w : Waiting} 
   abbrev IsEnd : Ending → RunState → Paid RunState → Type 0
   IsEnd end s q = TurnedIs tab s (ended_as (with_units st u) end t.units) q
 
-  pub turn_ends : {end : Ending} {o : Turned} → d ≡ Stop end → o ≡ ended_as begun end t.units → Turns tab inputs count st o
+  pub turn_ends : {end : Ending} {o : Turned} → d ≡ Err end → o ≡ ended_as begun end t.units → Turns tab inputs count st o
   turn_ends {end} {o} p e' =
       subst (Turns tab inputs count st) (sym (e' ∙ ap (λ b. ended_as b end t.units) began))
       (turned (ended_as (with_units st u) end t.units) (stop_safe (units_fine u F) L.left_over) (λ T G s R. go T s R (steps T G s R)))
@@ -198,14 +198,14 @@ module _ {tab inputs : List ℕ} {count : ℕ} {st begun : State} {w : Waiting} 
       go : (T : Theory) (s : RunState) → Represents tab st s → Step tab T s u t (length s.log) d → IsEnd end s (turn T s (suc u))
       go T s R (stops e q z) =
           let w : end ≡ ending e = cc in
-          subst (IsEnd end s) (sym (turn_stops T s u e t.units q)) (ap Ends w, refl, units_represent t.units R)
+          subst (IsEnd end s) (sym (turn_stops T s u e t.units q)) (ap Some w, refl, units_represent t.units R)
       go T s R (full k q h z) =
           let w : end ≡ LogFull = cc in
-          subst (IsEnd end s) (sym (turn_log_full T s u k t.units q h)) (ap Ends w ∙ ends_full, refl, units_represent t.units R)
+          subst (IsEnd end s) (sym (turn_log_full T s u k t.units q h)) (ap Some w ∙ ends_full, refl, units_represent t.units R)
       go T s R (settles k q h w m e z) = absurd (zero≢one (cc))
       go T s R (makes k q h w m e y z) = absurd (zero≢one (cc))
 
-  pub turn_settled : {o : Turned} → d ≡ Settle → Settles begun t o → Turns tab inputs count st o
+  pub turn_settled : {o : Turned} → d ≡ Ok Settle → Settles begun t o → Turns tab inputs count st o
   turn_settled {o} p S' =
       let S : Settles (with_units st u) t o = subst (λ b. Settles b t o) began S' in
       turned o (S.safe L.left_over) (λ T G s R. go S T s R (steps T G s R))
@@ -219,7 +219,7 @@ module _ {tab inputs : List ℕ} {count : ℕ} {st begun : State} {w : Waiting} 
           (S.goes, S.units, settled_as tab o.state s k w (S.represents tab s k.pair.origin (units_represent u R) m))
       go S T s R (makes k q h w m e y z) = absurd (zero≢one (cc))
 
-  pub turn_made : {o : Turned} → d ≡ Make → Makes tab t.pair begun t.units o → Turns tab inputs count st o
+  pub turn_made : {o : Turned} → d ≡ Ok Make → Makes tab t.pair begun t.units o → Turns tab inputs count st o
   turn_made {o} p M' =
       let M : Makes tab t.pair (with_units st u) t.units o = subst (λ b. Makes tab t.pair b t.units o) began M' in
       turned o (M.safe L.left_over) (λ T G s R. go M T G s R (steps T G s R))

@@ -4,4 +4,4 @@ use Rattle.run.proofs.Running.{run_initial}
 use Rattle.run.proofs.run.Goals as goal
 
 pub returns : goal.returns
-returns c = run_initial c.initial-first.ensures c.run_from.ensures
+returns c = run_initial c.initial.ensures c.run_from.ensures

@@ -3,8 +3,8 @@
 use Rattle.run.proofs.Running.{Looping, left_over}
 use Rattle.run.proofs.run_from.Given as goal
 
-abbrev pub invariant-loop-end : goal.invariant-loop-end
-invariant-loop-end l = Looping l.table l.inputs l.initial.t l.t
+abbrev pub invariant-loop-t : goal.invariant-loop-t
+invariant-loop-t l = Looping l.table l.inputs l.initial.t l.t
 
-abbrev pub decreases-loop-end : goal.decreases-loop-end
-decreases-loop-end l = left_over l.t
+abbrev pub decreases-loop-t : goal.decreases-loop-t
+decreases-loop-t l = left_over l.t

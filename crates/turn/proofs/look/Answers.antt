@@ -9,7 +9,7 @@ pub returns-then-w-eq0 : goal.returns-then-w-eq0
 returns-then-w-eq0 c = look_scan c.if-w-eq0.true c.scan.ensures
 
 pub returns-then-w : goal.returns-then-w
-returns-then-w c = look_ends c.if-w-eq0.false c.if-w.true layout_zeros c.walked-all.ensures c.with_pair.ensures
+returns-then-w c = look_ends c.if-w-eq0.false c.if-w.true layout_zeros
 
 pub oldest-requires : goal.oldest-requires
 oldest-requires c =
