@@ -51,7 +51,8 @@ module _ (problem before : List ℕ) where
   unfolding completed_told counted after_complete
   answers_short h = answered before (Err (record { reason = ShortBuffer; place = 0 })) (refused 1 0) (refused_short h) refl refl
 
-  pub answers_refused : least_buffer ≤ length before → (r : Refusal) → parse problem ≡ refused (number_of_reason r.reason) r.place → Answered problem before before (Err r)
+  pub answers_refused : least_buffer ≤ length before → (r : Refusal) → parse problem ≡ refused (number_of_reason r.reason) r.place →
+      Answered problem before before (Err r)
   unfolding completed_told counted after_complete ◌>>=◌
   answers_refused h r e =
       answered before (Err r) (refused (number_of_reason r.reason) r.place)

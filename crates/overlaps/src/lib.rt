@@ -122,13 +122,7 @@ pub fn possible(system: System, inner: usize, outer: usize, position: usize) -> 
 }
 
 // The overlap of an inner rule with an outer rule at a position of its left side, where one is possible: the pair, renamed, is left in the slot `pair`.
-pub fn overlap(
-    system: System,
-    inner: usize,
-    outer: usize,
-    position: usize,
-    pair: &mut [u8],
-) -> Met
+pub fn overlap(system: System, inner: usize, outer: usize, position: usize, pair: &mut [u8]) -> Met
     requires inner_in_bounds { (inner < system.count) × (outer < system.count) }
     requires position_bound { (position < left_length (slot system.rules.now outer)) × Layout pair.old 1 }
     ensures { Overlapped system.entry.table.now system.entry.rules.now inner outer position pair.old pair.new result }

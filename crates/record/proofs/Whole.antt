@@ -74,7 +74,8 @@ module _ (l : List ℕ) (at : ℕ) where
 -- `last_field`
 module _ (tab l : List ℕ) (end at : ℕ) where
   -- as what is due at e is answered
-  as_nothing : (e : ℕ) → last_field (symbols_of tab) end at (drop at l) ≡ nothing_behind e (drop e l) → (r : Result (Unit {0}) BadField) → IsNothing l e r → IsLast tab l end at r
+  as_nothing : (e : ℕ) → last_field (symbols_of tab) end at (drop at l) ≡ nothing_behind e (drop e l) → (r : Result (Unit {0}) BadField) →
+      IsNothing l e r → IsLast tab l end at r
   as_nothing e q (Ok u) h = q ∙ h
   as_nothing e q (Err bad) h = q ∙ h
 
@@ -91,7 +92,8 @@ module _ (tab l : List ℕ) (end at : ℕ) where
     pub last_bad : (p : ℕ) → OneBad 0x14 (read_forms (symbols_of tab)) l at p → last_field (symbols_of tab) end at (drop at l) ≡ refused 13 p
     last_bad p B = last_is ∙ bind_refused _ (B 13)
 
-    pub last_forms : (forms : Pair) (e : ℕ) → OneAt 0x14 (read_forms (symbols_of tab)) l at forms e → (r : Result (Unit {0}) BadField) → IsNothing l e r → IsLast tab l end at r
+    pub last_forms : (forms : Pair) (e : ℕ) → OneAt 0x14 (read_forms (symbols_of tab)) l at forms e → (r : Result (Unit {0}) BadField) →
+        IsNothing l e r → IsLast tab l end at r
     last_forms forms e O = as_nothing e (last_is ∙ bind_ok _ (O.is 13))
 
 -- `read_behind`

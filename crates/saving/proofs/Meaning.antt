@@ -83,7 +83,8 @@ module _ (tab : List ℕ) (st : State) (c : Checkpoint) (R : Represents tab st c
       (flat_map_append field_bytes log (f22 ∷ []) ∙ ap (λ l. flat_map field_bytes log ++ l) (append-nil (field_bytes f22))))))))
 
 -- `save`: what the writer's buffer holds is what the lent bytes hold behind it
-pub saved : {st : State} {tab l out after : List ℕ} {w₁ w₂ : Writer} (w₃ : Writer) {from count : ℕ} (q : PutsEquations l from count w₁ w₂) → after ≡ w₃.out.now →
+pub saved : {st : State} {tab l out after : List ℕ} {w₁ w₂ : Writer} (w₃ : Writer) {from count : ℕ} (q : PutsEquations l from count w₁ w₂) →
+    after ≡ w₃.out.now →
     w₃.at ≤ longest_saved → Writes out (field_bytes (tagged 0x01 tab) ++ (q.ys ++ state_bytes st)) w₃.out.now w₃.at →
     Saves st tab l from count out after w₃.at
 saved {st} {tab} {out = out} w₃ q e few p = record {

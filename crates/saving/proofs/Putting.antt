@@ -56,11 +56,17 @@ module _ {st : State} (fine : Fine st) {w w₁ : Writer} {x₁ : List ℕ} (room
 
   module _ {w₂ : Writer} {x₂ : List ℕ} (q : AddsSome rule_width w₁ w₂ st.live x₂) where
     pub waiting_room : w₂.at + waiting_width * (st.pairs.count - st.live) + entry_width * most_entries + 4 ≤ length w₂.out.now
-    waiting_room = let r = rules_room in let n = q.puts.puts.next in omega (arith, q.puts.room, puts_length _ _ _ _ _ _ (omega (arith, q.puts.room)) q.puts.puts)
+    waiting_room =
+        let r = rules_room in
+        let n = q.puts.puts.next in
+        omega (arith, q.puts.room, puts_length _ _ _ _ _ _ (omega (arith, q.puts.room)) q.puts.puts)
 
     module _ {w₃ : Writer} {x₃ : List ℕ} (s : AddsSome waiting_width w₂ w₃ (st.pairs.count - st.live) x₃) where
       pub log_room : w₃.at + entry_width * most_entries + 4 ≤ length w₃.out.now
-      log_room = let r = waiting_room in let n = s.puts.puts.next in omega (arith, s.puts.room, puts_length _ _ _ _ _ _ (omega (arith, s.puts.room)) s.puts.puts)
+      log_room =
+          let r = waiting_room in
+          let n = s.puts.puts.next in
+          omega (arith, s.puts.room, puts_length _ _ _ _ _ _ (omega (arith, s.puts.room)) s.puts.puts)
 
       pub back_room : {w₄ : Writer} {n : ℕ} {x₄ : List ℕ} → AddsSome entry_width w₃ w₄ n x₄ → n ≤ most_entries → w₄.at + 4 ≤ length w₄.out.now
       back_room t few =
@@ -121,4 +127,7 @@ module _ (tab eqs ys : List ℕ) {w w₁ w₂ w₃ : Writer} {count : ℕ} (fron
       let k₁ = writes_length (omega arith) p in
       let x₂ = puts_then _ _ _ _ eqs ys _ _ _ _ (omega arith) q.puts.puts s.puts.puts in
       let x₁ = puts_then _ _ _ _ _ _ _ _ _ _ (omega arith) p.puts x₂ in
-      record { bytes = x₁.bytes ∙ ap (λ z. patched z (field_bytes (tagged 0x01 tab) ++ (eqs ++ ys)) w.out.now) front ∙ patched_front _ w.out.now; count = omega (arith, x₁.next, x₁.counted) }
+      record {
+        bytes = x₁.bytes ∙ ap (λ z. patched z (field_bytes (tagged 0x01 tab) ++ (eqs ++ ys)) w.out.now) front ∙ patched_front _ w.out.now;
+        count = omega (arith, x₁.next, x₁.counted);
+      }

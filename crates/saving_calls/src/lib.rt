@@ -15,6 +15,7 @@ use run::Ran;
 use state::State;
 
 // The counts of result bytes and of bytes of the saved record, 0 where there is none.
+// Kept: 0 and no `Option`, since the promise `lengths` and C's answer give the length of no bytes.
 #[derive(Clone, Copy, Debug, PartialEq, Eq)]
 pub struct Left {
     pub result: usize,

@@ -103,7 +103,8 @@ scan_turn tab t i (suc n) k h z y e =
     let m : suc n - 1 + k ≡ owes tab (get_or t i 0) + n = omega arith in
     rw (drop-cons t i 0 h, y, m, add-one i)
 
-pub scan_bad : (tab t : List ℕ) (i n : ℕ) → i < length t → (n ≡ 0 → ⊥) → is_node tab (get_or t i 0) ≡ false → Err (record { place = i }) ≡ scan tab (drop i t) i n
+pub scan_bad : (tab t : List ℕ) (i n : ℕ) → i < length t → (n ≡ 0 → ⊥) → is_node tab (get_or t i 0) ≡ false →
+    Err (record { place = i }) ≡ scan tab (drop i t) i n
 unfolding scan
 scan_bad tab t i zero h z y = absurd (z refl)
 scan_bad tab t i (suc n) h z y = rw (drop-cons t i 0 h, y)

@@ -34,7 +34,9 @@ pub returns-in-Ok-TooLarge : goal.returns-in-Ok-TooLarge
 unfolding decided_told without_units decide_code number_of
 returns-in-Ok-TooLarge c =
     let q = rw c.in-Ok-TooLarge.field-0-is at c.in-Ok-TooLarge.ensures in
-    let told = decide_promises _ _ _ q.equations q.agrees _ q.answer (c.code-in-Ok-TooLarge.ensures ∙ ap (λ (n : ℕ). code 3 n 0) c.from-in-Ok-TooLarge.ensures) in
+    let told =
+    decide_promises _ _ _ q.equations q.agrees _ q.answer
+    (c.code-in-Ok-TooLarge.ensures ∙ ap (λ (n : ℕ). code 3 n 0) c.from-in-Ok-TooLarge.ensures) in
     record { value = told.0; equations = told.1.0; agrees = told.1.1 }
 
 pub returns-in-Err : goal.returns-in-Err

@@ -27,14 +27,18 @@ pub returns-in-Ok-Spent : goal.returns-in-Ok-Spent
 unfolding decided_told outermost_code counted_code number_of
 returns-in-Ok-Spent c =
     let q = rw c.in-Ok-Spent.field-0-is at c.in-Ok-Spent.ensures in
-    let told = outermost_promises _ _ _ q.equations q.agrees _ q.answer (c.code-in-Ok-Spent.ensures ∙ ap (λ (n : ℕ). code 3 n c.in-Ok-Spent.units) c.from.ensures) in
+    let told =
+    outermost_promises _ _ _ q.equations q.agrees _ q.answer
+    (c.code-in-Ok-Spent.ensures ∙ ap (λ (n : ℕ). code 3 n c.in-Ok-Spent.units) c.from.ensures) in
     record { value = told.0; equations = told.1.0; agrees = told.1.1 }
 
 pub returns-in-Ok-TooLarge : goal.returns-in-Ok-TooLarge
 unfolding decided_told outermost_code counted_code number_of
 returns-in-Ok-TooLarge c =
     let q = rw c.in-Ok-TooLarge.field-0-is at c.in-Ok-TooLarge.ensures in
-    let told = outermost_promises _ _ _ q.equations q.agrees _ q.answer (c.code-in-Ok-TooLarge.ensures ∙ ap (λ (n : ℕ). code 3 n c.in-Ok-TooLarge.units) c.from-in-Ok-TooLarge.ensures) in
+    let told =
+    outermost_promises _ _ _ q.equations q.agrees _ q.answer
+    (c.code-in-Ok-TooLarge.ensures ∙ ap (λ (n : ℕ). code 3 n c.in-Ok-TooLarge.units) c.from-in-Ok-TooLarge.ensures) in
     record { value = told.0; equations = told.1.0; agrees = told.1.1 }
 
 pub returns-in-Err : goal.returns-in-Err

@@ -47,7 +47,7 @@ overflow_add-i c =
 pub overflow_sub-first-in-loop-first : goal.overflow_sub-first-in-loop-first
 overflow_sub-first-in-loop-first c =
     let step_at : Step c.loop-first.invariant c.loop-first-test.true c.from-q.result c.from-q.ensures c.from-r.result c.owed_by-n.result
-        c.from-r.ensures c.owed_by-n.ensures.0 =
+    c.from-r.ensures c.owed_by-n.ensures.0 =
     step _ _ _ _ _ _ _ _ in
     step_at.owes_few
 
@@ -57,7 +57,7 @@ slice_bounds-list-end c = search (rules, c.loop-first.invariant.room)
 pub list-requires : goal.list-requires
 list-requires c =
     let step_at : Step c.loop-first.invariant c.loop-first-test.true c.from-q.result c.from-q.ensures c.from-r.result c.owed_by-n.result
-        c.from-r.ensures c.owed_by-n.ensures.0 =
+    c.from-r.ensures c.owed_by-n.ensures.0 =
     step _ _ _ _ _ _ _ _ in
     step_at.lists
 
@@ -69,7 +69,7 @@ loop-first-smaller c =
 pub loop-first-preserved : goal.loop-first-preserved
 loop-first-preserved c =
     let step_at : Step c.loop-first.invariant c.loop-first-test.true c.from-q.result c.from-q.ensures c.from-r.result c.owed_by-n.result
-        c.from-r.ensures c.owed_by-n.ensures.0 =
+    c.from-r.ensures c.owed_by-n.ensures.0 =
     step _ _ _ _ _ _ _ _ in
     step_at.goes_on _ c.list.ensures
 

@@ -21,10 +21,12 @@ meet-requires c =
         c.right-r2.ensures.result_len_bound,
       );
       position_in_bounds = (
-        omega (arith,
-            ap length c.left-l2.ensures.result_value,
-            left_long c.args.system.rules.now c.args.outer (layout_less {n = c.args.system.count} (omega arith) c.args.system.laid_out),
-            c.requires.position_bound.0),
+        omega (
+          arith,
+          ap length c.left-l2.ensures.result_value,
+          left_long c.args.system.rules.now c.args.outer (layout_less {n = c.args.system.count} (omega arith) c.args.system.laid_out),
+          c.requires.position_bound.0,
+        ),
         omega (arith, eqb-false _ _ (sym c.if-is_empty.ensures)),
         c.requires.position_bound.1,
       );

@@ -18,5 +18,5 @@ returns-then-position-l2 c =
 pub returns : goal.returns
 returns c =
     possible_tested c.left-l2.ensures.result_value (layout_less {n = c.args.system.count} (omega arith) c.args.system.laid_out)
-        c.if-position-l2.false (omega (arith, c.if-l2-position-ge-VARIABLE.false))
+    c.if-position-l2.false (omega (arith, c.if-l2-position-ge-VARIABLE.false))
     c.left.ensures.result_value c.clash.result c.clash.ensures
