@@ -73,12 +73,14 @@ pub extern "C" fn vb_subterm(problem: &[u8], position: usize) -> u64
     ensures value { result ≡ part_code (subterm_part problem.now position) }
     ensures refused { eqb result 0 ≡ subterm_refused problem.now position }
 {
-    let Some(bounds) = calls::subterm_bounds(problem, position) else {
-        return 0;
-    };
-    let start = bounds.start;
-    let bytes = bounds.end - start;
-    start as u64 % VALUES * VALUES + bytes as u64 % VALUES
+    match calls::subterm_bounds(problem, position) {
+        Some(bounds) => {
+            let start = bounds.start;
+            let bytes = bounds.end - start;
+            start as u64 % VALUES * VALUES + bytes as u64 % VALUES
+        }
+        None => 0,
+    }
 }
 
 // The second promise says of what the answer is right: of a record that the engine wrote; the third, that outermost's answer does not contradict it.
@@ -115,6 +117,9 @@ pub extern "C" fn vb_outermost(problem: &[u8], kept: &[u8]) -> u64
     }
 }
 
+// What `vb_lower` answers where the lent bytes are refused.
+const NEITHER: u64 = 0;
+
 // The caller has both terms: which one it is says what the part would.
 #[unsafe(no_mangle)]
 pub extern "C" fn vb_lower(symbols: &[u8], first: &[u8], second: &[u8]) -> u64
@@ -122,7 +127,7 @@ pub extern "C" fn vb_lower(symbols: &[u8], first: &[u8], second: &[u8]) -> u64
     ensures refused { eqb result 0 ≡ lower_refused symbols.now first.now second.now }
 {
     match lower::choose(symbols, first, second) {
-        None => 0,
+        None => NEITHER,
         Some(Which::First) => 1,
         Some(Which::Second) => 2,
     }
