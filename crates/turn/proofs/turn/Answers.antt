@@ -34,7 +34,9 @@ pub take-requires : goal.take-requires
 take-requires c = began_fine c.requires.0 c.begin-st.ensures
 
 pub settle-requires : goal.settle-requires
-settle-requires c = settle_needs c.take.ensures (settle_room _ _ _ c.due_after.ensures (which c.in-Ok-Settle.is c.in-Ok-Settle.field-0-is)) c.look-t.ensures.layout
+settle-requires c =
+    settle_needs c.take.ensures (settle_room _ _ _ c.due_after.ensures (which c.in-Ok-Settle.is c.in-Ok-Settle.field-0-is))
+    c.look-t.ensures.layout
 
 pub returns-in-Ok-Settle : goal.returns-in-Ok-Settle
 returns-in-Ok-Settle c =
