@@ -2,7 +2,7 @@
 -- Read first: specs/Report (oldest_if), completion/specs/Calls (Writes), fields/proofs/Putting.
 use mathlib.Core.Path.{◌≡◌, refl, sym, ap, ◌∙◌}
 use mathlib.Core.List.{List, [], ◌++◌, flat_map}
-use Prim.Native.Nat.{ℕ, ◌+◌, ◌*◌, ◌<◌, ◌≤◌}
+use Prim.Native.Nat.{ℕ, ◌+◌, ◌-◌, ◌*◌, ◌<◌, ◌≤◌}
 use native.Mathlib.Omega.{arith}
 use lib.ListN.{length}
 use borrow.Author.Tests.{lt-ltb, le-ltb}
@@ -55,16 +55,16 @@ all_bytes end units rules log forms =
     field_bytes (tagged 0x10 (number_bytes 1 end))
     ++ (field_bytes (tagged 0x11 (number_bytes 4 units)) ++ (flat_map field_bytes rules ++ (flat_map field_bytes log ++ forms)))
 
--- `report`: room behind the end, the units, the rules and the log
-module _ {w w₁ : Writer} {x₁ : List ℕ} (front : w.at ≡ 0) (room : most_result ≤ length w.out.now) (p : Adds w w₁ 4 x₁) where
-  pub units_room : w₁.at + 7 + rule_width * most_rules + entry_width * most_entries + forms_width ≤ length w₁.out.now
-  units_room = omega (arith, writes_length (omega arith) p, p.puts.next)
+-- `report`: room behind the end and the units, which have eleven bytes, then behind the rules and the log
+module _ {w w₁ : Writer} {n : ℕ} {x₁ : List ℕ} (front : w.at ≡ 0) (room : most_result ≤ length w.out.now) (p : Adds w w₁ n x₁) where
+  pub units_room : n ≤ 11 → w₁.at + (11 - n) + rule_width * most_rules + entry_width * most_entries + forms_width ≤ length w₁.out.now
+  units_room few = omega (arith, writes_length (omega arith) p, p.puts.next)
 
-  module _ {w₂ : Writer} {x₂ : List ℕ} (q : Adds w₁ w₂ 7 x₂) where
+  module _ {w₂ : Writer} {m : ℕ} {x₂ : List ℕ} (q : Adds w₁ w₂ m x₂) (both : n + m ≤ 11) where
     pub rules_room : w₂.at + rule_width * most_rules + entry_width * most_entries + forms_width ≤ length w₂.out.now
-    rules_room = let r = units_room in omega (arith, writes_length (omega arith) q, q.puts.next)
+    rules_room = let r = units_room (omega arith) in omega (arith, writes_length (omega arith) q, q.puts.next)
 
-    module _ {w₃ : Writer} {x₃ : List ℕ} {live : ℕ} (live_few : live ≤ most_rules) (s : AddsSome rule_width w₂ w₃ live x₃) where
+    module _ {w₃ : Writer} {x₃ : List ℕ} {live : ℕ} (s : AddsSome rule_width w₂ w₃ live x₃) (live_few : live ≤ most_rules) where
       pub log_room : w₃.at + entry_width * most_entries + forms_width ≤ length w₃.out.now
       log_room = let r = rules_room in let n = s.puts.puts.next in omega (arith, s.puts.room, puts_length _ _ _ _ _ _ (omega (arith, s.puts.room)) s.puts.puts)
 
@@ -88,9 +88,9 @@ module _ {w w₁ w₂ w₃ w₄ w₅ : Writer} (front : w.at ≡ 0) (room : most
   wrote_all =
       let ys : List ℕ = field_bytes (tagged 0x10 (number_bytes 1 end))
       ++ (field_bytes (tagged 0x11 (number_bytes 4 units)) ++ (flat_map field_bytes rules ++ (flat_map field_bytes log ++ forms))) in
-      let r₁ = units_room front room p in
-      let r₂ = rules_room front room p q in
-      let r₃ = log_room front room p q live_few s in
+      let r₁ = units_room front room p (omega arith) in
+      let r₂ = rules_room front room p q (omega arith) in
+      let r₃ = log_room front room p q (omega arith) s live_few in
       let x₄ = puts_then _ _ _ _ _ forms _ _ _ _ (omega (arith, t.puts.puts.next, t.puts.room)) t.puts.puts u.puts.puts in
       let x₃ = puts_then _ _ _ _ _ _ _ _ _ _ (omega (arith, s.puts.puts.next, s.puts.room)) s.puts.puts x₄ in
       let x₂ = puts_then _ _ 7 _ _ _ _ _ _ _ (omega arith) q.puts x₃ in

@@ -8,25 +8,24 @@ use Rattle.report.proofs.Meaning.{reports}
 use Rattle.report.proofs.report.Goals as goal
 
 pub number_field-requires-2 : goal.number_field-requires-2
-number_field-requires-2 c = (omega (arith, units_room refl c.requires.most_result_in_bounds c.number_field.ensures), omega arith)
+number_field-requires-2 c = (omega (arith, units_room refl c.requires.most_result_in_bounds c.number_field.ensures (omega arith)), omega arith)
 
 pub put_rules-requires-clause-count_in_bounds : goal.put_rules-requires-clause-count_in_bounds
 put_rules-requires-clause-count_in_bounds c =
-    omega (arith, c.requires.fine.live_few, rules_room refl c.requires.most_result_in_bounds c.number_field.ensures c.number_field-2.ensures)
+    omega (arith, c.requires.fine.live_few, rules_room refl c.requires.most_result_in_bounds c.number_field.ensures c.number_field-2.ensures (omega arith))
 
 pub put_log-requires-clause-count_in_bounds : goal.put_log-requires-clause-count_in_bounds
 put_log-requires-clause-count_in_bounds c =
     let fine = c.requires.fine in
-    let room = log_room refl c.requires.most_result_in_bounds c.number_field.ensures c.number_field-2.ensures fine.live_few c.put_rules.ensures in
+    let room = log_room refl c.requires.most_result_in_bounds c.number_field.ensures c.number_field-2.ensures (omega arith) c.put_rules.ensures fine.live_few in
     omega (arith, fine.log_few, room)
 
 pub put_oldest-requires : goal.put_oldest-requires
 put_oldest-requires c =
     let fine = c.requires.fine in
-    let b = c.requires.most_result_in_bounds in (
-      forms_room refl b c.number_field.ensures c.number_field-2.ensures fine.live_few c.put_rules.ensures c.put_log.ensures (omega (arith, fine.log_few)),
-      fine.layout,
-    )
+    let b = c.requires.most_result_in_bounds in
+    let room = forms_room refl b c.number_field.ensures c.number_field-2.ensures (omega arith) c.put_rules.ensures fine.live_few c.put_log.ensures in
+    (room (omega (arith, fine.log_few)), fine.layout)
 
 pub returns : goal.returns
 returns c =
