@@ -58,9 +58,9 @@ fn origin_at(saved: &[u8], at: usize) -> [u8; ORIGIN]
 
 // Where a waiting equation's right side begins, and where its field ends.
 #[derive(Clone, Copy, Debug, PartialEq, Eq)]
-struct WaitingField {
-    middle: usize,
-    end: usize,
+pub struct WaitingField {
+    pub middle: usize,
+    pub end: usize,
 }
 
 // Field 21, a waiting equation; none if it is bad.

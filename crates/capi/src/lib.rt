@@ -51,7 +51,7 @@ pub extern "C" fn vb_compare(problem: &[u8]) -> u64
         Ok(Compared::RightAbove) => code(1, 0, 2),
         Ok(Compared::Identical) => code(1, 0, 3),
         Ok(Compared::Neither) => code(1, 0, 4),
-        Err(refusal) => refused(refusal),
+        Err(refusal) => code(0, u8::from(refusal.reason), refusal.place),
     }
 }
 

@@ -11,7 +11,7 @@ use lib.Dec.{eqb, ltb}
 use lib.ListN.{length, set, length-map}
 use borrow.Author.Tests.{ltb-true, ltb-false, lt-ltb, le-ltb}
 use Rattle.std.specs.Prelude.{if◌then◌else◌}
-use Rattle.naming.proofs.Filling.{Mapped, mapped_more}
+use Rattle.naming.proofs.Filling.{Mapped}
 use Rattle.terms.proofs.Shape.{Says, eqb_says}
 use Rattle.terms.proofs.Subst.{Subst}
 use Rattle.classes.specs.Arena.{Arena, NodesSpell, Joins, Classes}
@@ -35,12 +35,6 @@ relabelled_yes from to b e = ⊎_elim (λ h. sym h.1) (λ h. absurd (h.0 e)) (re
 
 pub relabelled_no : (from to b : ℕ) → (b ≡ from → ⊥) → b ≡ relabelled from to b
 relabelled_no from to b e = ⊎_elim (λ h. absurd (e h.0)) (λ h. sym h.1) (relabelled_cases from to b)
-
--- one entry relabelled
-pub relabel_turn : (from to : ℕ) (cs ds es : List ℕ) (i v : ℕ) → Mapped (relabelled from to) cs ds i → i < length cs →
-    v ≡ relabelled from to (at ds i) → es ≡ set ds i v → Mapped (relabelled from to) cs es (i + 1)
-relabel_turn from to cs ds es i v m h q e =
-    subst (λ z. Mapped (relabelled from to) cs z (i + 1)) (sym e) (mapped_more (relabelled from to) cs ds i v m h q)
 
 key_symbol : (l : List ℕ) (r : ℕ) → at l r < 128 → key l r ≡ r
 unfolding key

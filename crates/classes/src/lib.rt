@@ -75,10 +75,9 @@ fn key(nodes: &[u8], r: u16) -> usize
 fn relabel(class: &mut [u16], from: u16, to: u16)
     ensures { class.new ≡ map (relabelled from to) class.old }
 {
+    // Each entry is stored, whether it changes or not: so the loop can be done many entries at a time.
     for b in class.iter_mut() {
-        if *b == from {
-            *b = to;
-        }
+        *b = if *b == from { to } else { *b };
     }
 }
 

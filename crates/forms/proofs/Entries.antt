@@ -22,7 +22,7 @@ pub data Room (n : ℕ) (due : Due) (d : Result Due Ending) : Type 0 where
   none_left : most_entries ≤ n → d ≡ Err LogFull → Room n due d
   some_left : n < most_entries → d ≡ Ok due → Room n due d
 
-pub room : (n : ℕ) (due : Due) → Room n due (with_room n due)
+pub room : (n : ℕ) (due : Due) → Room n due (with_room n (Ok due))
 unfolding with_room
 room n due = go (leb most_entries n) refl
   where
@@ -31,18 +31,18 @@ room n due = go (leb most_entries n) refl
     go false e = some_left (leb-false most_entries n e) refl
 
 -- `with_room`
-pub no_room : (n : ℕ) (due : Due) → most_entries ≤ n → Err LogFull ≡ with_room n due
+pub no_room : (n : ℕ) (due : Result Due Ending) → most_entries ≤ n → Err LogFull ≡ with_room n due
 unfolding with_room
-no_room n due h = sym (ap (λ b. if b then Err LogFull else Ok due) (le-leb most_entries n h))
+no_room n due h = sym (ap (λ b. if b then Err LogFull else due) (le-leb most_entries n h))
 
-pub has_room : (n : ℕ) (due : Due) → n < most_entries → Ok due ≡ with_room n due
+pub has_room : (n : ℕ) (due : Result Due Ending) → n < most_entries → due ≡ with_room n due
 unfolding with_room
-has_room n due h = sym (ap (λ b. if b then Err LogFull else Ok due) (lt-leb most_entries n h))
+has_room n due h = sym (ap (λ b. if b then Err LogFull else due) (lt-leb most_entries n h))
 
 -- `due_after`
 module _ (f : Result Joined Ending) (w : Bool) (n : ℕ) where
   module _ {j : Joined} (e : f ≡ Ok j) where
-    pub due_equal : {r : Result Due Ending} → r ≡ with_room n Settle → j ≡ Equal → w ≡ true → r ≡ due_after f w n
+    pub due_equal : {r : Result Due Ending} → r ≡ with_room n (Ok Settle) → j ≡ Equal → w ≡ true → r ≡ due_after f w n
     unfolding due_after
     due_equal h q t = h ∙ sym (ap₂ (λ x y. due_after x y n) (e ∙ ap Ok q) t)
 
@@ -50,7 +50,7 @@ module _ (f : Result Joined Ending) (w : Bool) (n : ℕ) where
     unfolding due_after
     due_complete q t = sym (ap₂ (λ x y. due_after x y n) (e ∙ ap Ok q) t)
 
-    pub due_different : {r : Result Due Ending} → r ≡ with_room n Make → j ≡ Different → r ≡ due_after f w n
+    pub due_different : {r : Result Due Ending} → r ≡ with_room n (Ok Make) → j ≡ Different → r ≡ due_after f w n
     unfolding due_after
     due_different h q = h ∙ sym (ap (λ x. due_after x w n) (e ∙ ap Ok q))
 

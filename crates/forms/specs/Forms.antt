@@ -60,11 +60,11 @@ pub record OldestIs (tab pairs : List ℕ) (live units : ℕ) (t : Taken) : Type
       Walked tab t.pair (compared rs o e) units (walk_of t)
 
 -- `with_room`, `due_after`: steps 1 to 3, from what was found. "24 when a 513th log entry is due, at step 2 of the turn."
-unfoldable pub with_room : ℕ → Due → Result Due Ending
-with_room entries due = if leb most_entries entries then Err LogFull else Ok due
+unfoldable pub with_room : ℕ → Result Due Ending → Result Due Ending
+with_room entries due = if leb most_entries entries then Err LogFull else due
 
 unfoldable pub due_after : Result Joined Ending → Bool → ℕ → Result Due Ending
-due_after (Ok Equal) true entries = with_room entries Settle
+due_after (Ok Equal) true entries = with_room entries (Ok Settle)
 due_after (Ok Equal) false entries = Err Complete
-due_after (Ok Different) waits entries = with_room entries Make
+due_after (Ok Different) waits entries = with_room entries (Ok Make)
 due_after (Err e) waits entries = Err e

@@ -62,13 +62,13 @@ pub enum Due {
 }
 
 // Step 2: with 512 entries in the log there is no room for another.
-fn with_room(entries: usize, due: Due) -> Result<Due, End>
+fn with_room(entries: usize, due: Result<Due, End>) -> Result<Due, End>
     ensures { result ≡ with_room entries due }
 {
     if entries >= limits::ENTRIES {
         return Err(End::LogFull);
     }
-    Ok(due)
+    due
 }
 
 // Steps 1 to 3: what follows from what was found.
@@ -76,12 +76,12 @@ pub fn due_after(t: Taken, waits: bool, entries: usize) -> Result<Due, End>
     ensures { result ≡ due_after t.found waits entries }
 {
     match t.found? {
-        Joined::Different => with_room(entries, Due::Make),
+        Joined::Different => with_room(entries, Ok(Due::Make)),
         Joined::Equal => {
             if !waits {
                 return Err(End::Complete);
             }
-            with_room(entries, Due::Settle)
+            with_room(entries, Ok(Due::Settle))
         }
     }
 }

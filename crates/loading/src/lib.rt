@@ -124,9 +124,9 @@ impl From<BadField> for LoadError {
 
 // So many entries, and equations that were put back.
 #[derive(Clone, Copy)]
-struct Ended {
-    entries: usize,
-    back: usize,
+pub struct Ended {
+    pub entries: usize,
+    pub back: usize,
 }
 
 // The record behind its waiting equations: the log, with an entry for each rule made, and the count, with nothing behind it.
@@ -158,10 +158,10 @@ fn read_end(
 
 // So many live rules and pairs, and the place behind them.
 #[derive(Clone, Copy)]
-struct PairsFound {
-    live: usize,
-    count: usize,
-    end: usize,
+pub struct PairsFound {
+    pub live: usize,
+    pub count: usize,
+    pub end: usize,
 }
 
 // The rules and the waiting equations from a place on; the rules' numbers are below the next one, and their left sides above their right sides.

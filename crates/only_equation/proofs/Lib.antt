@@ -1,2 +1,1 @@
 pub mod Singles
-pub mod Over

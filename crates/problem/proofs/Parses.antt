@@ -6,10 +6,9 @@ use Prim.Native.Nat.{ℕ, zero, suc, ◌+◌, ◌-◌, ◌<◌, ◌≤◌}
 use native.Mathlib.Omega.{arith}
 use lib.ListN.{length, take, drop, length-append, length-drop, length-take, drop_of_length-le}
 use borrow.Author.Tests.{lt-ltb, le-ltb}
-use Rattle.limits.specs.Limits.{most_equations}
 use Rattle.problem.specs.Problem.{Reading, ok, refused, ◌>>=◌, refuse_if, due, Symbol, symbol_field, budget_field, Equation, equation_fields, Problem}
 use Rattle.problem.specs.Problem.{parse}
-use Rattle.problem.specs.Parser.{field_at, symbols_of, Table, SymbolsAt, FieldAt, IsParsed, begins_at, told, parsed_of}
+use Rattle.problem.specs.Parser.{field_at, symbols_of, Table, SymbolsAt, FieldAt, parse_rest, RestAt, IsParsed, begins_at, told, parsed_of}
 use Rattle.std.specs.Prelude.{Result, Ok, Err}
 use Rattle.problem.specs.Reasons.{number_of_reason}
 use Rattle.problem.specs.declared.Input.{Input}
@@ -73,32 +72,14 @@ module _ (tab l : List ℕ) (at : ℕ) where
     unfolding prepend
     fields_end h = (s.done ++ [], s.is ∙ rw (drop_of_length-le l h, none_behind (16 - count)) refl, ap length (append-nil s.done) ∙ s.number)
 
--- `parse` behind the symbol field, over given symbols
-unfoldable pub parse_rest : List Symbol → ℕ → List ℕ → Reading Problem
-parse_rest Σ at bytes = do
-  b ← due 0x02 at bytes
-  budget ← budget_field b
-  es ← equation_fields Σ most_equations b.end b.rest
-  ok (record { symbols = Σ; budget = budget; equations = es })
-
--- the rest of a problem from `at` on: its budget field, which ends at e, its budget, and n equations from e on
-pub record RestAt (tab l : List ℕ) (at b e n : ℕ) (P : Problem) : Type 0 where
-  pub is : parse_rest (symbols_of tab) at (drop at l) ≡ ok P
-  pub symbols_are : P.symbols ≡ symbols_of tab
-  pub budget_is : P.budget ≡ b
-  pub field : due 0x02 at (drop at l) ≡ ok (field_at 0x02 l at e)
-  pub within : e ≤ length l
-  pub equations_are : equation_fields (symbols_of tab) most_equations e (drop e l) ≡ ok P.equations
-  pub number : length P.equations ≡ n
-
--- What `parse` finds behind the symbol field.
+-- `parse_rest` returns
 module _ (tab l : List ℕ) (at : ℕ) where
-  rest_not_due : (n p : ℕ) → due 0x02 at (drop at l) ≡ refused n p → parse_rest (symbols_of tab) at (drop at l) ≡ refused n p
+  pub rest_not_due : (n p : ℕ) → due 0x02 at (drop at l) ≡ refused n p → parse_rest (symbols_of tab) at (drop at l) ≡ refused n p
   unfolding parse_rest
   rest_not_due n p h = bind_refused _ h
 
   module _ (e : ℕ) (d : DueTo 0x02 l at e) where
-    rest_budget_refused : (n p : ℕ) → budget_field (field_at 0x02 l at e) ≡ refused n p → parse_rest (symbols_of tab) at (drop at l) ≡ refused n p
+    pub rest_budget_refused : (n p : ℕ) → budget_field (field_at 0x02 l at e) ≡ refused n p → parse_rest (symbols_of tab) at (drop at l) ≡ refused n p
     unfolding parse_rest
     rest_budget_refused n p h = bind_ok _ d.0 ∙ bind_refused _ h
 
@@ -108,11 +89,11 @@ module _ (tab l : List ℕ) (at : ℕ) where
       unfolding parse_rest field_at
       behind = bind_ok _ d.0 ∙ bind_ok _ B
 
-      rest_equations_refused : (n p : ℕ) → equation_fields (symbols_of tab) 16 e (drop e l) ≡ refused n p →
+      pub rest_equations_refused : (n p : ℕ) → equation_fields (symbols_of tab) 16 e (drop e l) ≡ refused n p →
           parse_rest (symbols_of tab) at (drop at l) ≡ refused n p
       rest_equations_refused n p q = behind ∙ bind_refused _ q
 
-      rest_fine : (n : ℕ) → ((es : List Equation) × (equation_fields (symbols_of tab) 16 e (drop e l) ≡ ok es) × (length es ≡ n)) →
+      pub rest_fine : (n : ℕ) → ((es : List Equation) × (equation_fields (symbols_of tab) 16 e (drop e l) ≡ ok es) × (length es ≡ n)) →
           (P : Problem) × RestAt tab l at b e n P
       rest_fine n q = (
         record { symbols = symbols_of tab; budget = b; equations = q.0 },
@@ -173,9 +154,12 @@ module _ (l : List ℕ) where
       unfolding field_at
       parse_then = parse_is ∙ bind_ok _ S.field ∙ bind_ok _ S.read
 
-      parse_read : (b at n : ℕ) (P : Problem) → RestAt tab l e b at n P → Answer l (Ok (record { table_end = e; budget = b; equations = at; count = n }))
+      pub parse_rest_refused : (r : Refusal) → parse_rest (symbols_of tab) e (drop e l) ≡ refused (number_of_reason r.reason) r.place → Answer l (Err r)
+      parse_rest_refused r q = answer_bad r (parse_then ∙ q)
+
+      pub parse_fine : (b at n : ℕ) (P : Problem) → RestAt tab l e b at n P → Answer l (Ok (record { table_end = e; budget = b; equations = at; count = n }))
       unfolding parsed_of
-      parse_read b at n P R =
+      parse_fine b at n P R =
           let is : parse l ≡ ok P = parse_then ∙ R.is in
           let z : 3 + (length P.symbols + length P.symbols) ≡ e =
           ap (λ (Σ : List Symbol). 3 + (length Σ + length Σ)) R.symbols_are
@@ -196,19 +180,3 @@ module _ (l : List ℕ) where
               },
             ),
           )
-
-      pub parse_not_due : (r : Refusal) → due 0x02 e (drop e l) ≡ refused (number_of_reason r.reason) r.place → Answer l (Err r)
-      parse_not_due r q = answer_bad r (parse_then ∙ rest_not_due tab l e (number_of_reason r.reason) r.place q)
-
-      module _ (at : ℕ) (d : DueTo 0x02 l e at) where
-        pub parse_budget_refused : (r : Refusal) → budget_field (field_at 0x02 l e at) ≡ refused (number_of_reason r.reason) r.place → Answer l (Err r)
-        parse_budget_refused r q = answer_bad r (parse_then ∙ rest_budget_refused tab l e at d (number_of_reason r.reason) r.place q)
-
-        module _ (b : ℕ) (B : budget_field (field_at 0x02 l e at) ≡ ok b) where
-          pub parse_equations_refused : (r : Refusal) →
-              equation_fields (symbols_of tab) 16 at (drop at l) ≡ refused (number_of_reason r.reason) r.place → Answer l (Err r)
-          parse_equations_refused r q = answer_bad r (parse_then ∙ rest_equations_refused tab l e at d b B (number_of_reason r.reason) r.place q)
-
-          pub parse_fine : (n : ℕ) → ((es : List Equation) × (equation_fields (symbols_of tab) 16 at (drop at l) ≡ ok es) × (length es ≡ n)) →
-              Answer l (Ok (record { table_end = e; budget = b; equations = at; count = n }))
-          parse_fine n q = let w = rest_fine tab l e at d b B n q in parse_read b at n w.0 w.1

@@ -2,12 +2,13 @@
 -- Read first: Problem, reading/specs/Answers (field_at, symbols_of, Table).
 use Rattle.std.specs.Prelude.{◌≡◌, List, [], ◌∷◌, ℕ, ◌+◌, ◌-◌, ◌≤◌, length, take, drop}
 use Rattle.limits.specs.Limits.{field_head, most_equations, most_problem}
-use Rattle.problem.specs.Problem.{Reading, ok, refused, ◌>>=◌, due, symbol_field, budget_field, Equation, equation_field, equation_fields}
+use Rattle.problem.specs.Problem.{Reading, ok, refused, ◌>>=◌, due, Symbol, symbol_field, budget_field, Equation, equation_field, equation_fields}
 use Rattle.problem.specs.Problem.{Problem, parse}
 use Rattle.std.specs.Prelude.{Result, Ok, Err}
 use Rattle.problem.specs.Reasons.{number_of_reason}
 use Rattle.problem.specs.declared.Input.{Input}
 use Rattle.problem.specs.declared.Refusal.{Refusal}
+use Rattle.problem.specs.declared.Rest.{Rest}
 use Rattle.reading.specs.Answers.{DueTo}
 unfoldable pub use Rattle.reading.specs.Answers.{field_at, symbols_of}
 pub use Rattle.reading.specs.Answers.{Table}
@@ -48,6 +49,28 @@ IsEquation tab l at count (Err r) = equation_fields (symbols_of tab) (most_equat
 abbrev pub IsEquations : List ℕ → List ℕ → ℕ → Result ℕ Refusal → Type 0
 IsEquations tab l at (Ok n) = (es : List Equation) × (equation_fields (symbols_of tab) most_equations at (drop at l) ≡ ok es) × (length es ≡ n)
 IsEquations tab l at (Err r) = equation_fields (symbols_of tab) most_equations at (drop at l) ≡ refused (number_of_reason r.reason) r.place
+
+-- `parse` behind the symbol field, over given symbols
+unfoldable pub parse_rest : List Symbol → ℕ → List ℕ → Reading Problem
+parse_rest Σ at bytes = do
+  b ← due 0x02 at bytes
+  budget ← budget_field b
+  es ← equation_fields Σ most_equations b.end b.rest
+  ok (record { symbols = Σ; budget = budget; equations = es })
+
+-- the rest of a problem from `at` on: its budget field, which ends at e, its budget, and n equations from e on
+pub record RestAt (tab l : List ℕ) (at b e n : ℕ) (P : Problem) : Type 0 where
+  pub is : parse_rest (symbols_of tab) at (drop at l) ≡ ok P
+  pub symbols_are : P.symbols ≡ symbols_of tab
+  pub budget_is : P.budget ≡ b
+  pub field : due 0x02 at (drop at l) ≡ ok (field_at 0x02 l at e)
+  pub within : e ≤ length l
+  pub equations_are : equation_fields (symbols_of tab) most_equations e (drop e l) ≡ ok P.equations
+  pub number : length P.equations ≡ n
+
+abbrev pub IsRest : List ℕ → List ℕ → ℕ → Result Rest Refusal → Type 0
+IsRest tab l at (Ok x) = (P : Problem) × RestAt tab l at x.budget x.equations x.count P
+IsRest tab l at (Err r) = parse_rest (symbols_of tab) at (drop at l) ≡ refused (number_of_reason r.reason) r.place
 
 -- a problem that is read: its table ends at e, its budget is b, and n equations begin at `at`
 pub record ParsedAt (l : List ℕ) (e b at n : ℕ) (P : Problem) : Type 0 where

@@ -5,7 +5,7 @@ ghost use Rattle.std.specs.Prelude.{◌≡◌, ◌+◌, ◌<◌, ◌≤◌, leng
 ghost use Rattle.limits.specs.Limits.{field_head, most_problem, most_equations};
 ghost use Rattle.reading.specs.Answers.{Table};
 ghost use Rattle.problem.specs.Reasons.{number_of_reason, refusal_of_pair};
-ghost use Rattle.problem.specs.Parser.{IsDue, IsSymbols, IsBudget, IsEquation, IsEquations, IsParsed, told, parsed_of};
+ghost use Rattle.problem.specs.Parser.{IsDue, IsSymbols, IsBudget, IsEquation, IsEquations, IsRest, IsParsed, told, parsed_of};
 ghost use Rattle.problem.specs.Problem.{parse};
 
 use limits::FIELD_HEAD;
@@ -181,6 +181,30 @@ fn equations(problem: &[u8], table: &[u8], at: usize) -> Result<usize, Refusal>
     Ok(count)
 }
 
+// What follows the symbol field: `count` equation fields, the first at `equations`.
+#[derive(Clone, Copy, Debug, PartialEq, Eq)]
+pub struct Rest {
+    pub budget: usize,
+    pub equations: usize,
+    pub count: usize,
+}
+
+// What follows the symbol field, over a given table and from a given place: the budget field, then the equation fields.
+pub fn parse_rest(problem: &[u8], table: &[u8], at: usize) -> Result<Rest, Refusal>
+    requires table { Table table.now }
+    requires problem_len_bound { length problem.now ≤ most_problem }
+    ensures { IsRest table.now problem.now at result }
+{
+    let end = due(problem, at, BUDGET_TAG)?;
+    let budget = budget(problem, at, end)?;
+    let count = equations(problem, table, end)?;
+    Ok(Rest {
+        budget,
+        equations: end,
+        count,
+    })
+}
+
 // A problem: its table is the bytes from the symbol field's head to `table_end`; `count` equation fields start at `equations`.
 #[derive(Clone, Copy, Debug, PartialEq, Eq)]
 pub struct Input {
@@ -202,13 +226,11 @@ pub fn parse(problem: &[u8]) -> Result<Input, Refusal>
     }
     let table_end = symbols(problem)?;
     let table = &problem[FIELD_HEAD..table_end];
-    let budget_end = due(problem, table_end, BUDGET_TAG)?;
-    let budget = budget(problem, table_end, budget_end)?;
-    let count = equations(problem, table, budget_end)?;
+    let rest = parse_rest(problem, table, table_end)?;
     Ok(Input {
         table_end,
-        budget,
-        equations: budget_end,
-        count,
+        budget: rest.budget,
+        equations: rest.equations,
+        count: rest.count,
     })
 }

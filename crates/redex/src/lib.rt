@@ -31,8 +31,10 @@ pub fn find(system: &System, t: &[u16], binds: &mut [u8]) -> Option<usize>
     requires t_nonzero { (0 < length t.now) × (length t.now ≤ most_nodes) × (most_variables ≤ length binds.old) }
     ensures { FoundRule system.now.rules.now t.now system.now.count result binds.old binds.new }
 {
+    // Taken once, in front of the loop: it would be read again for each rule, since `binds` is written in between.
+    let rules = system.rules;
     for k in 0..system.count {
-        if fits(system.rules, k, t, binds) {
+        if fits(rules, k, t, binds) {
             return Some(k);
         }
     }

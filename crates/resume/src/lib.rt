@@ -12,14 +12,14 @@ ghost use Rattle.state.specs.Run.{Fine};
 ghost use Rattle.resume.specs.Resumes.{state_of, RunsRecord, IsTaken, resumed_told, Redelivers, ResumedFew};
 
 use limits::FIELD_HEAD;
-use loading::{Counts, LoadError, Loaded};
+use loading::{Counts, Front, LoadError, Loaded};
 use problem::{Reason, Refusal};
 use run::Ran;
 use slots::Pairs;
 use state::{Log, State};
 
 // The state that was saved, with so many units.
-fn state_of(
+pub fn state_of(
     next: usize,
     counts: Counts,
     bytes: [u8; slots::ROOM],
@@ -45,8 +45,19 @@ fn state_of(
     }
 }
 
+// Turns from a state, for the theory of a record whose front is this.
+pub fn go_on(kept: &[u8], front: Front, first: State) -> Ran
+    requires { (length kept.now ≤ most_saved) × SymbolsAt kept.now front.table × (front.equations ≤ most_equations) × Fine first }
+    ensures { RunsRecord kept.now front first result }
+{
+    let end = front.table;
+    let table = &kept[FIELD_HEAD..end];
+    let inputs = inputs::read(kept, table, end, front.equations);
+    run::run_from(first, inputs, table)
+}
+
 // Turns from the saved state for the theory of the record that was read, with so many units.
-pub fn go_on(
+pub fn go_on_saved(
     kept: &[u8],
     loaded: Loaded,
     pairs: [u8; slots::ROOM],
@@ -59,10 +70,7 @@ pub fn go_on(
 {
     let front = loaded.front;
     let first = state_of(front.next, loaded.counts, pairs, log, units);
-    let end = front.table;
-    let table = &kept[FIELD_HEAD..end];
-    let inputs = inputs::read(kept, table, end, front.equations);
-    run::run_from(first, inputs, table)
+    go_on(kept, front, first)
 }
 
 // A saved record, read for a new budget: 2, 16, then 17.
@@ -116,7 +124,7 @@ pub fn resume(kept: &[u8], budget: u64, res: &mut [u8]) -> Result<usize, Refusal
     let mut pairs = [0u8; slots::ROOM];
     let mut log = [0u8; state::LOG];
     let loaded = read_resumption(kept, budget, &mut pairs, &mut log)?;
-    let ran = go_on(kept, loaded, pairs, log, budget as u32);
+    let ran = go_on_saved(kept, loaded, pairs, log, budget as u32);
     let end = ran.end;
     Ok(report::report(ran.state, end, ran.paid, res))
 }

@@ -150,7 +150,7 @@ pub fn resume_saving(
     let mut pairs = [0u8; slots::ROOM];
     let mut log = [0u8; state::LOG];
     let loaded = resume::read_resumption(kept, budget, &mut pairs, &mut log)?;
-    let ran = resume::go_on(kept, loaded, pairs, log, budget as u32);
+    let ran = resume::go_on_saved(kept, loaded, pairs, log, budget as u32);
     let table_end = loaded.front.table;
     Ok(leave(
         ran,

@@ -194,5 +194,5 @@ module _ (tab t : List ℕ) (at i n : ℕ) (a : at ≤ i) (c : Counted tab (drop
   pub ends_zero : n ≡ 0 → i ≡ at + size x
   ends_zero z = omega (arith, (c.first_zero x b).1.0 z)
 
-  pub ends_over : i ≡ length t → length t ≡ at + size x
+  pub ends_over : length t ≤ i → i ≡ at + size x
   ends_over h = omega (arith, (c.first_zero x b).0, starts_fit tab (drop at t) x b, length-drop at t)

@@ -115,9 +115,12 @@ scan_done tab t i n e = rw e (sym (scan_none tab (drop i t) i))
 pub scan_ended : (tab t : List ℕ) (i n : ℕ) → i ≡ length t → n ≡ 0 → Ok (length t) ≡ scan tab (drop i t) i n
 scan_ended tab t i n e z = ap Ok (sym e) ∙ scan_done tab t i n z
 
-pub scan_short : (tab t : List ℕ) (i n : ℕ) → i ≡ length t → (n ≡ 0 → ⊥) → Err (record { place = length t }) ≡ scan tab (drop i t) i n
+pub scan_short : (tab t : List ℕ) (i n : ℕ) → length t ≤ i → (n ≡ 0 → ⊥) → Err (record { place = i }) ≡ scan tab (drop i t) i n
 unfolding scan
-scan_short tab t i zero e z = absurd (z refl)
-scan_short tab t i (suc n) e z =
+scan_short tab t i zero h z = absurd (z refl)
+scan_short tab t i (suc n) h z = rw (drop_of_length-le t h)
+
+pub scan_cut : (tab t : List ℕ) (i n : ℕ) → i ≡ length t → (n ≡ 0 → ⊥) → Err (record { place = length t }) ≡ scan tab (drop i t) i n
+scan_cut tab t i n e z =
     let h : length t ≤ i = omega arith in
-    ap (λ p. Err (record { place = p })) (sym e) ∙ rw (drop_of_length-le t h)
+    ap (λ p. Err (record { place = p })) (sym e) ∙ scan_short tab t i n h z

@@ -1,8 +1,9 @@
 -- `vb_compare`: the code of each answer is that of what `calls::compare` told. Assumes nothing.
 -- Read first: specs/Codes (answer_code), calls/specs/Answers (compared_told).
 use mathlib.Core.Path.{ap, ◌∙◌}
+use Prim.Native.Nat.{ℕ}
 use Rattle.calls.specs.Answers.{compared_told}
-use Rattle.capi.specs.Codes.{answer_code}
+use Rattle.capi.specs.Codes.{code, answer_code}
 use Rattle.capi.proofs.vb_compare.Goals as goal
 
 pub returns-in-Ok-LeftAbove : goal.returns-in-Ok-LeftAbove
@@ -23,4 +24,4 @@ returns-in-Ok-Neither c = c.code-in-Ok-Neither.ensures ∙ ap answer_code (rw c.
 
 pub returns-in-Err : goal.returns-in-Err
 unfolding compared_told answer_code
-returns-in-Err c = c.refused.ensures ∙ ap answer_code c.in-Err.ensures
+returns-in-Err c = c.code-in-Err.ensures ∙ ap (λ (n : ℕ). code 0 n c.in-Err.refusal.place) c.from.ensures ∙ ap answer_code c.in-Err.ensures

@@ -4,4 +4,4 @@ use Rattle.resume.proofs.Standing.{record_run}
 use Rattle.resume.proofs.go_on.Goals as goal
 
 pub returns : goal.returns
-returns c = record_run c.requires.front.1 c.read-inputs.ensures (rw c.state_of-first.ensures at c.run_from.ensures)
+returns c = record_run c.requires.1 c.read-inputs.ensures c.run_from.ensures

@@ -33,8 +33,8 @@ overflow_cast-budget c =
     let q = taken_needs c.in_ok-loaded.ensures in
     record { fits = omega (arith, q.budget_few) }
 
-pub go_on-ran-requires : goal.go_on-ran-requires
-go_on-ran-requires c =
+pub go_on_saved-ran-requires : goal.go_on_saved-ran-requires
+go_on_saved-ran-requires c =
     let q = taken_needs c.in_ok-loaded.ensures in
     record { front = (q.small, q.table, q.equations_few); first = (q.next_some, q.fine _) }
 
@@ -42,12 +42,12 @@ pub report-requires : goal.report-requires
 report-requires c =
     record {
       most_result_in_bounds = omega (arith, c.if-res-lt-BUFFER.false);
-      fine = c.go_on-ran.ensures.fine;
+      fine = c.go_on_saved-ran.ensures.fine;
     }
 
 pub returns : goal.returns
 returns c =
-    let a = answers_written _ _ _ c.if-res-lt-BUFFER.false c.in_ok-loaded.ensures c.go_on-ran.ensures c.report.ensures in
+    let a = answers_written _ _ _ c.if-res-lt-BUFFER.false c.in_ok-loaded.ensures c.go_on_saved-ran.ensures c.report.ensures in
     record {
       answer = a.answer;
       bytes = a.bytes;

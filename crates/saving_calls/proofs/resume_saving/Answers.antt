@@ -24,8 +24,8 @@ overflow_cast-budget c =
     let q = taken_needs c.in_ok-loaded.ensures in
     record { fits = omega (arith, q.budget_few) }
 
-pub go_on-ran-requires : goal.go_on-ran-requires
-go_on-ran-requires c =
+pub go_on_saved-ran-requires : goal.go_on_saved-ran-requires
+go_on_saved-ran-requires c =
     let q = taken_needs c.in_ok-loaded.ensures in
     record { front = (q.small, q.table, q.equations_few); first = (q.next_some, q.fine _) }
 
@@ -35,7 +35,7 @@ leave-requires c =
     let lent = room _ _ (sym c.short.ensures ∙ c.if-short.false) in
     let T = q.table in
     record {
-      most_result_in_bounds = (omega (arith, lent.0), omega (arith, lent.1), c.go_on-ran.ensures.fine);
+      most_result_in_bounds = (omega (arith, lent.0), omega (arith, lent.1), c.go_on_saved-ran.ensures.fine);
       field_head_le_table_end = (omega (arith, T.low), T.within, T.high, q.equations_few);
     }
 
@@ -53,7 +53,7 @@ returns-in_err-loaded c =
 
 pub returns : goal.returns
 returns c =
-    let a = resumes_written _ _ _ _ (sym c.short.ensures ∙ c.if-short.false) c.in_ok-loaded.ensures c.go_on-ran.ensures c.leave.ensures in
+    let a = resumes_written _ _ _ _ (sym c.short.ensures ∙ c.if-short.false) c.in_ok-loaded.ensures c.go_on_saved-ran.ensures c.leave.ensures in
     record {
       answer = a.answer;
       res = a.result;

@@ -1,6 +1,6 @@
 -- `terms::checked_end` meets its contract. Assumes nothing.
 -- Read first: specs/Owed, proofs/Scans, proofs/Owing.
-use Rattle.terms.proofs.Scans.{scan_turn, scan_bad, scan_done, scan_ended, scan_short}
+use Rattle.terms.proofs.Scans.{scan_turn, scan_bad, scan_done, scan_ended, scan_cut}
 use Rattle.terms.proofs.Owing.{from_start, from_turn, tested_start, tested_turn}
 use native.Mathlib.Omega.{arith}
 use lib.ListN.{length}
@@ -42,4 +42,4 @@ returns-then-owed-eq0-2 c =
 pub returns-else-owed-eq0-2 : goal.returns-else-owed-eq0-2
 returns-else-owed-eq0-2 c =
     let end : c.loop-i.i ≡ length c.args.t.now = omega arith in
-    scan_short _ _ _ _ end c.if-owed-eq0-2.false ∙ c.loop-i.invariant.5
+    scan_cut _ _ _ _ end c.if-owed-eq0-2.false ∙ c.loop-i.invariant.5

@@ -40,6 +40,6 @@ returns c =
     let over : c.loop-i.i ≡ length c.args.t.now = omega arith in
     record {
       bytes = sym (skip_ended _ _ _ _ over) ∙ inv.4;
-      term = λ x b. ends_over _ _ _ _ _ inv.1 inv.0 x b over;
+      term = λ x b. sym over ∙ ends_over _ _ _ _ _ inv.1 inv.0 x b (omega (arith, over));
       within = search rules;
     }
